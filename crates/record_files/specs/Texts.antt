@@ -1,0 +1,15 @@
+-- Rows of a text.
+use Rattle.std.specs.Prelude.{ℕ, List, [], ◌∷◌, ◌++◌, decimal}
+use Rattle.record_files.specs.declared.row_texts.Field.{Field}
+use Rattle.record_files.specs.declared.row_texts.Field.TheVariants.{Number, Text}
+
+-- what a field prints
+abbrev pub text_of : Field → List ℕ
+text_of (Number n) = decimal n
+text_of (Text bytes) = bytes.now
+
+-- fields with commas between them, and an LF
+abbrev pub row_text : List (List ℕ) → List ℕ
+row_text [] = 10 ∷ []
+row_text (field ∷ []) = field ++ 10 ∷ []
+row_text (field ∷ next ∷ fields) = field ++ 44 ∷ row_text (next ∷ fields)
