@@ -1,5 +1,6 @@
 -- Rows of a text.
 use Rattle.std.specs.Prelude.{ℕ, List, [], ◌∷◌, ◌++◌, decimal}
+use Rattle.std.specs.List.{join_with_byte}
 use Rattle.record_files.specs.declared.row_texts.Field.{Field}
 use Rattle.record_files.specs.declared.row_texts.Field.TheVariants.{Number, Text}
 
@@ -10,6 +11,4 @@ text_of (Text bytes) = bytes.now
 
 -- fields with commas between them, and an LF
 abbrev pub row_text : List (List ℕ) → List ℕ
-row_text [] = 10 ∷ []
-row_text (field ∷ []) = field ++ 10 ∷ []
-row_text (field ∷ next ∷ fields) = field ++ 44 ∷ row_text (next ∷ fields)
+row_text fields = join_with_byte 44 fields ++ 10 ∷ []
