@@ -1,5 +1,6 @@
 -- Reading digits one after the other.
-use Rattle.std.proofs.Common.{◌≡◌, ℕ, suc, ◌+◌, ◌-◌, ◌*◌, ◌<◌, ◌≤◌, min, List, [], ◌∷◌, length, drop, get_or, refl, ap, ◌∙◌, arith, add-one, true}
+use Rattle.std.proofs.Common.{◌≡◌, ℕ, suc, ◌+◌, ◌-◌, ◌*◌, ◌<◌, ◌≤◌, min, List, [], ◌∷◌, length, drop, get_or, refl, ap, ◌∙◌, ◌^◌, arith, add-one, true}
+use Rattle.std.proofs.Math.Nat.{pow-suc, pow-le-pow_right}
 use Rattle.std.proofs.Math.Seq.{drop-cons}
 use Rattle.std.proofs.lemmas.Bool.Decides.{nat_tests}
 use Rattle.record_files.specs.Numbers.{is_digit, all_digits, value_after}
@@ -23,3 +24,11 @@ capped (b ∷ xs) v w m h = let step : min (10 * v + (b - 48)) m ≡ min (10 * w
 -- what the two tests of the code say
 pub is_digit-between : (b : ℕ) → 48 ≤ b → b ≤ 57 → is_digit b ≡ true
 is_digit-between b low high = grind (arith, nat_tests)
+
+-- a number of few digits stays small with one digit more
+pub digits-fit : (i v d : ℕ) → v < 10 ^ i → d ≤ 9 → 10 * v + d < 10 ^ (i + 1)
+digits-fit i v d small digit = let step : 10 ^ (i + 1) ≡ 10 ^ i * 10 = rw add-one (pow-suc 10 i) in omega arith
+
+-- 19 digits are below 10^19
+pub short-fits : (i : ℕ) → i ≤ 19 → 10 ^ i ≤ 10 ^ 19
+short-fits i le = pow-le-pow_right {n = 10} (omega arith) {i = i} {j = 19} le

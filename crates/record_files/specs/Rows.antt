@@ -1,5 +1,5 @@
 -- Rows of a file.
-use Rattle.std.specs.Prelude.{ℕ, ◌+◌, List, [], ◌∷◌, Bool, ◌==◌, if◌then◌else◌, ◌-◌, length, take, drop, slice_index, slice_range, slice_get, Some, unwrap_or, true, false, nat_eq, ◌≡◌, ◌⊎◌}
+use Rattle.std.specs.Prelude.{ℕ, ◌+◌, List, [], ◌∷◌, Bool, ◌==◌, if◌then◌else◌, ◌-◌, length, take, drop, slice_index, slice_range, slice_get, unwrap_or, true, false, nat_eq}
 use Rattle.std.specs.List.{starts_with}
 use Rattle.record_files.specs.declared.rows.RowPart.{RowPart}
 
@@ -61,7 +61,3 @@ part_bytes bytes part =
 -- the rows of a part of a file, counted from its line
 abbrev pub part_rows : List ℕ → RowPart → List Row
 part_rows bytes part = numbered part.line (split 10 (part_bytes bytes part))
-
--- a part starts where a line starts
-abbrev pub StartsLine : List ℕ → ℕ → Type 0
-StartsLine bytes start = (start ≡ 0) ⊎ (slice_get bytes (start - 1) ≡ Some 10)

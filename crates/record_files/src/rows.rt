@@ -1,7 +1,8 @@
 ghost use Rattle.std.specs.Prelude.{◌≡◌, ℕ, ◌^◌, ◌≤◌, ◌<◌, ◌∷◌, ◌+◌, [], length, take, drop, slice_get, slice_index, Some, MatchOption};
 ghost use Rattle.record_files.specs.Cuts.{IsCutAt};
-ghost use Rattle.record_files.specs.Rows.{rows, part_rows, StartsLine, split, without_cr, without_mark, fields_of, field_at};
+ghost use Rattle.record_files.specs.Rows.{rows, part_rows, split, without_cr, without_mark, fields_of, field_at};
 
+use memchr::memchr;
 use std::marker::Model;
 
 /// A stretch of a file, from a byte up to another, that starts at a line with this number.
@@ -174,12 +175,12 @@ impl<'a> Records<'a> {
         }
     }
 
-    /// The rows of a part of a file, which starts where a line starts.
+    /// The rows of a part of a file, counted from the part's line. Those of parts that start at 0 or
+    /// just behind an LF are rows of the file.
     pub fn of_part(bytes: &'a [u8], part: RowPart) -> Records<'a>
         requires size { length bytes.now ≤ 2 ^ 30 }
         requires stretch { (part.start ≤ part.end) × (part.end ≤ length bytes.now) }
         requires line { part.line ≤ 2 ^ 30 + 1 }
-        requires starts { StartsLine bytes.now part.start }
         ensures { result ≡ part_rows bytes.entry.now part }
     {
         let stretch = &bytes[part.start as usize..part.end as usize];
@@ -200,7 +201,7 @@ impl<'a> Records<'a> {
     {
         'lines: while !self.done {
             let line = self.line;
-            let end = find_byte(b'\n', self.rest);
+            let end = line_end(self.rest);
             let text = past_cr(&self.rest[..end]);
             if end < self.rest.len() {
                 self.rest = &self.rest[end + 1..];
@@ -232,6 +233,21 @@ fn find_byte(sought: u8, bytes: &[u8]) -> usize
         }
     }
     bytes.len()
+}
+
+// Where the line ends: at the first LF, or at the end of the bytes.
+fn line_end(bytes: &[u8]) -> usize
+    ensures bound { result ≤ length bytes.now }
+    ensures cut {
+        result < length bytes.now
+            → split 10 bytes.now ≡ take result bytes.now ∷ split 10 (drop (result + 1) bytes.now)
+    }
+    ensures whole { result ≡ length bytes.now → split 10 bytes.now ≡ bytes.now ∷ [] }
+{
+    match memchr(b'\n', bytes) {
+        Some(at) => at,
+        None => bytes.len(),
+    }
 }
 
 // Without one CR at the end.

@@ -1,6 +1,6 @@
 use Rattle.std.proofs.Common.{◌≡◌, ◌^◌, ◌≤◌, min, drop}
 use Rattle.record_files.specs.Numbers.{all_digits, value_after, value}
-use Rattle.record_files.proofs.fields.digits.Given as goal
+use Rattle.record_files.proofs.fields.long_value.Given as goal
 
 -- what is left decides whether all are digits, and adds to the sum
 abbrev pub invariant-loop-byte : goal.invariant-loop-byte

@@ -1,7 +1,7 @@
 use Rattle.std.proofs.Common.{◌≡◌, ◌+◌, ◌-◌, ◌*◌, ◌^◌, min, ap, ◌∙◌, arith, drop, get_or, true}
 use Rattle.record_files.specs.Numbers.{is_digit}
 use Rattle.record_files.proofs.Digits.{digits-next, value-next, capped, is_digit-between}
-use Rattle.record_files.proofs.fields.digits.Goals as goal
+use Rattle.record_files.proofs.fields.long_value.Goals as goal
 
 pub loop-byte-preserved : goal.loop-byte-preserved
 loop-byte-preserved c =
