@@ -2,7 +2,7 @@
 -- rest of the text, are the fields of the text.
 use Rattle.std.proofs.Common.{◌≡◌, ℕ, zero, suc, ◌+◌, ◌-◌, ◌<◌, ◌≤◌, List, [], ◌∷◌, length, take, drop, refl, sym, ap, ◌∙◌, arith, add-one, Some, ⊎_elim, subst, length-drop, take_all, add-zero, zero-add}
 use Rattle.std.proofs.lemmas.List.{drop-drop}
-use Rattle.std.specs.Prelude.{slice_get, slice_index, slice_range}
+use Rattle.std.specs.Prelude.{slice_get, slice_index}
 use Rattle.std.proofs.lemmas.Bool.{cases_lt}
 use Rattle.record_files.specs.Cuts.{IsFieldAt, IsCutAt, start_of}
 use Rattle.record_files.specs.Rows.{split}
@@ -52,14 +52,14 @@ module _ (text old new : List ℕ) (count start p : ℕ) (c : CutTo text old cou
       → (k : ℕ) → k < count + 1 → k < 4 → IsFieldAt text k (start_of new k) (slice_index new k)
   fields-next le e k lt four = ⊎_elim
       (λ (below : k < count).
-          let s = start_of-same old new count (start + p) k a (omega arith) in
-          rw (s, a.before k below) (c.fields k below four))
+      let s = start_of-same old new count (start + p) k a (omega arith) in
+      rw (s, a.before k below) (c.fields k below four))
       (λ (above : count ≤ k).
-          let same : count ≡ k = omega arith in
-          let few : count < 4 = omega arith in
-          let s : start_of new count ≡ start = start_of-same old new count (start + p) count a (omega arith) ∙ c.begins (omega arith) in
-          subst (λ n. IsFieldAt text n (start_of new n) (slice_index new n)) same
-              (rw (s, a.here few) (field-here le e)))
+      let same : count ≡ k = omega arith in
+      let few : count < 4 = omega arith in
+      let s : start_of new count ≡ start = start_of-same old new count (start + p) count a (omega arith) ∙ c.begins (omega arith) in
+      subst (λ n. IsFieldAt text n (start_of new n) (slice_index new n)) same
+      (rw (s, a.here few) (field-here le e)))
       (cases_lt k count)
 
   -- at a comma the rest starts behind it
@@ -68,9 +68,9 @@ module _ (text old new : List ℕ) (count start p : ℕ) (c : CutTo text old cou
   CutTo-next lt e =
       let size = length-drop start text in
       let behind : drop (p + 1) (drop start text) ≡ drop (start + p + 1) text =
-          drop-drop (p + 1) start text ∙ (let n : start + (p + 1) ≡ start + p + 1 = omega arith in ap (λ m. drop m text) n) in
+      drop-drop (p + 1) start text ∙ (let n : start + (p + 1) ≡ start + p + 1 = omega arith in ap (λ m. drop m text) n) in
       let whole : split 44 (drop start text) ≡ take p (drop start text) ∷ split 44 (drop (start + p + 1) text) =
-          e ∙ ap (λ bs. take p (drop start text) ∷ split 44 bs) behind in
+      e ∙ ap (λ bs. take p (drop start text) ∷ split 44 bs) behind in
       let longer : length (split 44 (drop start text)) ≡ suc (length (split 44 (drop (start + p + 1) text))) = ap length whole in
       record {
         inside = omega arith;
@@ -87,7 +87,7 @@ module _ (text old new : List ℕ) (count start p : ℕ) (c : CutTo text old cou
   IsCutAt-end all e =
       let one : length (split 44 (drop start text)) ≡ 1 = ap length e in
       let here : slice_get (split 44 (drop start text)) 0 ≡ Some (take p (drop start text)) =
-          ap (λ pieces. slice_get pieces 0) e ∙ ap (λ x. Some x) (sym (take_all p (drop start text) (omega arith))) in
+      ap (λ pieces. slice_get pieces 0) e ∙ ap (λ x. Some x) (sym (take_all p (drop start text) (omega arith))) in
       record {
         total = omega (arith, c.total);
         fields = fields-next (omega arith) here;

@@ -47,11 +47,11 @@ unfolding least_fault
 least_fault-found fault n zero f lt before here = absurd (omega arith)
 least_fault-found fault n (suc m) f lt before here =
     ⊎_elim
-        (λ (below : n < m). first_of-some _ _ f (least_fault-found fault n m f below before here))
-        (λ (above : m ≤ n). let same : n ≡ m = omega arith in
-            let none : least_fault fault m ≡ None = subst (λ k. least_fault fault k ≡ None) same before in
-            rw none (subst (λ k. fault k ≡ Some f) same here))
-        (cases_lt n m)
+    (λ (below : n < m). first_of-some _ _ f (least_fault-found fault n m f below before here))
+    (λ (above : m ≤ n). let same : n ≡ m = omega arith in
+    let none : least_fault fault m ≡ None = subst (λ k. least_fault fault k ≡ None) same before in
+    rw none (subst (λ k. fault k ≡ Some f) same here))
+    (cases_lt n m)
 
 module _ (form : Form) (reading : Row → Option FileFault) (meaning : List Row → Row → Option FileFault) (bytes : List ℕ) where
   -- behind the header nothing has been read
@@ -64,7 +64,7 @@ module _ (form : Form) (reading : Row → Option FileFault) (meaning : List Row 
   row_fault-at k row left h =
       ap (option_and_then (fault_behind form reading meaning (take k (data_rows bytes)))) h.head
       ∙ ap (λ n. first_of (shape_fault form n row) (first_of (reading row) (meaning (take k (data_rows bytes)) row)))
-          (length-take-le k (data_rows bytes) (omega arith))
+      (length-take-le k (data_rows bytes) (omega arith))
 
   -- a row without a fault is passed
   pub IsReadTo-next : (k : ℕ) (row : Row) (left : List Row) → IsReadTo form reading meaning bytes k (row ∷ left)

@@ -1,5 +1,5 @@
 -- The first fault of a file, apart from any order of reading.
-use Rattle.std.specs.Prelude.{ℕ, zero, suc, ◌+◌, List, [], ◌∷◌, Bool, ◌==◌, not, nat_lt, nat_le, bytes_eq, length, take, drop, find, slice_get, if◌then◌else◌, Option, Some, None, option_map, option_and_then, Result, Ok, Err, ◌≡◌, ⊤}
+use Rattle.std.specs.Prelude.{ℕ, zero, suc, List, [], ◌∷◌, Bool, ◌==◌, not, nat_lt, nat_le, bytes_eq, length, take, drop, find, slice_get, if◌then◌else◌, Option, Some, None, option_map, option_and_then, Result, Ok, Err, ◌≡◌, ⊤}
 use Rattle.place_base.specs.declared.fault.FaultKind.{FaultKind}
 use Rattle.place_base.specs.declared.fault.FaultKind.TheVariants.{Header, FieldCount, Duplicate, TooManyRows, LineTooLong}
 use Rattle.place_base.specs.declared.fault.FileFault.{FileFault}
@@ -46,7 +46,7 @@ long_fault form row = fault_if (nat_lt 1024 (length row.1)) (fault_at form.file 
 abbrev pub header_fault : Form → Row → Option FileFault
 header_fault form row =
     first_of (long_fault form row)
-        (fault_if (not (bytes_eq row.1 form.header)) (fault_at form.file row.0 0 Header))
+    (fault_if (not (bytes_eq row.1 form.header)) (fault_at form.file row.0 0 Header))
 
 -- the fault of the first row of a file, or that of a file without rows
 abbrev pub first_row_fault : Form → List Row → Option FileFault
@@ -58,7 +58,7 @@ abbrev pub shape_fault : Form → ℕ → Row → Option FileFault
 shape_fault form index row =
     first_of (long_fault form row)
     (first_of (fault_if (nat_le form.most_rows index) (fault_at form.file row.0 0 TooManyRows))
-        (fault_if (not (length (fields_of row) == form.fields)) (fault_at form.file row.0 0 FieldCount)))
+    (fault_if (not (length (fields_of row) == form.fields)) (fault_at form.file row.0 0 FieldCount)))
 
 -- the fault of a data row behind the earlier ones: its shape, then its fields by themselves, then
 -- what it means beside the earlier rows and the other files
@@ -84,7 +84,7 @@ data_rows bytes = drop 1 (rows bytes)
 abbrev pub first_fault : Form → (Row → Option FileFault) → (List Row → Row → Option FileFault) → List ℕ → Option FileFault
 first_fault form reading meaning bytes =
     first_of (first_row_fault form (rows bytes))
-        (least_fault (row_fault form reading meaning (data_rows bytes)) (length (data_rows bytes)))
+    (least_fault (row_fault form reading meaning (data_rows bytes)) (length (data_rows bytes)))
 
 -- what reading a table comes to: the table where there is no fault, else the fault; want of memory
 -- says nothing

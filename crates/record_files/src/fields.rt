@@ -31,10 +31,8 @@ pub fn number(field: &[u8], low: u64, high: u64) -> Result<u64, FaultKind>
 
 // The value of digits, or 2^64 where it is larger; `None` where a byte is no digit.
 fn capped_value(field: &[u8]) -> Option<u128>
-    ensures {
-        MatchOption result (all_digits field.now ≡ false)
-            (λ v. (all_digits field.now ≡ true) × (v ≡ min (value field.now) (2 ^ 64)))
-    }
+    ensures { MatchOption result (all_digits field.now ≡ false)
+        (λ v. (all_digits field.now ≡ true) × (v ≡ min (value field.now) (2 ^ 64))) }
 {
     if field.len() > SHORT {
         return long_value(field);
@@ -48,10 +46,8 @@ fn capped_value(field: &[u8]) -> Option<u128>
 // The value of a few digits; `None` where a byte is no digit.
 fn short_value(field: &[u8]) -> Option<u64>
     requires { length field.now ≤ SHORT }
-    ensures {
-        MatchOption result (all_digits field.now ≡ false)
-            (λ v. (all_digits field.now ≡ true) × (v ≡ value field.now))
-    }
+    ensures { MatchOption result (all_digits field.now ≡ false)
+        (λ v. (all_digits field.now ≡ true) × (v ≡ value field.now)) }
 {
     let mut sum = 0u64;
     for byte in field {
@@ -66,10 +62,8 @@ fn short_value(field: &[u8]) -> Option<u64>
 
 // As `capped_value`, for words of any length.
 fn long_value(field: &[u8]) -> Option<u128>
-    ensures {
-        MatchOption result (all_digits field.now ≡ false)
-            (λ v. (all_digits field.now ≡ true) × (v ≡ min (value field.now) (2 ^ 64)))
-    }
+    ensures { MatchOption result (all_digits field.now ≡ false)
+        (λ v. (all_digits field.now ≡ true) × (v ≡ min (value field.now) (2 ^ 64))) }
 {
     let mut sum = 0u128;
     for byte in field {

@@ -19,14 +19,12 @@ impl Model for FileForm {
 
     ghost Value = { Form };
 
-    ghost view = {
-        λ form. record {
-            file = form.file;
-            header = form.header.now;
-            fields = form.fields;
-            most_rows = form.most_rows
-        }
-    };
+    ghost view = { λ form. record {
+      file = form.file;
+      header = form.header.now;
+      fields = form.fields;
+      most_rows = form.most_rows;
+    } };
 }
 
 /// The longest line, without its end.
@@ -35,9 +33,7 @@ const LONGEST_LINE: usize = 1024;
 impl FileForm {
     /// The form of a file.
     pub fn new(file: FileKind, header: &'static [u8], fields: u32, most_rows: u32) -> FileForm
-        ensures {
-            result ≡ record { file = file; header = header.entry.now; fields = fields; most_rows = most_rows }
-        }
+        ensures { result ≡ record { file = file; header = header.entry.now; fields = fields; most_rows = most_rows } }
     {
         FileForm {
             file,

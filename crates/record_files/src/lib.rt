@@ -13,8 +13,11 @@ mod rows;
 // Why a table could not be read.
 mod table_stop;
 
-pub use form::FileForm;
 pub use fields::{number, type_name};
+pub use form::FileForm;
 pub use row_texts::{Field, put_row_1, put_row_2, put_row_3, put_row_4};
 pub use rows::{RecordRow, Records, RowPart};
 pub use table_stop::TableStop;
+
+#[cfg(test)]
+mod tests;

@@ -27,9 +27,7 @@ pub fn put_row_1(out: &mut Vec<u8>, a: Field<'_>) -> Result<(), AllocError>
 
 /// Appends a row of two fields. Where memory is refused the vector stays as it was.
 pub fn put_row_2(out: &mut Vec<u8>, a: Field<'_>, b: Field<'_>) -> Result<(), AllocError>
-    ensures row {
-        OnOk result (out.new.items ≡ out.old.items ++ row_text (text_of a.entry ∷ text_of b.entry ∷ []))
-    }
+    ensures row { OnOk result (out.new.items ≡ out.old.items ++ row_text (text_of a.entry ∷ text_of b.entry ∷ [])) }
     ensures same { OnErr result (out.new.items ≡ out.old.items) }
 {
     let (mut buffer_a, mut buffer_b) = (Buffer::new(), Buffer::new());
@@ -48,10 +46,8 @@ pub fn put_row_3(
     b: Field<'_>,
     c: Field<'_>,
 ) -> Result<(), AllocError>
-    ensures row {
-        OnOk result (out.new.items ≡ out.old.items
-            ++ row_text (text_of a.entry ∷ text_of b.entry ∷ text_of c.entry ∷ []))
-    }
+    ensures row { OnOk result (out.new.items ≡ out.old.items
+        ++ row_text (text_of a.entry ∷ text_of b.entry ∷ text_of c.entry ∷ [])) }
     ensures same { OnErr result (out.new.items ≡ out.old.items) }
 {
     let (mut buffer_a, mut buffer_b, mut buffer_c) = (Buffer::new(), Buffer::new(), Buffer::new());
@@ -74,10 +70,8 @@ pub fn put_row_4(
     c: Field<'_>,
     d: Field<'_>,
 ) -> Result<(), AllocError>
-    ensures row {
-        OnOk result (out.new.items ≡ out.old.items
-            ++ row_text (text_of a.entry ∷ text_of b.entry ∷ text_of c.entry ∷ text_of d.entry ∷ []))
-    }
+    ensures row { OnOk result (out.new.items ≡ out.old.items
+        ++ row_text (text_of a.entry ∷ text_of b.entry ∷ text_of c.entry ∷ text_of d.entry ∷ [])) }
     ensures same { OnErr result (out.new.items ≡ out.old.items) }
 {
     let (mut buffer_a, mut buffer_b) = (Buffer::new(), Buffer::new());

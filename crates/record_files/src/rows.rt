@@ -30,9 +30,7 @@ impl<'a> Model for RecordRow<'a> {
 
     ghost view = { λ row. (row.line, row.bytes.now) };
 
-    ghost invariant = {
-        λ row. (length row.bytes.now ≤ 2 ^ 30) × IsCutAt row.bytes.now row.cuts.ends row.cuts.count
-    };
+    ghost invariant = { λ row. (length row.bytes.now ≤ 2 ^ 30) × IsCutAt row.bytes.now row.cuts.ends row.cuts.count };
 }
 
 impl<'a> RecordRow<'a> {
@@ -98,9 +96,7 @@ impl Cuts {
         requires { self.old.count < 2 ^ 31 }
         ensures count { self.new.count ≡ self.old.count + 1 }
         ensures here { self.old.count < 4 → slice_index self.new.ends self.old.count ≡ end }
-        ensures before {
-            (k : ℕ) → k < self.old.count → slice_index self.new.ends k ≡ slice_index self.old.ends k
-        }
+        ensures before { (k : ℕ) → k < self.old.count → slice_index self.new.ends k ≡ slice_index self.old.ends k }
     {
         if self.count < 4 {
             self.ends[self.count as usize] = end;
@@ -184,7 +180,11 @@ impl<'a> Records<'a> {
         ensures { result ≡ part_rows bytes.entry.now part }
     {
         let stretch = &bytes[part.start as usize..part.end as usize];
-        let rest = if part.start == 0 { past_mark(stretch) } else { stretch };
+        let rest = if part.start == 0 {
+            past_mark(stretch)
+        } else {
+            stretch
+        };
         Records {
             rest,
             line: part.line,
@@ -194,10 +194,8 @@ impl<'a> Records<'a> {
 
     /// The next row, or `None` where all were given.
     pub fn next(&mut self) -> Option<RecordRow<'a>>
-        ensures {
-            MatchOption result ((self.old ≡ []) × (self.new ≡ []))
-                (λ row. self.old ≡ row ∷ self.new)
-        }
+        ensures { MatchOption result ((self.old ≡ []) × (self.new ≡ []))
+            (λ row. self.old ≡ row ∷ self.new) }
     {
         'lines: while !self.done {
             let line = self.line;
@@ -221,10 +219,8 @@ impl<'a> Records<'a> {
 // Where the byte stands first, or the length where it does not.
 fn find_byte(sought: u8, bytes: &[u8]) -> usize
     ensures bound { result ≤ length bytes.now }
-    ensures cut {
-        result < length bytes.now
-            → split sought bytes.now ≡ take result bytes.now ∷ split sought (drop (result + 1) bytes.now)
-    }
+    ensures cut { result < length bytes.now
+        → split sought bytes.now ≡ take result bytes.now ∷ split sought (drop (result + 1) bytes.now) }
     ensures whole { result ≡ length bytes.now → split sought bytes.now ≡ bytes.now ∷ [] }
 {
     for (index, byte) in bytes.iter().enumerate() {
@@ -238,10 +234,8 @@ fn find_byte(sought: u8, bytes: &[u8]) -> usize
 // Where the line ends: at the first LF, or at the end of the bytes.
 fn line_end(bytes: &[u8]) -> usize
     ensures bound { result ≤ length bytes.now }
-    ensures cut {
-        result < length bytes.now
-            → split 10 bytes.now ≡ take result bytes.now ∷ split 10 (drop (result + 1) bytes.now)
-    }
+    ensures cut { result < length bytes.now
+        → split 10 bytes.now ≡ take result bytes.now ∷ split 10 (drop (result + 1) bytes.now) }
     ensures whole { result ≡ length bytes.now → split 10 bytes.now ≡ bytes.now ∷ [] }
 {
     match memchr(b'\n', bytes) {

@@ -1,4 +1,4 @@
-use Rattle.std.proofs.Common.{◌≡◌, ◌+◌, ◌-◌, ◌*◌, ◌^◌, ◌<◌, ◌≤◌, ◌∙◌, sym, ap, arith, drop, get_or, true}
+use Rattle.std.proofs.Common.{◌≡◌, ◌+◌, ◌*◌, ◌^◌, ◌<◌, ◌≤◌, ◌∙◌, sym, ap, arith, drop, get_or, true}
 use Rattle.record_files.specs.Numbers.{is_digit, value_after}
 use Rattle.record_files.proofs.Digits.{digits-next, value-next, is_digit-between, digits-fit, short-fits}
 use Rattle.record_files.proofs.fields.short_value.Goals as goal
