@@ -1,9 +1,9 @@
 -- Lists that lie one after another in one list.
-use Rattle.std.proofs.Common.{◌≡◌, ℕ, zero, suc, ◌+◌, ◌-◌, ◌<◌, ◌≤◌, Bool, true, false, List, [], ◌∷◌, ◌++◌, length, refl, sym, ap, ◌∙◌, subst, arith, get_or, map, take, drop, ⊎_elim}
+use Rattle.std.proofs.Common.{◌≡◌, ℕ, ◌+◌, ◌-◌, ◌<◌, ◌≤◌, List, [], ◌∷◌, ◌++◌, length, sym, ap, ◌∙◌, subst, arith, get_or, map, take, drop, ⊎_elim}
 use Rattle.std.specs.Prelude.{slice_index, slice_index_or}
 use Rattle.std.specs.List.{range_with_len}
 use Rattle.std.proofs.lemmas.Bool.{cases_lt}
-use Rattle.std.proofs.lemmas.List.{length-map, get_or-map, length-take, length-drop, length_push, get_or_append_left, get_or_push, ext_get_or, take_all, take-append-le, drop-append-le, length-append, get_or_read}
+use Rattle.std.proofs.lemmas.List.{length-map, get_or-map, length-drop, length_push, get_or_append_left, get_or_push, ext_get_or, take_all, take-append-le, drop-append-le, length-append, get_or_read}
 use Rattle.std.proofs.Math.Seq.{drop-append_seam}
 use Rattle.std.proofs.lemmas.List.FromFn.{length-range_with_len, get_or-range_with_len}
 use Rattle.market.specs.FlatLists.{between, flat_lists, IsFlat}

@@ -1,12 +1,10 @@
 -- The tables of a market hold what its problem says.
-use Rattle.std.proofs.Common.{◌≡◌, ◌≢◌, ℕ, zero, suc, ◌+◌, ◌<◌, ◌≤◌, Bool, true, false, List, [], ◌∷◌, length, Option, Some, None, refl, sym, ap, ◌∙◌, subst, arith, get_or, ⊎_elim}
-use Rattle.std.specs.Prelude.{slice_index, slice_index_or, slice_get, unwrap_or, filter, ◌==◌}
+use Rattle.std.proofs.Common.{◌≡◌, ℕ, ◌<◌, List, [], length, sym, ap, ◌∙◌, subst, arith}
+use Rattle.std.specs.Prelude.{slice_index, slice_index_or, filter, ◌==◌}
 use Rattle.std.specs.List.{range_with_len}
-use Rattle.std.proofs.lemmas.Bool.{cases_lt, cases_eq}
-use Rattle.std.proofs.lemmas.Option.{slice_get-get_or, slice_get_past}
 use Rattle.market.specs.declared.programme.Prog.{Prog}
 use Rattle.market.proofs.Dicts.{order-le}
-use Rattle.market.specs.Problems.{Problem, IsValid, kind_in, kind_of, order_of, ranks_of, turn_of, rank_of, place_of}
+use Rattle.market.specs.Problems.{Problem, IsValid, kind_in, kind_of, order_of, turn_of}
 use Rattle.market.specs.LocalNumbers.{programmes_of}
 use Rattle.market.specs.Tables.{IsOrder, IsTurnTable, IsLocals, HasTables}
 

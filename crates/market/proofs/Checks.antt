@@ -1,6 +1,6 @@
 -- Tests that compute whether a problem or a dictatorship that is written out is valid. To show that one is,
 -- cite `valid_from` with `refl` for each test, under an `unfolding` line with the tests and `computes`.
-use Rattle.std.proofs.Common.{◌≡◌, ◌≢◌, ℕ, zero, suc, ◌+◌, ◌<◌, ◌≤◌, Bool, true, false, not, ◌&&◌, eqb, ltb, leb, List, [], length, refl, sym, ap, ◌∙◌, subst, arith, ⊎_elim}
+use Rattle.std.proofs.Common.{◌≡◌, ℕ, zero, suc, ◌<◌, Bool, true, not, ◌&&◌, eqb, ltb, leb, List, length, refl, sym, ap, ◌∙◌, arith, ⊎_elim}
 use Rattle.std.specs.Prelude.{slice_index}
 use Rattle.std.proofs.lemmas.Bool.{and_parts, cases_lt, ltb-true, leb-true, eqb-true, eq-eqb, false≢true, not-true}
 use Rattle.market.specs.Problems.{Problem, IsValid, IsDistinct, kind_of, quota_of, list_of, order_of, ranks_of}

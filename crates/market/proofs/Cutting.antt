@@ -1,20 +1,19 @@
 -- The cut of one round over any choices, candidate by candidate.
-use Rattle.std.proofs.Common.{◌≡◌, ◌≢◌, ℕ, zero, suc, ◌+◌, ◌-◌, ◌<◌, ◌≤◌, Bool, true, false, cond, not, List, [], ◌∷◌, length, Option, Some, None, refl, sym, ap, ◌∙◌, subst, arith, get_or, map, set, ⊎_elim}
-use Rattle.std.specs.Prelude.{find, ◌==◌, is_some, nat_lt, slice_index, slice_index_or, if◌then◌else◌}
-use Rattle.std.specs.List.{position, position_or_len, range_with_len}
+use Rattle.std.proofs.Common.{◌≡◌, ℕ, suc, ◌+◌, ◌<◌, ◌≤◌, Bool, true, false, cond, not, List, length, Option, Some, None, refl, sym, ap, ◌∙◌, subst, arith, set, ⊎_elim}
+use Rattle.std.specs.Prelude.{is_some, slice_index, if◌then◌else◌}
+use Rattle.std.specs.List.{position_or_len}
 use Rattle.std.proofs.lemmas.Bool.{cases_lt, cases_eq, cases_Bool, false≢true, lt-ltb, le-ltb, ltb-true}
 use Rattle.std.proofs.lemmas.List.{get_or-set_same, get_or-set_other, length-set}
 use Rattle.std.proofs.lemmas.List.FromFn.{fill_by_all}
 use Rattle.std.proofs.lemmas.List.Sums.{position_or_len_is, prefix_len-le-length}
-use Rattle.std.proofs.lemmas.Option.{none-some, same_Some}
 use Rattle.market.specs.Counting.{is_programme, count_below}
 use Rattle.market.specs.Problems.{Problem, IsValid, place_of, programme_at, kind_of, list_of, order_of, turn_of}
 use Rattle.market.specs.Mechanism.{IsCuts, has_several_in, best_in, cut_in, cuts_in, several_in}
-use Rattle.market.specs.Choices.{choice_in, IsTable, IsWithinCuts}
+use Rattle.market.specs.Choices.{choice_in, IsWithinCuts}
 use Rattle.market.specs.Reruns.{is_beyond, is_cut_away, changed_turn, turn_or_none, least_turn, noted}
 use Rattle.market.specs.declared.programme.Prog.{Prog}
 use Rattle.market.proofs.Turns.{one_more, no_more, is_programme-from}
-use Rattle.market.proofs.Counts.{PassesTwice, count_some_two}
+use Rattle.market.proofs.Counts.{count_some_two}
 use Rattle.market.proofs.Tentatives.{turn_at, candidate_at}
 
 pub cut-several : (m : Problem) (c : ℕ → ℕ → Option ℕ) (cuts : List ℕ) (i : ℕ) → has_several_in m c i ≡ true → cut_in m c cuts i ≡ best_in m c i + 1

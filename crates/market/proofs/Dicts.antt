@@ -1,19 +1,19 @@
 -- What a dictatorship over local programme numbers needs.
-use Rattle.std.proofs.Common.{◌≡◌, ◌≢◌, ℕ, zero, suc, ◌+◌, ◌-◌, ◌<◌, ◌≤◌, Bool, true, false, cond, min, List, [], ◌∷◌, ◌++◌, length, Option, Some, None, refl, sym, ap, ◌∙◌, subst, arith, get_or, map, take, drop, replicate, ⊎_elim}
-use Rattle.std.specs.Prelude.{slice_index, slice_index_or, filter, ◌==◌}
+use Rattle.std.proofs.Common.{◌≡◌, ℕ, zero, suc, ◌+◌, ◌<◌, ◌≤◌, Bool, true, false, cond, List, [], ◌∷◌, ◌++◌, length, Option, Some, None, refl, sym, ap, ◌∙◌, subst, arith, get_or, map, take, drop, replicate, ⊎_elim}
+use Rattle.std.specs.Prelude.{slice_index, filter, ◌==◌}
 use Rattle.std.specs.List.{range_with_len, All}
-use Rattle.std.proofs.lemmas.Bool.{cases_lt, cases_eq, cases_Bool, eqb-true, eq-eqb}
+use Rattle.std.proofs.lemmas.Bool.{cases_lt, cases_Bool, eqb-true, eq-eqb}
 use Rattle.std.proofs.lemmas.List.{length-map, get_or-map, length-take, length-drop, get_or-drop, get_or-take, length_push, get_or_append_left, get_or_push, map-append, take_more, append-nil, get_or-replicate, length-replicate}
 use Rattle.std.proofs.lemmas.List.Sums.{length-filter, count_by-le-length}
 use Rattle.std.proofs.lemmas.List.Elements.{All-filter, filter_passes, filter-append}
 use Rattle.std.proofs.lemmas.List.FromFn.{length-range_with_len, get_or-range_with_len}
 use Rattle.market.specs.declared.programme.Prog.{Prog}
 use Rattle.market.specs.Counting.{count_below, is_programme}
-use Rattle.market.specs.Problems.{Problem, IsValid, kind_in, kind_of, quota_of, list_of, order_of, turn_of, place_of}
+use Rattle.market.specs.Problems.{Problem, IsValid, kind_in, kind_of, quota_of, list_of, order_of}
 use Rattle.market.specs.Dictatorships.{Dictatorship, IsValidDictatorship, list_at}
-use Rattle.market.specs.Mechanism.{is_offered, turn_list, IsCuts}
+use Rattle.market.specs.Mechanism.{is_offered, turn_list}
 use Rattle.market.specs.LocalNumbers.{programmes_of, local_of, local_list, local_dictatorship, IsFill}
-use Rattle.market.specs.Tables.{IsLocals, HasTables}
+use Rattle.market.specs.Tables.{IsLocals}
 use Rattle.market.proofs.Tentatives.{offered-kind}
 use Rattle.market.proofs.Tallies.{tally, at_turn, tally-le-count}
 use Rattle.market.proofs.Members.{range_more}

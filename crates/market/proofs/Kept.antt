@@ -1,20 +1,20 @@
 -- The lists of a type in turn order, and their type_lists below a cut.
-use Rattle.std.proofs.Common.{◌≡◌, ℕ, zero, suc, ◌+◌, ◌-◌, ◌*◌, ◌<◌, ◌≤◌, Bool, true, false, cond, List, [], ◌∷◌, ◌++◌, length, refl, sym, ap, ◌∙◌, subst, arith, get_or, map, take, drop, ⊎_elim}
+use Rattle.std.proofs.Common.{◌≡◌, ℕ, suc, ◌+◌, ◌-◌, ◌<◌, ◌≤◌, Bool, true, false, cond, List, [], ◌∷◌, ◌++◌, length, refl, sym, ap, ◌∙◌, subst, arith, map, take, ⊎_elim}
 use Rattle.std.specs.Prelude.{slice_index, slice_index_or, filter, nat_lt, ◌==◌}
 use Rattle.std.proofs.lemmas.Bool.{cases_lt, cases_Bool, lt-ltb, le-ltb}
-use Rattle.std.proofs.lemmas.List.{take_more, append-nil, append_assoc, length-map, length_push, length-take, get_or-take}
+use Rattle.std.proofs.lemmas.List.{take_more, append-nil, append_assoc, length-map, length-take, get_or-take}
 use Rattle.std.proofs.lemmas.List.{map-append}
 use Rattle.std.proofs.lemmas.List.Elements.{filter-append}
 use Rattle.std.proofs.Math.Seq.{take-nil}
 use Rattle.market.specs.declared.programme.Prog.{Prog}
-use Rattle.market.specs.Problems.{Problem, IsValid, kind_in, kind_of, list_of, order_of}
-use Rattle.market.specs.Mechanism.{is_offered, turn_list}
-use Rattle.market.specs.LocalNumbers.{local_of, local_list}
+use Rattle.market.specs.Problems.{Problem, IsValid, kind_in, list_of}
+use Rattle.market.specs.Mechanism.{turn_list}
+use Rattle.market.specs.LocalNumbers.{local_list}
 use Rattle.market.specs.Tables.{IsLocals}
-use Rattle.market.specs.FlatLists.{between, IsFlat}
-use Rattle.market.specs.TypeLists.{places_from, kept, type_items, type_places, FlatTypeLists, IsTypeLists, HasTypeLists, type_lists_at}
+use Rattle.market.specs.FlatLists.{IsFlat}
+use Rattle.market.specs.TypeLists.{places_from, kept, type_items, type_places}
 use Rattle.market.proofs.Between.{flat-more}
-use Rattle.market.proofs.Dicts.{map_next, local_front, length_filter_le, entry_lt}
+use Rattle.market.proofs.Dicts.{map_next, local_front, length_filter_le}
 
 -- ---- one entry more
 

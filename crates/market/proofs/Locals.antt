@@ -1,22 +1,21 @@
 -- The dictatorship over local numbers makes the choices of the one over the market's own numbers.
-use Rattle.std.proofs.Common.{◌≡◌, ◌≢◌, ℕ, zero, suc, ◌+◌, ◌-◌, ◌<◌, ◌≤◌, Bool, true, false, cond, not, List, [], ◌∷◌, ◌++◌, length, Option, Some, None, refl, sym, ap, ◌∙◌, subst, arith, get_or, map, take, drop, set, replicate, ⊎_elim}
-use Rattle.std.specs.Prelude.{slice_index, slice_index_or, filter, find, ◌==◌, nat_lt, slice_get}
+use Rattle.std.proofs.Common.{◌≡◌, ◌≢◌, ℕ, zero, suc, ◌+◌, ◌-◌, ◌<◌, ◌≤◌, Bool, true, false, cond, not, List, [], ◌∷◌, length, Option, Some, None, refl, sym, ap, ◌∙◌, subst, arith, map, take, drop, set, replicate, ⊎_elim}
+use Rattle.std.specs.Prelude.{slice_index, find, ◌==◌, nat_lt, slice_get}
 use Rattle.std.specs.Option.{option_map}
 use Rattle.std.specs.List.{range_with_len, position_or_len}
 use Rattle.std.proofs.lemmas.Bool.{cases_lt, cases_eq, cases_Bool, eqb-true, eq-eqb, ne_eqb}
 use Rattle.std.proofs.lemmas.List.{length-map, get_or-map, length-drop, get_or-drop, get_or_past, get_or-replicate, length-set, get_or-set_same, get_or-set_other, length-replicate}
 use Rattle.std.proofs.lemmas.List.FromFn.{fill_by_all, length-map-range_with_len, get_or-map-range_with_len}
 use Rattle.std.proofs.lemmas.List.Elements.{filter_passes}
-use Rattle.std.proofs.lemmas.Option.{none-some, same_Some}
 use Rattle.market.specs.Counting.{is_programme}
 use Rattle.market.specs.Problems.{Problem, IsValid, kind_of, quota_of, list_of, order_of, turn_of, place_of}
 use Rattle.market.specs.Stability.{held_by}
-use Rattle.market.specs.Dictatorships.{Dictatorship, has_seat, list_at, first_open, chosen, choice, choices, picked, taken, IsValidDictatorship}
+use Rattle.market.specs.Dictatorships.{Dictatorship, has_seat, list_at, first_open, choice, choices, picked, taken, IsValidDictatorship}
 use Rattle.market.specs.Mechanism.{is_offered, turn_list, type_dictatorship, tentative}
 use Rattle.market.specs.LocalNumbers.{programmes_of, local_of, local_list, local_dictatorship, IsFill}
-use Rattle.market.proofs.Firsts.{find_listed, find_passes, place_get}
+use Rattle.market.proofs.Firsts.{find_listed, place_get}
 use Rattle.market.proofs.Turns.{is_open, picked-find, taken-zero, taken-suc}
-use Rattle.market.proofs.Tentatives.{type-quota, type-fill, type-list, type-list_past, offered-kind, turn_at, candidate_at, tentative-picked, tentative-turn, zeros}
+use Rattle.market.proofs.Tentatives.{type-quota, type-fill, type-list, offered-kind, turn_at, candidate_at, tentative-picked, tentative-turn, zeros}
 use Rattle.market.proofs.Dicts.{front_entry, filter_within, local_back, local_lt, local_valid}
 
 find_step : (a b : Bool) (x y : ℕ) (g : ℕ → ℕ) (m n : Option ℕ) → a ≡ b → m ≡ option_map g n → cond a (Some (g x)) m ≡ option_map g (cond b (Some x) n)

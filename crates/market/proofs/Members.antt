@@ -1,6 +1,6 @@
 -- The programmes of a type and their numbers, in one pass.
 use Rattle.std.proofs.Common.{◌≡◌, ◌≢◌, ℕ, zero, suc, ◌+◌, ◌<◌, ◌≤◌, Bool, true, false, cond, not, List, [], ◌∷◌, ◌++◌, length, refl, sym, ap, ◌∙◌, subst, arith, get_or, set, map, ⊎_elim}
-use Rattle.std.specs.Prelude.{slice_index, slice_index_or, filter, ◌==◌}
+use Rattle.std.specs.Prelude.{slice_index, filter, ◌==◌}
 use Rattle.std.specs.List.{range_with_len}
 use Rattle.std.proofs.lemmas.Bool.{cases_lt, cases_eq, cases_Bool, eq-eqb, ne_eqb}
 use Rattle.std.proofs.lemmas.List.{map-id, get_or-set_same, get_or-set_other, length-set, get_or_append_left, get_or_push, length_push, get_or-replicate, length-replicate}

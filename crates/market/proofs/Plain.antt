@@ -1,21 +1,20 @@
 -- One round's cuts and placement, candidate by candidate.
-use Rattle.std.proofs.Common.{◌≡◌, ◌≢◌, ℕ, zero, suc, ◌+◌, ◌*◌, ◌<◌, ◌≤◌, Bool, true, false, cond, not, List, [], ◌∷◌, ◌++◌, length, Option, Some, None, refl, sym, ap, ◌∙◌, subst, arith, get_or, map, set, ⊎_elim}
-use Rattle.std.specs.Prelude.{slice_index, slice_index_or, slice_get, is_some, nat_lt, if◌then◌else◌}
-use Rattle.std.specs.List.{range_with_len, position_or_len}
-use Rattle.std.proofs.lemmas.Bool.{cases_lt, cases_eq, cases_Bool, eqb-true, eqb-false, eq-eqb, ne_eqb, false≢true}
+use Rattle.std.proofs.Common.{◌≡◌, ◌≢◌, ℕ, zero, suc, ◌+◌, ◌*◌, ◌<◌, ◌≤◌, Bool, true, false, cond, List, [], length, Option, refl, sym, ap, ◌∙◌, subst, arith, map, set, ⊎_elim}
+use Rattle.std.specs.Prelude.{slice_index, slice_index_or, is_some, nat_lt, if◌then◌else◌}
+use Rattle.std.specs.List.{position_or_len}
+use Rattle.std.proofs.lemmas.Bool.{cases_lt, cases_eq, cases_Bool, eq-eqb, ne_eqb, false≢true}
 use Rattle.std.proofs.lemmas.List.{get_or-set_same, get_or-set_other, length-set, length-map, ext_get_or}
 use Rattle.std.proofs.lemmas.List.FromFn.{fill_by_all, length-map-range_with_len}
 use Rattle.std.proofs.Math.ListN.{get_or-map as get_or-map_past}
 use Rattle.market.specs.Counting.{is_programme, count_below, sum_below}
-use Rattle.market.specs.Problems.{Problem, IsValid, kind_of, list_of, order_of}
+use Rattle.market.specs.Problems.{Problem, IsValid, kind_of, list_of}
 use Rattle.market.specs.Stability.{held_by}
 use Rattle.market.specs.Mechanism.{tentative, has_several, is_taken, best_place, next_cut, next_cuts, whole_cuts, cuts_after, several_count, is_settled, entry_count, entries_left, cutting_rounds, IsCuts, placed, turns_of_round, mechanism, mechanism_placement, mechanism_rounds, mechanism_cuts, best_in, cut_in, cuts_in, has_several_in, several_in}
 use Rattle.market.specs.Choices.{IsRound}
 use Rattle.market.specs.declared.placement.Outcome.{Outcome}
 use Rattle.market.proofs.Seats.{position_agree}
 use Rattle.market.proofs.Turns.{one_more, no_more}
-use Rattle.market.proofs.Counts.{sum_le}
-use Rattle.market.proofs.Rounds.{next_cut-lt, next_cut-several, next_cut-same, next_cuts-at, next_cuts-le, cuts_after-suc, settled-none, Settles, cutting_rounds-settles, first_total}
+use Rattle.market.proofs.Rounds.{next_cut-lt, next_cut-several, next_cut-same, next_cuts-at, next_cuts-le, cuts_after-suc, settled-none, cutting_rounds-settles, first_total}
 use Rattle.market.proofs.Dicts.{entry_lt}
 
 pub count_agree : (f g : ℕ → Bool) (n : ℕ) → ((i : ℕ) → i < n → f i ≡ g i) → count_below f n ≡ count_below g n
@@ -132,7 +131,7 @@ length-next : (m : Problem) (cuts : List ℕ) → length (next_cuts m cuts) ≡ 
 unfolding next_cuts cuts_in next_cut cut_in
 length-next m cuts = length-map-range_with_len (next_cut m cuts) 0 (length m.lists)
 
-whole_fit : (m : Problem) → IsCuts m (whole_cuts m)
+pub whole_fit : (m : Problem) → IsCuts m (whole_cuts m)
 unfolding whole_cuts list_of
 whole_fit m = record {
   candidates = length-map m.lists (λ (list : List ℕ). length list);

@@ -1,29 +1,27 @@
 -- A round that starts from the kept choices of the round before it.
-use Rattle.std.proofs.Common.{◌≡◌, ◌≢◌, ℕ, zero, suc, ◌+◌, ◌-◌, ◌*◌, ◌<◌, ◌≤◌, Bool, true, false, cond, not, List, [], ◌∷◌, length, Option, Some, None, refl, sym, ap, ◌∙◌, subst, arith, get_or, map, set, replicate, ⊎_elim}
-use Rattle.std.specs.Prelude.{◌==◌, is_some, nat_lt, slice_get, slice_index, slice_index_or, unwrap_or, if◌then◌else◌}
-use Rattle.std.specs.List.{position, position_or_len, range_with_len}
-use Rattle.std.proofs.lemmas.Bool.{cases_lt, cases_eq, cases_Bool, false≢true, lt-ltb, le-ltb, ltb-true, ne_eqb, eq-eqb}
+use Rattle.std.proofs.Common.{◌≡◌, ◌≢◌, ℕ, zero, suc, ◌+◌, ◌<◌, ◌≤◌, Bool, cond, not, List, [], length, Option, Some, None, refl, sym, ap, ◌∙◌, subst, arith, get_or, map, set, replicate, ⊎_elim}
+use Rattle.std.specs.Prelude.{is_some, nat_lt, slice_get, slice_index, slice_index_or, unwrap_or}
+use Rattle.std.specs.List.{position_or_len, range_with_len}
+use Rattle.std.proofs.lemmas.Bool.{cases_lt, cases_eq, lt-ltb, le-ltb, ne_eqb}
 use Rattle.std.proofs.lemmas.List.{get_or-set_same, get_or-set_other, length-set, get_or_past, get_or-replicate, length-replicate}
 use Rattle.std.proofs.lemmas.List.FromFn.{fill_by_all, length-map-range_with_len, get_or-map-range_with_len}
-use Rattle.std.proofs.lemmas.Option.{none-some, same_Some}
-use Rattle.market.specs.Counting.{is_programme, count_below, sum_below}
-use Rattle.market.specs.Problems.{Problem, IsValid, place_of, kind_of, quota_of, list_of, order_of, turn_of}
+use Rattle.std.proofs.lemmas.Option.{none-some}
+use Rattle.market.specs.Counting.{is_programme}
+use Rattle.market.specs.Problems.{Problem, IsValid, place_of, kind_of, list_of, order_of, turn_of}
 use Rattle.market.specs.Stability.{held_by}
 use Rattle.market.specs.Dictatorships.{picked, taken}
-use Rattle.market.specs.Mechanism.{tentative, type_dictatorship, has_several, best_place, is_taken, next_cut, next_cuts, several_count, placed, placed_at, cuts_after, turns_of_round, mechanism_rounds, IsCuts, best_in, cut_in, cuts_in, has_several_in, several_in}
+use Rattle.market.specs.Mechanism.{tentative, type_dictatorship, has_several, best_place, is_taken, next_cut, next_cuts, several_count, placed, placed_at, best_in, cut_in, cuts_in, has_several_in, several_in}
 use Rattle.market.specs.LocalNumbers.{programmes_of, local_of, IsFill}
 use Rattle.market.specs.Choices.{IsRound, choice_in, no_choices, IsTable, IsWithinCuts, placed_in, FitsNumber}
-use Rattle.market.specs.Reruns.{is_beyond, is_cut_away, first_changed, changed_turn, first_run, round_turns, placement_turns, IsRunUpto, kept_seats, IsKeptFill}
+use Rattle.market.specs.Reruns.{is_beyond, is_cut_away, first_changed, changed_turn, IsRunUpto, kept_seats, IsKeptFill}
 use Rattle.market.proofs.Firsts.{place_get}
 use Rattle.market.proofs.Seats.{position_agree}
 use Rattle.market.proofs.Turns.{taken-zero, taken-suc, taken-le-quota, one_more, no_more, is_programme-same}
-use Rattle.market.proofs.Counts.{sum_same, sum_le}
 use Rattle.market.proofs.Tentatives.{turn_at, candidate_at, tentative-picked, tentative-takes, type-quota, type-fill}
-use Rattle.market.proofs.Dicts.{entry_lt, local_back, local_lt, local_member, member_lt, member_kind, order-le}
+use Rattle.market.proofs.Dicts.{entry_lt, local_back, local_lt, local_member}
 use Rattle.market.proofs.Locals.{none_at}
-use Rattle.market.proofs.Plain.{count_agree, sum_bound}
-use Rattle.market.proofs.Rounds.{next_cuts-at}
-use Rattle.market.proofs.Reruns.{KeepsUpto, keeps_upto, no_turn_none, first-le}
+use Rattle.market.proofs.Plain.{count_agree}
+use Rattle.market.proofs.Reruns.{keeps_upto, no_turn_none}
 
 -- ---- a round's table against the definitions
 

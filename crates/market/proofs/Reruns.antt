@@ -1,19 +1,18 @@
 -- What a cut leaves: a turn whose choice stands within the new cut, with the same earlier choices, keeps its choice.
-use Rattle.std.proofs.Common.{◌≡◌, ◌≢◌, ℕ, zero, suc, ◌+◌, ◌-◌, ◌<◌, ◌≤◌, Bool, true, false, cond, not, ◌&&◌, List, [], ◌∷◌, ◌++◌, length, Option, Some, None, refl, sym, ap, ◌∙◌, subst, arith, get_or, map, take, replicate, ⊎_elim}
-use Rattle.std.specs.Prelude.{find, filter, ◌==◌, nat_lt, slice_index, slice_index_or, slice_get}
-use Rattle.std.specs.List.{position_or_len, range_with_len}
+use Rattle.std.proofs.Common.{◌≡◌, ℕ, zero, suc, ◌+◌, ◌<◌, ◌≤◌, Bool, false, not, ◌&&◌, List, [], ◌∷◌, ◌++◌, length, Option, Some, None, refl, sym, ap, ◌∙◌, subst, arith, get_or, map, take, replicate, ⊎_elim}
+use Rattle.std.specs.Prelude.{find, nat_lt, slice_index}
 use Rattle.std.proofs.lemmas.Bool.{cases_lt, cases_Bool, false≢true, ltb-true}
 use Rattle.std.proofs.lemmas.List.Sums.{fails_before_first, prefix_len-le-length}
 use Rattle.std.proofs.lemmas.Option.{none-some, same_Some}
 use Rattle.market.specs.declared.programme.Prog.{Prog}
 use Rattle.market.specs.Counting.{count_of}
-use Rattle.market.specs.Problems.{Problem, IsValid, place_of, quota_of, list_of, order_of, turn_of}
-use Rattle.market.specs.Dictatorships.{Dictatorship, has_seat, chosen, picked, list_at, taken}
+use Rattle.market.specs.Problems.{Problem, IsValid, place_of, list_of, order_of, turn_of}
+use Rattle.market.specs.Dictatorships.{has_seat, chosen, picked}
 use Rattle.market.specs.Mechanism.{is_offered, turn_list, type_dictatorship, tentative, next_cut, next_cuts, has_several, best_place, is_taken, best_in, cut_in, has_several_in}
 use Rattle.market.specs.Reruns.{is_beyond, is_cut_away, first_changed}
-use Rattle.market.proofs.Firsts.{IsFoundWithin, FindsBy, find_take, find_first_take, find-filter, place_same}
+use Rattle.market.proofs.Firsts.{find_take, find_first_take, find-filter, place_same}
 use Rattle.market.proofs.Turns.{is_open, picked-find, chosen-suc, chosen-zero}
-use Rattle.market.proofs.Tentatives.{turn_at, candidate_at, get-chosen, type-list, tentative-picked, tentative-turn}
+use Rattle.market.proofs.Tentatives.{turn_at, get-chosen, type-list, tentative-picked, tentative-turn}
 use Rattle.market.proofs.Rounds.{next_cuts-at, next_cuts-le}
 use Rattle.market.proofs.Valid.{kind_lt}
 

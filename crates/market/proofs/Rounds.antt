@@ -1,23 +1,21 @@
 -- What a round cuts, and that the rounds end.
-use Rattle.std.proofs.Common.{◌≡◌, ◌≢◌, ℕ, zero, suc, ◌+◌, ◌<◌, ◌≤◌, Bool, true, false, cond, eqb, ◌&&◌, List, [], ◌∷◌, ◌++◌, length, Option, Some, None, refl, sym, ap, ◌∙◌, subst, arith, get_or, set, ⊎_elim, inl, inr, map, take, drop, replicate}
-use Rattle.std.specs.Prelude.{find, filter, ◌==◌, slice_index, slice_index_or, slice_get, is_some, nat_lt, if◌then◌else◌}
-use Rattle.std.specs.List.{position_or_len, range_with_len}
-use Rattle.std.proofs.lemmas.Bool.{cases_eq, cases_lt, cases_order, cases_Bool, false≢true, eqb-true, eqb-false, eq-eqb, ne_eqb, ltb-true, ltb-false, lt-ltb}
-use Rattle.std.proofs.lemmas.List.{get_or_past, take-append-drop, take-take, length-map}
+use Rattle.std.proofs.Common.{◌≡◌, ℕ, zero, suc, ◌+◌, ◌<◌, ◌≤◌, Bool, true, false, cond, List, [], ◌++◌, length, Option, Some, None, refl, sym, ap, ◌∙◌, subst, arith, ⊎_elim, map, take, drop}
+use Rattle.std.specs.Prelude.{find, filter, slice_index, is_some, if◌then◌else◌}
+use Rattle.std.specs.List.{range_with_len}
+use Rattle.std.proofs.lemmas.Bool.{cases_eq, cases_lt, cases_order, cases_Bool, false≢true, eqb-true, eqb-false, ltb-true, lt-ltb}
+use Rattle.std.proofs.lemmas.List.{get_or_past, take-append-drop, take-take}
 use Rattle.std.proofs.lemmas.List.FromFn.{get_or-map-range_with_len, length-map-range_with_len}
 use Rattle.std.proofs.lemmas.List.Elements.{filter-append}
 use Rattle.std.proofs.lemmas.List.Folds.{find_at}
 use Rattle.std.proofs.Math.ListN.{get_or-map as get_or-map_past}
-use Rattle.std.proofs.lemmas.Option.{none-some}
-use Rattle.market.specs.Counting.{is_programme, count_of, count_below, sum_below}
-use Rattle.market.specs.Problems.{Problem, place_of, kind_of, quota_of, list_of, order_of, turn_of}
-use Rattle.market.specs.Stability.{held_by}
-use Rattle.market.specs.Dictatorships.{Dictatorship, chosen, picked, list_at, taken, IsPrefixOf, ShortensLists}
-use Rattle.market.specs.Mechanism.{is_offered, turn_list, type_dictatorship, tentative, has_several, is_taken, best_place, next_cut, next_cuts, whole_cuts, cuts_after, several_count, is_settled, settled_from, entry_count, entries_left, mechanism_rounds, RoundsEnd, cutting_rounds, placed_at, placed, best_in, cut_in, cuts_in, has_several_in, several_in}
-use Rattle.market.proofs.Firsts.{FindsBy, find_passes, find_listed, find_first, first_at, place_same}
+use Rattle.market.specs.Counting.{count_below}
+use Rattle.market.specs.Problems.{Problem, place_of, kind_of, list_of, order_of, turn_of}
+use Rattle.market.specs.Dictatorships.{IsPrefixOf, ShortensLists}
+use Rattle.market.specs.Mechanism.{is_offered, turn_list, type_dictatorship, tentative, has_several, is_taken, best_place, next_cut, next_cuts, whole_cuts, cuts_after, several_count, is_settled, settled_from, entry_count, entries_left, mechanism_rounds, RoundsEnd, cutting_rounds, placed_at, best_in, cut_in, cuts_in, has_several_in, several_in}
+use Rattle.market.proofs.Firsts.{find_passes, find_first, first_at, place_same}
 use Rattle.market.proofs.Turns.{is_programme-true, is_programme-from, shorter_lists_free_seats}
-use Rattle.market.proofs.Counts.{Passes, PassesTwice, count_one, count_two, count_some, count_some_two, sum_le, sum_lt, sum_same}
-use Rattle.market.proofs.Tentatives.{Takes, TakesBy, tentative-takes, takes_by, type-list, type-list_past, seats_before}
+use Rattle.market.proofs.Counts.{Passes, count_one, count_two, count_some, count_some_two, sum_lt, sum_same}
+use Rattle.market.proofs.Tentatives.{TakesBy, tentative-takes, takes_by, type-list, type-list_past, seats_before}
 
 some_from : (o : Option ℕ) → is_some o ≡ true → (p : ℕ) × (o ≡ Some p)
 some_from None e = absurd (false≢true e)

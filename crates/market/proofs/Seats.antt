@@ -1,13 +1,13 @@
 -- Seats kept in an array, against the choices counted.
-use Rattle.std.proofs.Common.{◌≡◌, ◌≢◌, ℕ, zero, suc, ◌+◌, ◌<◌, ◌≤◌, Bool, true, false, cond, not, eqb, ltb, List, [], ◌∷◌, ◌++◌, length, Option, Some, None, refl, sym, ap, ◌∙◌, subst, arith, get_or, set, take, map, ⊎_elim}
-use Rattle.std.specs.Prelude.{slice_index, slice_index_or, slice_get, nat_lt}
+use Rattle.std.proofs.Common.{◌≡◌, ℕ, suc, ◌+◌, ◌<◌, ◌≤◌, Bool, cond, not, List, [], ◌∷◌, ◌++◌, length, Some, refl, sym, ap, ◌∙◌, subst, arith, set, take, map, ⊎_elim}
+use Rattle.std.specs.Prelude.{slice_index, slice_get, nat_lt}
 use Rattle.std.specs.List.{position_or_len, range_with_len}
-use Rattle.std.proofs.lemmas.Bool.{cases_lt, cases_eq, ltb-true, ne_eqb}
+use Rattle.std.proofs.lemmas.Bool.{cases_eq, ltb-true, ne_eqb}
 use Rattle.std.proofs.lemmas.List.{get_or-set_same, get_or-set_other, length-set, take_more}
 use Rattle.std.proofs.lemmas.List.FromFn.{map-range_with_len_more}
 use Rattle.std.proofs.lemmas.List.Sums.{passes_at_first, prefix_len-le-length}
 use Rattle.std.proofs.lemmas.Option.{slice_get-get_or, slice_get_past}
-use Rattle.market.specs.Counting.{is_programme, count_of}
+use Rattle.market.specs.Counting.{is_programme}
 use Rattle.market.specs.Dictatorships.{Dictatorship, has_seat, list_at, first_open, chosen, choice, choices, picked, taken, IsValidDictatorship, IsSeatsAt}
 use Rattle.market.proofs.Turns.{taken-zero, taken-suc, one_more, no_more, is_programme-same}
 

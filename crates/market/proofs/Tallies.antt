@@ -1,11 +1,10 @@
 -- How many of the first turns take a programme, against how many hold it.
-use Rattle.std.proofs.Common.{◌≡◌, ◌≢◌, ℕ, zero, suc, ◌+◌, ◌<◌, ◌≤◌, Bool, true, false, cond, eqb, List, [], ◌∷◌, ◌++◌, length, Option, Some, None, refl, sym, ap, ◌∙◌, subst, arith, get_or, set, ⊎_elim, inl, inr}
-use Rattle.std.specs.Prelude.{sum_by}
-use Rattle.std.proofs.lemmas.Bool.{cases_eq, cases_lt, cases_Bool, false≢true}
-use Rattle.std.proofs.lemmas.List.{get_or-set_same, get_or-set_other, set_past, get_or_past, length-set}
+use Rattle.std.proofs.Common.{◌≡◌, ◌≢◌, ℕ, zero, suc, ◌+◌, ◌<◌, ◌≤◌, false, cond, List, [], ◌∷◌, length, Option, Some, None, refl, sym, ap, ◌∙◌, subst, arith, get_or, set, ⊎_elim}
+use Rattle.std.proofs.lemmas.Bool.{cases_lt, cases_Bool}
+use Rattle.std.proofs.lemmas.List.{get_or-set_same, get_or-set_other, set_past, get_or_past}
 use Rattle.std.proofs.lemmas.List.Sums.{sum_by-set, sum_by-cons}
 use Rattle.std.proofs.lemmas.Option.{none-some}
-use Rattle.market.specs.Counting.{is_programme, count_of, count_below}
+use Rattle.market.specs.Counting.{is_programme, count_of}
 use Rattle.market.specs.Stability.{held_by}
 use Rattle.market.specs.Dictatorships.{Dictatorship, picked, taken}
 use Rattle.market.proofs.Turns.{taken-zero, taken-suc, one_more, no_more, is_programme-true, is_programme-from}

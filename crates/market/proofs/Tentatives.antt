@@ -1,17 +1,16 @@
 -- What a candidate takes in a type, against the candidate's own list.
-use Rattle.std.proofs.Common.{◌≡◌, ◌≢◌, ℕ, zero, suc, ◌+◌, ◌<◌, ◌≤◌, Bool, true, false, cond, eqb, ◌&&◌, List, [], ◌∷◌, ◌++◌, length, Option, Some, None, refl, sym, ap, ◌∙◌, subst, arith, get_or, set, ⊎_elim, inl, inr, map, take, replicate}
-use Rattle.std.specs.Prelude.{find, filter, ◌==◌, slice_index, slice_index_or, slice_get}
-use Rattle.std.proofs.lemmas.Bool.{cases_eq, cases_lt, cases_Bool, false≢true, eqb-true, eq-eqb, ne_eqb, and_parts, and_from}
+use Rattle.std.proofs.Common.{◌≡◌, ℕ, zero, suc, ◌<◌, ◌≤◌, Bool, true, ◌&&◌, List, [], ◌∷◌, length, Option, Some, None, refl, sym, ap, ◌∙◌, arith, get_or, ⊎_elim, map, take, replicate}
+use Rattle.std.specs.Prelude.{find, ◌==◌, slice_index}
+use Rattle.std.proofs.lemmas.Bool.{cases_lt, eqb-true, eq-eqb, ne_eqb, and_parts, and_from}
 use Rattle.std.proofs.lemmas.List.{get_or_past, get_or_append_left, get_or_push, get_or-replicate, length-replicate, length-map, get_or-map}
 use Rattle.std.proofs.Math.ListN.{get_or-map as get_or-map_past}
 use Rattle.std.proofs.lemmas.List.Sums.{position_or_len_is}
 use Rattle.std.proofs.lemmas.Option.{none-some}
 use Rattle.market.specs.declared.programme.Prog.{Prog}
-use Rattle.market.specs.Counting.{is_programme, count_of}
-use Rattle.market.specs.Problems.{Problem, IsValid, IsAcceptable, IsDistinct, place_of, kind_of, quota_of, list_of, order_of, ranks_of, turn_of, rank_of, admits}
-use Rattle.market.specs.Dictatorships.{Dictatorship, chosen, picked, list_at, taken, IsPrefixOf, ShortensLists}
+use Rattle.market.specs.Problems.{Problem, IsValid, place_of, kind_of, quota_of, list_of, order_of, turn_of}
+use Rattle.market.specs.Dictatorships.{Dictatorship, chosen, picked, list_at, taken}
 use Rattle.market.specs.Mechanism.{is_offered, turn_list, type_dictatorship, tentative}
-use Rattle.market.proofs.Firsts.{IsFoundWithin, FindsBy, find_take, find_first_take, find-filter, place_get}
+use Rattle.market.proofs.Firsts.{find_take, find_first_take, find-filter, place_get}
 use Rattle.market.proofs.Turns.{is_open, is_open-true, is_open-from, picked-find, chosen-suc, length-chosen}
 
 -- ---- turns

@@ -1,5 +1,5 @@
 -- What a market's lists in turn order give.
-use Rattle.std.proofs.Common.{◌≡◌, ℕ, zero, suc, ◌+◌, ◌-◌, ◌*◌, ◌<◌, ◌≤◌, List, [], ◌∷◌, ◌++◌, length, refl, sym, ap, ◌∙◌, subst, arith, get_or, map, take, drop}
+use Rattle.std.proofs.Common.{◌≡◌, ℕ, ◌+◌, ◌-◌, ◌*◌, ◌<◌, ◌≤◌, List, [], ◌++◌, length, sym, ap, ◌∙◌, subst, arith, map, take, drop}
 use Rattle.std.specs.Prelude.{slice_index, slice_index_or, filter, ◌==◌}
 use Rattle.std.proofs.lemmas.List.{length-map, get_or-map, length-take, length-drop, get_or-drop, get_or-take, length-append}
 use Rattle.market.specs.declared.programme.Prog.{Prog}
@@ -9,7 +9,7 @@ use Rattle.market.specs.Tables.{IsLocals}
 use Rattle.market.specs.FlatLists.{between, IsFlat}
 use Rattle.market.specs.TypeLists.{kept, places_from, type_items, type_places, FlatTypeLists, IsTypeLists, HasTypeLists, type_lists_at}
 use Rattle.market.proofs.Dicts.{order-le, local_length}
-use Rattle.market.proofs.Kept.{front_local, flat_next}
+use Rattle.market.proofs.Kept.{front_local}
 
 -- ---- making them
 

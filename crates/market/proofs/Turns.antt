@@ -1,13 +1,11 @@
 -- What a serial dictatorship does, turn by turn.
-use Rattle.std.proofs.Common.{◌≡◌, ℕ, zero, suc, ◌+◌, ◌<◌, ◌≤◌, Bool, true, false, cond, ltb, eqb, List, [], ◌∷◌, ◌++◌, length, Option, Some, None, refl, sym, ap, ◌∙◌, subst, arith, get_or, length-append, ⊎_elim, inl, inr}
-use Rattle.std.specs.Prelude.{find, ◌==◌, nat_lt, slice_index, slice_get, count_by}
-use Rattle.std.specs.List.{position_or_len}
-use Rattle.std.proofs.lemmas.Bool.{ltb-true, lt-ltb, eqb-true, eq-eqb, cases_lt, cases_Bool, false≢true, both_ways}
+use Rattle.std.proofs.Common.{◌≡◌, ℕ, zero, suc, ◌+◌, ◌<◌, ◌≤◌, Bool, true, false, cond, List, [], ◌∷◌, ◌++◌, length, Option, Some, None, refl, sym, ap, ◌∙◌, arith, length-append, ⊎_elim}
+use Rattle.std.specs.Prelude.{find, slice_index}
+use Rattle.std.proofs.lemmas.Bool.{ltb-true, lt-ltb, eqb-true, eq-eqb, cases_lt, cases_Bool, false≢true}
 use Rattle.std.proofs.lemmas.List.Folds.{find_at}
 use Rattle.std.proofs.lemmas.List.Sums.{sum_by_push}
-use Rattle.std.proofs.lemmas.Option.{none-some, same_Some}
 use Rattle.market.specs.Counting.{is_programme, count_of}
-use Rattle.market.specs.Dictatorships.{Dictatorship, has_seat, list_at, first_open, with_next, chosen, choice, choices, picked, taken, IsPrefixOf, ShortensLists, FreesSeats}
+use Rattle.market.specs.Dictatorships.{Dictatorship, has_seat, list_at, first_open, with_next, chosen, choice, picked, taken, ShortensLists, FreesSeats}
 use Rattle.market.proofs.Firsts.{find_passes, find_free}
 
 -- whether p has a seat left at turn k

@@ -1,5 +1,5 @@
 -- What each candidate has chosen in each type, kept in a table with a row for each type.
-use Rattle.std.specs.Prelude.{◌≡◌, ℕ, ◌+◌, ◌-◌, ◌<◌, List, [], map, length, replicate, Option, Some, None, ◌==◌, if◌then◌else◌, slice_get, slice_index, slice_index_or}
+use Rattle.std.specs.Prelude.{◌≡◌, ℕ, ◌-◌, ◌<◌, List, [], map, length, replicate, Option, Some, None, ◌==◌, if◌then◌else◌, slice_get, slice_index, slice_index_or}
 use Rattle.std.specs.List.{range_with_len}
 use Rattle.market.specs.Problems.{Problem, place_of, kind_of, list_of, order_of, turn_of}
 use Rattle.market.specs.Mechanism.{tentative, best_in}

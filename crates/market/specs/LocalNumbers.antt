@@ -1,7 +1,6 @@
 -- The dictatorship of a type over local numbers: those that the type's programmes have among themselves.
 use Rattle.std.specs.Prelude.{◌≡◌, ℕ, ◌+◌, ◌<◌, ◌≤◌, List, map, length, drop, ◌==◌, filter, slice_index}
 use Rattle.std.specs.List.{range_with_len}
-use Rattle.market.specs.declared.programme.Prog.{Prog}
 use Rattle.market.specs.Counting.{count_below}
 use Rattle.market.specs.Dictatorships.{Dictatorship, choice, taken}
 use Rattle.market.specs.Problems.{Problem, kind_of, quota_of, order_of}

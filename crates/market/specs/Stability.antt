@@ -1,5 +1,5 @@
 -- Placements, and when they are stable.
-use Rattle.std.specs.Prelude.{◌≡◌, ℕ, ◌<◌, ◌≤◌, ◌⊎◌, Bool, if◌then◌else◌, nat_lt, List, [], ◌∷◌, length, map, filter, Option, Some, None, slice_index_or}
+use Rattle.std.specs.Prelude.{◌≡◌, ℕ, ◌<◌, ◌≤◌, ◌⊎◌, if◌then◌else◌, nat_lt, List, [], ◌∷◌, length, map, filter, Option, Some, None, slice_index_or}
 use Rattle.std.specs.List.{range_with_len}
 use Rattle.market.specs.Counting.{is_programme, count_of}
 use Rattle.market.specs.Problems.{Problem, IsAcceptable, place_of, kind_of, quota_of, list_of, rank_of}

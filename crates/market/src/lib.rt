@@ -34,6 +34,9 @@ mod type_lists;
 // Lists that lie one after another in one vector.
 mod flat_lists;
 
+#[cfg(test)]
+mod tests;
+
 pub use cuts::Cuts;
 pub use dict::Dict;
 pub use examples::{

@@ -1,9 +1,7 @@
-use Rattle.std.proofs.Common.{◌≡◌, ℕ, ◌+◌, ◌<◌, arith, rules, ap, sym, refl, subst, length, List, set}
+use Rattle.std.proofs.Common.{ℕ, ◌+◌, arith, rules, ap, sym, subst, length, List, set}
 use Rattle.std.specs.Prelude.{◌==◌}
 use Rattle.std.proofs.lemmas.List.{get_or_read}
-use Rattle.market.specs.Counting.{count_below}
 use Rattle.market.specs.Problems.{kind_in}
-use Rattle.market.specs.Tables.{IsLocals}
 use Rattle.market.proofs.Members.{IsCounts, IsCounts-none, IsCounts-more, IsLocals-more, count_le}
 use Rattle.market.proofs.build.local_numbers.Goals as goal
 

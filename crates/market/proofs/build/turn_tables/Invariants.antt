@@ -1,4 +1,4 @@
-use Rattle.std.proofs.Common.{◌≡◌, ℕ, ◌<◌, length, List, []}
+use Rattle.std.proofs.Common.{◌≡◌, ℕ, ◌<◌, length, []}
 use Rattle.std.specs.Prelude.{slice_index_or}
 use Rattle.market.specs.Tables.{IsTurnTable}
 use Rattle.market.proofs.build.turn_tables.Given as goal

@@ -1,4 +1,4 @@
-use Rattle.std.proofs.Common.{◌≡◌, ℕ, ◌∙◌, ap, List, Vec, Global, arith}
+use Rattle.std.proofs.Common.{ℕ, ◌∙◌, ap, Vec, Global, arith}
 use Rattle.market.proofs.Kept.{kept_yes, kept_no}
 use Rattle.market.proofs.type_lists.add_kept.Goals as goal
 use Rattle.market.proofs.type_lists.add_kept.Goals.{then-from-cut+in_ok-push, else-from-cut}

@@ -1,4 +1,4 @@
-use Rattle.std.proofs.Common.{◌≡◌, ℕ, ◌++◌, take, map}
+use Rattle.std.proofs.Common.{◌≡◌, ◌++◌, take}
 use Rattle.market.specs.TypeLists.{kept}
 use Rattle.market.proofs.type_lists.add_kept.Given as goal
 

@@ -1,7 +1,6 @@
-use Rattle.std.proofs.Common.{◌≡◌, ℕ, ◌∙◌, ap, List, Vec, Global, arith}
+use Rattle.std.proofs.Common.{ℕ, ◌∙◌, ap, Vec, Global}
 use Rattle.std.specs.Prelude.{slice_index, ◌==◌}
 use Rattle.std.proofs.lemmas.Bool.{eq-eqb, ne_eqb}
-use Rattle.std.proofs.lemmas.List.{get_or_read}
 use Rattle.market.specs.Problems.{kind_in}
 use Rattle.market.proofs.Kept.{places_more, places_same, items_more, items_same}
 use Rattle.market.proofs.type_lists.add_list.Goals as goal

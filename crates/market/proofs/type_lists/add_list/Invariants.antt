@@ -1,4 +1,4 @@
-use Rattle.std.proofs.Common.{◌≡◌, ℕ, ◌++◌, take, map}
+use Rattle.std.proofs.Common.{◌≡◌, ◌++◌, take, map}
 use Rattle.std.specs.Prelude.{filter, slice_index, ◌==◌}
 use Rattle.market.specs.Problems.{kind_in}
 use Rattle.market.specs.TypeLists.{places_from}

@@ -1,4 +1,4 @@
-use Rattle.std.proofs.Common.{◌≡◌, ℕ, ◌<◌, length, List, []}
+use Rattle.std.proofs.Common.{◌≡◌, ℕ, ◌<◌, length, []}
 use Rattle.std.specs.Prelude.{slice_index_or}
 use Rattle.market.specs.TypeLists.{IsTypeLists, type_lists_at}
 use Rattle.market.proofs.type_lists.all_type_lists.Given as goal

@@ -1,8 +1,7 @@
 use Rattle.std.proofs.Common.{◌≡◌, ℕ, ◌+◌, ◌*◌, ◌<◌, ◌≤◌, ◌∙◌, ap, sym, List, [], ◌++◌, length, map, take, arith}
-use Rattle.std.specs.Prelude.{slice_index, slice_index_or, filter, ◌==◌}
+use Rattle.std.specs.Prelude.{slice_index, filter, ◌==◌}
 use Rattle.std.proofs.lemmas.List.{get_or_read, length-append, length-map}
 use Rattle.market.specs.Problems.{kind_in}
-use Rattle.market.specs.FlatLists.{IsFlat}
 use Rattle.market.specs.TypeLists.{type_items, type_places, places_from}
 use Rattle.market.proofs.Kept.{flat_next, length-type_items, length-type_places}
 use Rattle.market.proofs.type_lists.lists_of_type.Goals as goal

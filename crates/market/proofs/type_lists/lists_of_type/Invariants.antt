@@ -1,4 +1,4 @@
-use Rattle.std.proofs.Common.{◌≡◌, ℕ, ◌*◌, ◌≤◌, length, take, map}
+use Rattle.std.proofs.Common.{◌*◌, ◌≤◌, length, take, map}
 use Rattle.market.specs.FlatLists.{IsFlat}
 use Rattle.market.specs.TypeLists.{type_items, type_places}
 use Rattle.market.proofs.type_lists.lists_of_type.Given as goal

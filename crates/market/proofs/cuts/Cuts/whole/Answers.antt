@@ -1,4 +1,4 @@
-use Rattle.std.proofs.Common.{◌≡◌, ℕ, ◌∙◌, map, take, length, List, [], ap, arith}
+use Rattle.std.proofs.Common.{ℕ, ◌∙◌, map, length, List, [], ap, arith}
 use Rattle.std.proofs.lemmas.List.{take_all}
 use Rattle.market.specs.Problems.{list_of}
 use Rattle.market.specs.Mechanism.{whole_cuts}

@@ -1,4 +1,3 @@
-use Rattle.std.proofs.Common.{◌≡◌}
 use Rattle.market.proofs.Between.{flat_read}
 use Rattle.market.proofs.flat_lists.FlatLists.list.Goals as goal
 

@@ -1,4 +1,4 @@
-use Rattle.std.proofs.Common.{◌≡◌, ℕ, ◌<◌, arith, rules}
+use Rattle.std.proofs.Common.{rules}
 use Rattle.market.specs.Problems.{Problem}
 use Rattle.market.proofs.Builds.{orders_ok, kinds_ok, has_tables}
 use Rattle.market.proofs.TurnLists.{build_turns, build_order, build_short, build_entries, type_lists_made}

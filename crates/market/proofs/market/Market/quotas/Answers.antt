@@ -1,4 +1,4 @@
-use Rattle.std.proofs.Common.{◌≡◌, ℕ, ◌<◌, ◌∙◌, ap, sym, subst, length, List, arith}
+use Rattle.std.proofs.Common.{ℕ, ap, length, List, arith}
 use Rattle.std.specs.Prelude.{slice_index}
 use Rattle.market.specs.declared.programme.Prog.{Prog}
 use Rattle.market.specs.Problems.{quota_of}

@@ -1,4 +1,4 @@
-use Rattle.std.proofs.Common.{◌≡◌, ℕ, take, map}
+use Rattle.std.proofs.Common.{◌≡◌, take, map}
 use Rattle.market.specs.Problems.{quota_of}
 use Rattle.market.proofs.market.Market.quotas.Given as goal
 

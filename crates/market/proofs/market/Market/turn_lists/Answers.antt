@@ -1,10 +1,9 @@
-use Rattle.std.proofs.Common.{◌≡◌, ℕ, ◌+◌, ◌-◌, ◌*◌, ◌<◌, ◌≤◌, ◌∙◌, refl, ap, sym, subst, List, [], ◌++◌, map, take, drop, length, arith}
+use Rattle.std.proofs.Common.{◌+◌, ◌-◌, ◌∙◌, ap, subst, [], map, take, drop, length, arith}
 use Rattle.std.specs.Prelude.{slice_index}
-use Rattle.std.proofs.lemmas.List.{get_or_read, take_all, length-take, length-drop}
-use Rattle.market.specs.Problems.{Problem, IsValid, order_of}
+use Rattle.std.proofs.lemmas.List.{get_or_read, take_all, length-drop}
+use Rattle.market.specs.Problems.{Problem, order_of}
 use Rattle.market.specs.LocalNumbers.{local_list}
-use Rattle.market.specs.FlatLists.{between}
-use Rattle.market.specs.TypeLists.{FlatTypeLists, type_lists_at, HasParts, kept}
+use Rattle.market.specs.TypeLists.{type_lists_at, HasParts}
 use Rattle.market.proofs.Dicts.{order-le}
 use Rattle.market.proofs.Between.{flat-self, flat-is}
 use Rattle.market.proofs.Kept.{flat_next}

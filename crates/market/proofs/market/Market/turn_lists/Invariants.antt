@@ -1,4 +1,4 @@
-use Rattle.std.proofs.Common.{◌≡◌, ℕ, ◌*◌, ◌≤◌, take, map, length}
+use Rattle.std.proofs.Common.{◌*◌, ◌≤◌, take, map, length}
 use Rattle.market.specs.LocalNumbers.{local_list}
 use Rattle.market.specs.FlatLists.{IsFlat}
 use Rattle.market.proofs.market.Market.turn_lists.Given as goal

@@ -1,4 +1,4 @@
-use Rattle.std.proofs.Common.{◌≡◌, ℕ, ◌∙◌, ap, refl, length, List, Option, None, map, replicate}
+use Rattle.std.proofs.Common.{ℕ, ◌∙◌, ap, Option, None, map, replicate}
 use Rattle.market.specs.Choices.{no_choices, decode}
 use Rattle.market.proofs.Coded.{map-replicate}
 use Rattle.market.proofs.tentative.Tentative.none.Goals as goal

@@ -1,4 +1,4 @@
-use Rattle.std.proofs.Common.{◌≡◌, ℕ, ◌<◌, ◌∙◌, ap, sym, refl, length, List, [], Option, None, map, set, get_or, arith}
+use Rattle.std.proofs.Common.{◌≡◌, ℕ, ◌<◌, ◌∙◌, ap, sym, length, List, [], Option, map, set, get_or, arith}
 use Rattle.std.proofs.lemmas.List.{get_or_read, map-set, length-map}
 use Rattle.std.proofs.Math.ListN.{get_or-map as get_or-map_past}
 use Rattle.market.specs.Choices.{decode}
