@@ -9,7 +9,8 @@ use Rattle.std.proofs.lemmas.List.FromFn.{length-range_with_len, get_or-range_wi
 use Rattle.market.specs.FlatLists.{between, flat_lists, IsFlat}
 
 -- read as they lie, they are the lists
-pub flat-is : (items bounds : List ℕ) (lists : List (List ℕ)) → IsFlat items bounds lists → flat_lists items bounds ≡ lists
+pub flat-is : (items bounds : List ℕ) (lists : List (List ℕ)) → IsFlat items bounds lists
+    → flat_lists items bounds ≡ lists
 unfolding flat_lists
 flat-is items bounds lists f =
     let n = length bounds - 1 in
@@ -18,10 +19,13 @@ flat-is items bounds lists f =
     let len = length-map (range_with_len 0 n) (between items bounds) in
     ext_get_or [] (map (between items bounds) (range_with_len 0 n)) lists (omega arith)
     (λ k l.
-    let at : get_or (range_with_len 0 n) k 0 ≡ k = get_or-range_with_len 0 n k 0 (omega arith) ∙ omega arith in
-    get_or-map (between items bounds) (range_with_len 0 n) k 0 [] (omega arith) ∙ ap (between items bounds) at ∙ f.each k (omega arith))
+    let at : get_or (range_with_len 0 n) k 0 ≡ k = get_or-range_with_len 0 n k 0 (omega arith)
+    ∙ omega arith in
+    get_or-map (between items bounds) (range_with_len 0 n) k 0 [] (omega arith)
+    ∙ ap (between items bounds) at ∙ f.each k (omega arith))
 
-pub flat-self : (items bounds : List ℕ) (lists : List (List ℕ)) → IsFlat items bounds lists → IsFlat items bounds (flat_lists items bounds)
+pub flat-self : (items bounds : List ℕ) (lists : List (List ℕ)) → IsFlat items bounds lists
+    → IsFlat items bounds (flat_lists items bounds)
 flat-self items bounds lists f = subst (IsFlat items bounds) (sym (flat-is items bounds lists f)) f
 
 pub flat-none : (items bounds : List ℕ) → items ≡ [] → bounds ≡ 0 ∷ [] → IsFlat items bounds []
@@ -40,7 +44,9 @@ flat-none items bounds ei eb =
     }
 
 -- one list more
-pub flat-more : (items bounds items' bounds' xs : List ℕ) (lists : List (List ℕ)) (n : ℕ) → IsFlat items bounds lists → items' ≡ items ++ xs → bounds' ≡ bounds ++ n ∷ [] → n ≡ length items' → IsFlat items' bounds' (lists ++ xs ∷ [])
+pub flat-more : (items bounds items' bounds' xs : List ℕ) (lists : List (List ℕ)) (n : ℕ)
+    → IsFlat items bounds lists → items' ≡ items ++ xs → bounds' ≡ bounds ++ n ∷ []
+    → n ≡ length items' → IsFlat items' bounds' (lists ++ xs ∷ [])
 unfolding between
 flat-more items bounds items' bounds' xs lists n f ei eb en =
     let count = f.count in
@@ -51,13 +57,15 @@ flat-more items bounds items' bounds' xs lists n f ei eb en =
     let old : (k : ℕ) → k ≤ length lists → slice_index bounds' k ≡ slice_index bounds k = λ k l.
     ap (λ (ys : List ℕ). slice_index ys k) eb ∙ get_or_append_left bounds (n ∷ []) 0 k (omega arith) in
     let new' : slice_index bounds' (length lists + 1) ≡ n =
-    ap (λ (ys : List ℕ). slice_index ys (length lists + 1)) eb ∙ get_or_push bounds n 0 (length lists + 1) (omega arith) in
+    ap (λ (ys : List ℕ). slice_index ys (length lists + 1)) eb
+    ∙ get_or_push bounds n 0 (length lists + 1) (omega arith) in
     record {
       count = omega arith;
       last = ap (slice_index bounds') ll ∙ new' ∙ en;
       rising = λ k l.
           ⊎_elim
-          (λ less. let a = old k (omega arith) in let b = old (k + 1) (omega arith) in let h = f.rising k less in omega arith)
+          (λ less. let a = old k (omega arith) in let b = old (k + 1)
+          (omega arith) in let h = f.rising k less in omega arith)
           (λ more.
           let here : k ≡ length lists = omega arith in
           let a = old k (omega arith) in
@@ -105,7 +113,10 @@ flat-more items bounds items' bounds' xs lists n f ei eb en =
     }
 
 -- what a look-up reads
-pub flat_read : (items bounds part : List ℕ) (lists value : List (List ℕ)) (k a b : ℕ) → IsFlat items bounds lists → lists ≡ value → k < length value → a ≡ get_or bounds k a → b ≡ get_or bounds (k + 1) b → part ≡ items → take (b - a) (drop a part) ≡ slice_index_or value k []
+pub flat_read : (items bounds part : List ℕ) (lists value : List (List ℕ)) (k a b : ℕ)
+    → IsFlat items bounds lists → lists ≡ value → k < length value → a ≡ get_or bounds k a
+    → b ≡ get_or bounds (k + 1) b → part ≡ items
+    → take (b - a) (drop a part) ≡ slice_index_or value k []
 unfolding between
 flat_read items bounds part lists value k a b f e l ea eb ep =
     let n = ap (λ (xs : List (List ℕ)). length xs) e in
@@ -118,8 +129,12 @@ flat_read items bounds part lists value k a b f e l ea eb ep =
     ∙ f.each k (omega arith)
     ∙ ap (λ (xs : List (List ℕ)). slice_index_or xs k []) e
 
-pub between_is : (items bounds part marks : List ℕ) (k : ℕ) → part ≡ items → marks ≡ bounds → take (slice_index marks (k + 1) - slice_index marks k) (drop (slice_index marks k) part) ≡ between items bounds k
+pub between_is : (items bounds part marks : List ℕ) (k : ℕ) → part ≡ items → marks ≡ bounds
+    → take (slice_index marks (k + 1) - slice_index marks k) (drop (slice_index marks k) part)
+    ≡ between items bounds k
 unfolding between
 between_is items bounds part marks k ep eb =
-    ap (λ (xs : List ℕ). take (slice_index marks (k + 1) - slice_index marks k) (drop (slice_index marks k) xs)) ep
-    ∙ ap (λ (xs : List ℕ). take (slice_index xs (k + 1) - slice_index xs k) (drop (slice_index xs k) items)) eb
+    ap (λ (xs : List ℕ). take (slice_index marks (k + 1) - slice_index marks k)
+    (drop (slice_index marks k) xs)) ep
+    ∙ ap (λ (xs : List ℕ). take (slice_index xs (k + 1) - slice_index xs k)
+    (drop (slice_index xs k) items)) eb

@@ -15,7 +15,8 @@ count_one f (suc n) i l t =
     (λ more. let e : i ≡ n = omega arith in let one = one_more (f n) (ap f (sym e) ∙ t) in omega arith)
     (cases_lt i n)
 
-pub count_two : (f : ℕ → Bool) (n i j : ℕ) → i < j → j < n → f i ≡ true → f j ≡ true → 2 ≤ count_below f n
+pub count_two : (f : ℕ → Bool) (n i j : ℕ) → i < j → j < n → f i ≡ true → f j ≡ true
+    → 2 ≤ count_below f n
 count_two f zero i j l k t u = absurd (omega arith)
 count_two f (suc n) i j l k t u =
     ⊎_elim
@@ -58,21 +59,38 @@ count_some_two f (suc n) l =
     ⊎_elim
     (λ t. let e = one_more (f n) t in
     let r = count_some f n (omega arith) in
-    record { first = r.number; second = n; apart = r.below; below = omega arith; first_passes = r.passes; second_passes = t })
+    record {
+      first = r.number;
+      second = n;
+      apart = r.below;
+      below = omega arith;
+      first_passes = r.passes;
+      second_passes = t;
+    })
     (λ u. let e = no_more (f n) u in
     let r = count_some_two f n (omega arith) in
-    record { first = r.first; second = r.second; apart = r.apart; below = omega (arith, r.below); first_passes = r.first_passes; second_passes = r.second_passes })
+    record {
+      first = r.first;
+      second = r.second;
+      apart = r.apart;
+      below = omega (arith, r.below);
+      first_passes = r.first_passes;
+      second_passes = r.second_passes;
+    })
     (cases_Bool (f n))
 
 pub sum_le : (f g : ℕ → ℕ) (n : ℕ) → ((i : ℕ) → i < n → f i ≤ g i) → sum_below f n ≤ sum_below g n
 sum_le f g zero h = omega arith
-sum_le f g (suc n) h = let ih = sum_le f g n (λ i l. h i (omega arith)) in let here = h n (omega arith) in omega arith
+sum_le f g (suc n) h = let ih = sum_le f g n (λ i l. h i (omega arith)) in let here =
+    h n (omega arith) in omega arith
 
-pub sum_lt : (f g : ℕ → ℕ) (n i : ℕ) → ((i : ℕ) → i < n → f i ≤ g i) → i < n → f i < g i → sum_below f n < sum_below g n
+pub sum_lt : (f g : ℕ → ℕ) (n i : ℕ) → ((i : ℕ) → i < n → f i ≤ g i) → i < n → f i < g i
+    → sum_below f n < sum_below g n
 sum_lt f g zero i h l less = absurd (omega arith)
 sum_lt f g (suc n) i h l less =
     ⊎_elim
-    (λ b. let ih = sum_lt f g n i (λ j k. h j (omega arith)) b less in let here = h n (omega arith) in omega arith)
+    (λ b. let ih = sum_lt f g n i (λ j k. h j (omega arith)) b less in let here = h n
+    (omega arith) in omega arith)
     (λ m. let e : i ≡ n = omega arith in
     let ih = sum_le f g n (λ j k. h j (omega arith)) in
     let here = subst (λ (j : ℕ). f j < g j) e less in
@@ -81,4 +99,5 @@ sum_lt f g (suc n) i h l less =
 
 pub sum_same : (f g : ℕ → ℕ) (n : ℕ) → ((i : ℕ) → i < n → f i ≡ g i) → sum_below f n ≡ sum_below g n
 sum_same f g zero h = refl
-sum_same f g (suc n) h = let ih = sum_same f g n (λ i l. h i (omega arith)) in let here = h n (omega arith) in omega arith
+sum_same f g (suc n) h = let ih = sum_same f g n (λ i l. h i (omega arith)) in let here =
+    h n (omega arith) in omega arith

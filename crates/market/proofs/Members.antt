@@ -14,7 +14,9 @@ use Rattle.market.proofs.Turns.{one_more, no_more}
 
 pub range_more : (k : ℕ) → range_with_len 0 (k + 1) ≡ range_with_len 0 k ++ k ∷ []
 range_more k =
-    sym (map-id (range_with_len 0 (k + 1))) ∙ map-range_with_len_more (λ (x : ℕ). x) 0 k k (omega arith) ∙ ap (λ (xs : List ℕ). xs ++ k ∷ []) (map-id (range_with_len 0 k))
+    sym (map-id (range_with_len 0 (k + 1)))
+    ∙ map-range_with_len_more (λ (x : ℕ). x) 0 k k (omega arith)
+    ∙ ap (λ (xs : List ℕ). xs ++ k ∷ []) (map-id (range_with_len 0 k))
 
 kept_step : (b : Bool) (k : ℕ) (xs : List ℕ) → b ≡ true → xs ++ cond b (k ∷ []) [] ≡ xs ++ k ∷ []
 kept_step b k xs e = ap (λ (x : Bool). xs ++ cond x (k ∷ []) []) e
@@ -22,17 +24,23 @@ kept_step b k xs e = ap (λ (x : Bool). xs ++ cond x (k ∷ []) []) e
 dropped_step : (b : Bool) (k : ℕ) (xs : List ℕ) → b ≡ false → xs ++ cond b (k ∷ []) [] ≡ xs ++ []
 dropped_step b k xs e = ap (λ (x : Bool). xs ++ cond x (k ∷ []) []) e
 
-pub kept_more : (f : ℕ → Bool) (k : ℕ) (found more : List ℕ) → found ≡ filter f (range_with_len 0 k) → f k ≡ true → more ≡ found ++ k ∷ [] → more ≡ filter f (range_with_len 0 (k + 1))
+pub kept_more : (f : ℕ → Bool) (k : ℕ) (found more : List ℕ) → found ≡ filter f (range_with_len 0 k)
+    → f k ≡ true → more ≡ found ++ k ∷ [] → more ≡ filter f (range_with_len 0 (k + 1))
 kept_more f k found more e t m =
-    m ∙ ap (λ (xs : List ℕ). xs ++ k ∷ []) e ∙ sym (kept_step (f k) k (filter f (range_with_len 0 k)) t) ∙ sym (filter-append f (range_with_len 0 k) (k ∷ [])) ∙ ap (filter f) (sym (range_more k))
+    m ∙ ap (λ (xs : List ℕ). xs ++ k ∷ []) e
+    ∙ sym (kept_step (f k) k (filter f (range_with_len 0 k)) t)
+    ∙ sym (filter-append f (range_with_len 0 k) (k ∷ [])) ∙ ap (filter f) (sym (range_more k))
 
 nil_right : (xs : List ℕ) → xs ++ [] ≡ xs
 nil_right [] = refl
 nil_right (x ∷ xs) = ap (λ (ys : List ℕ). x ∷ ys) (nil_right xs)
 
-pub dropped_more : (f : ℕ → Bool) (k : ℕ) (found : List ℕ) → found ≡ filter f (range_with_len 0 k) → f k ≡ false → found ≡ filter f (range_with_len 0 (k + 1))
+pub dropped_more : (f : ℕ → Bool) (k : ℕ) (found : List ℕ) → found ≡ filter f (range_with_len 0 k)
+    → f k ≡ false → found ≡ filter f (range_with_len 0 (k + 1))
 dropped_more f k found e t =
-    e ∙ sym (nil_right (filter f (range_with_len 0 k))) ∙ sym (dropped_step (f k) k (filter f (range_with_len 0 k)) t) ∙ sym (filter-append f (range_with_len 0 k) (k ∷ [])) ∙ ap (filter f) (sym (range_more k))
+    e ∙ sym (nil_right (filter f (range_with_len 0 k)))
+    ∙ sym (dropped_step (f k) k (filter f (range_with_len 0 k)) t)
+    ∙ sym (filter-append f (range_with_len 0 k) (k ∷ [])) ∙ ap (filter f) (sym (range_more k))
 
 pub count_le : (f : ℕ → Bool) (n : ℕ) → count_below f n ≤ n
 count_le f zero = omega arith
@@ -46,12 +54,18 @@ count_le f (suc n) =
 -- how many of the first k programmes have each type
 pub record IsCounts (programmes : List Prog) (types : ℕ) (counts : List ℕ) (k : ℕ) : Type 0 where
   pub count : length counts ≡ types
-  pub each : (t : ℕ) → t < types → slice_index counts t ≡ count_below (λ q. kind_in programmes q == t) k
+  pub each : (t : ℕ) → t < types
+      → slice_index counts t ≡ count_below (λ q. kind_in programmes q == t) k
 
-counts_suc : (programmes : List Prog) (types k : ℕ) (counts : List ℕ) → IsCounts programmes types counts (suc k) → IsCounts programmes types counts (k + 1)
-counts_suc ps types k counts c = let e : suc k ≡ k + 1 = omega arith in subst (IsCounts ps types counts) e c
+counts_suc : (programmes : List Prog) (types k : ℕ) (counts : List ℕ)
+    → IsCounts programmes types counts (suc k) → IsCounts programmes types counts (k + 1)
+counts_suc ps types k counts c = let e : suc k ≡ k + 1 = omega arith in
+    subst (IsCounts ps types counts) e c
 
-pub IsCounts-more : (programmes : List Prog) (types k : ℕ) (counts : List ℕ) → kind_in programmes k < types → IsCounts programmes types counts k → IsCounts programmes types (set counts (kind_in programmes k) (slice_index counts (kind_in programmes k) + 1)) (k + 1)
+pub IsCounts-more : (programmes : List Prog) (types k : ℕ) (counts : List ℕ)
+    → kind_in programmes k < types → IsCounts programmes types counts k
+    → IsCounts programmes types
+    (set counts (kind_in programmes k) (slice_index counts (kind_in programmes k) + 1)) (k + 1)
 IsCounts-more ps types k counts l c =
     let u = kind_in ps k in
     let n = c.count in
@@ -61,7 +75,8 @@ IsCounts-more ps types k counts l c =
           let h = c.each t lt in
           ⊎_elim
           (λ same.
-          let w = ap (slice_index (set counts u (slice_index counts u + 1))) same ∙ get_or-set_same counts u (slice_index counts u + 1) 0 (omega arith) in
+          let w = ap (slice_index (set counts u (slice_index counts u + 1))) same
+          ∙ get_or-set_same counts u (slice_index counts u + 1) 0 (omega arith) in
           let v = ap (slice_index counts) same in
           let one = one_more (u == t) (eq-eqb u t (sym same)) in
           omega arith)
@@ -72,9 +87,13 @@ IsCounts-more ps types k counts l c =
           (cases_eq t u);
     })
 
-pub IsLocals-more : (programmes : List Prog) (types k x : ℕ) (counts locals more : List ℕ) → kind_in programmes k < types → IsCounts programmes types counts k → IsLocals programmes locals k → x ≡ slice_index counts (kind_in programmes k) → more ≡ locals ++ x ∷ [] → IsLocals programmes more (k + 1)
+pub IsLocals-more : (programmes : List Prog) (types k x : ℕ) (counts locals more : List ℕ)
+    → kind_in programmes k < types → IsCounts programmes types counts k
+    → IsLocals programmes locals k → x ≡ slice_index counts (kind_in programmes k)
+    → more ≡ locals ++ x ∷ [] → IsLocals programmes more (k + 1)
 IsLocals-more ps types k x counts locals more l c s e m = record {
-  count = let n = s.count in ap (λ (xs : List ℕ). length xs) m ∙ length_push locals x ∙ (omega arith);
+  count =
+      let n = s.count in ap (λ (xs : List ℕ). length xs) m ∙ length_push locals x ∙ (omega arith);
   each = λ p lp.
       let n = s.count in
       ap (λ (xs : List ℕ). slice_index xs p) m
@@ -82,11 +101,13 @@ IsLocals-more ps types k x counts locals more l c s e m = record {
       (λ less. get_or_append_left locals (x ∷ []) 0 p (omega arith) ∙ s.each p less)
       (λ more'.
       let same : k ≡ p = omega arith in
-      get_or_push locals x 0 p (s.count ∙ same) ∙ e ∙ c.each (kind_in ps k) l ∙ ap (λ (j : ℕ). count_below (λ q. kind_in ps q == kind_in ps j) j) same)
+      get_or_push locals x 0 p (s.count ∙ same) ∙ e ∙ c.each (kind_in ps k) l
+      ∙ ap (λ (j : ℕ). count_below (λ q. kind_in ps q == kind_in ps j) j) same)
       (cases_lt p k);
 }
 
-pub IsCounts-none : (programmes : List Prog) (types : ℕ) (counts : List ℕ) → counts ≡ Rattle.std.proofs.Common.replicate types 0 → IsCounts programmes types counts 0
+pub IsCounts-none : (programmes : List Prog) (types : ℕ) (counts : List ℕ)
+    → counts ≡ Rattle.std.proofs.Common.replicate types 0 → IsCounts programmes types counts 0
 IsCounts-none ps types counts e = record {
   count = ap (λ (xs : List ℕ). length xs) e ∙ length-replicate types 0;
   each = λ t lt. ap (λ (xs : List ℕ). slice_index xs t) e ∙ get_or-replicate types t 0 0 lt;

@@ -15,7 +15,8 @@ use Rattle.market.proofs.Turns.{is_open, is_open-true, is_open-from, picked-find
 
 -- ---- turns
 
-pub turn_at : (m : Problem) → IsValid m → (t k : ℕ) → t < m.types → k < length (order_of m t) → turn_of m t (slice_index (order_of m t) k) ≡ k
+pub turn_at : (m : Problem) → IsValid m → (t k : ℕ) → t < m.types → k < length (order_of m t)
+    → turn_of m t (slice_index (order_of m t) k) ≡ k
 unfolding turn_of
 turn_at m v t k lt lk =
     let x = slice_index (order_of m t) k in
@@ -23,7 +24,8 @@ turn_at m v t k lt lk =
     (λ j l. ne_eqb (slice_index (order_of m t) j) x (v.order_distinct t lt j k l lk))
     (λ l. eq-eqb x x refl)
 
-pub candidate_at : (m : Problem) (t i : ℕ) → turn_of m t i < length (order_of m t) → slice_index (order_of m t) (turn_of m t i) ≡ i
+pub candidate_at : (m : Problem) (t i : ℕ) → turn_of m t i < length (order_of m t)
+    → slice_index (order_of m t) (turn_of m t i) ≡ i
 unfolding turn_of
 candidate_at m t i l = place_get i (order_of m t) 0 l
 
@@ -33,15 +35,20 @@ get-chosen d (suc n) k l =
     let e = ap (λ (xs : List (Option ℕ)). get_or xs k None) (chosen-suc d n) in
     let len = length-chosen d n in
     ⊎_elim
-    (λ less. e ∙ get_or_append_left (chosen d n) (picked d n ∷ []) None k (omega arith) ∙ get-chosen d n k less)
-    (λ more. let same : n ≡ k = omega arith in e ∙ get_or_push (chosen d n) (picked d n) None k (len ∙ same) ∙ ap (picked d) same)
+    (λ less. e ∙ get_or_append_left (chosen d n) (picked d n ∷ []) None k (omega arith)
+    ∙ get-chosen d n k less)
+    (λ more. let same : n ≡ k =
+    omega arith in e ∙ get_or_push (chosen d n) (picked d n) None k (len ∙ same)
+    ∙ ap (picked d) same)
     (cases_lt k n)
 
 -- ---- the dictatorship of a type
 
-pub type-quota : (m : Problem) (cuts : List ℕ) (t p : ℕ) → slice_index (type_dictatorship m cuts t).quota p ≡ quota_of m p
+pub type-quota : (m : Problem) (cuts : List ℕ) (t p : ℕ)
+    → slice_index (type_dictatorship m cuts t).quota p ≡ quota_of m p
 unfolding type_dictatorship quota_of
-type-quota m cuts t p = get_or-map_past (λ (q : Prog). q.quota) m.programmes p (record { kind = 0; quota = 0 })
+type-quota m cuts t p =
+    get_or-map_past (λ (q : Prog). q.quota) m.programmes p (record { kind = 0; quota = 0 })
 
 pub zeros : (n p : ℕ) → slice_index (replicate n 0) p ≡ 0
 zeros n p =
@@ -50,15 +57,18 @@ zeros n p =
     (λ past. let e = length-replicate {A = ℕ} n 0 in get_or_past (replicate n 0) p 0 (omega arith))
     (cases_lt p n)
 
-pub type-fill : (m : Problem) (cuts : List ℕ) (t p : ℕ) → slice_index (type_dictatorship m cuts t).fill p ≡ 0
+pub type-fill : (m : Problem) (cuts : List ℕ) (t p : ℕ)
+    → slice_index (type_dictatorship m cuts t).fill p ≡ 0
 unfolding type_dictatorship
 type-fill m cuts t p = zeros (length m.programmes) p
 
-pub type-list : (m : Problem) (cuts : List ℕ) (t k : ℕ) → k < length (order_of m t) → list_at (type_dictatorship m cuts t) k ≡ turn_list m cuts t (slice_index (order_of m t) k)
+pub type-list : (m : Problem) (cuts : List ℕ) (t k : ℕ) → k < length (order_of m t)
+    → list_at (type_dictatorship m cuts t) k ≡ turn_list m cuts t (slice_index (order_of m t) k)
 unfolding type_dictatorship list_at
 type-list m cuts t k l = get_or-map (turn_list m cuts t) (order_of m t) k 0 [] l
 
-pub type-list_past : (m : Problem) (cuts : List ℕ) (t k : ℕ) → length (order_of m t) ≤ k → list_at (type_dictatorship m cuts t) k ≡ []
+pub type-list_past : (m : Problem) (cuts : List ℕ) (t k : ℕ) → length (order_of m t) ≤ k
+    → list_at (type_dictatorship m cuts t) k ≡ []
 unfolding type_dictatorship list_at
 type-list_past m cuts t k l =
     let e = length-map (order_of m t) (turn_list m cuts t) in
@@ -83,22 +93,29 @@ seats_before m cuts t i p = taken (type_dictatorship m cuts t) (turn_of m t i) p
 unfoldable pub picks : Problem → List ℕ → ℕ → ℕ → ℕ → Bool
 picks m cuts t i p = is_offered m t i p && is_open (type_dictatorship m cuts t) (turn_of m t i) p
 
-pub tentative-picked : (m : Problem) (cuts : List ℕ) (t i : ℕ) → turn_of m t i < length (order_of m t) → tentative m cuts t i ≡ picked (type_dictatorship m cuts t) (turn_of m t i)
+pub tentative-picked : (m : Problem) (cuts : List ℕ) (t i : ℕ)
+    → turn_of m t i < length (order_of m t)
+    → tentative m cuts t i ≡ picked (type_dictatorship m cuts t) (turn_of m t i)
 unfolding tentative
-tentative-picked m cuts t i l = get-chosen (type_dictatorship m cuts t) (length (order_of m t)) (turn_of m t i) l
+tentative-picked m cuts t i l =
+    get-chosen (type_dictatorship m cuts t) (length (order_of m t)) (turn_of m t i) l
 
-pub tentative-turn : (m : Problem) (cuts : List ℕ) (t i p : ℕ) → tentative m cuts t i ≡ Some p → turn_of m t i < length (order_of m t)
+pub tentative-turn : (m : Problem) (cuts : List ℕ) (t i p : ℕ) → tentative m cuts t i ≡ Some p
+    → turn_of m t i < length (order_of m t)
 unfolding tentative
 tentative-turn m cuts t i p e =
     let d = type_dictatorship m cuts t in
     let len = length-chosen d (length (order_of m t)) in
     ⊎_elim
     (λ l. l)
-    (λ past. absurd (none-some p (sym (get_or_past (chosen d (length (order_of m t))) (turn_of m t i) None (omega arith)) ∙ e)))
+    (λ past. absurd (none-some p
+    (sym (get_or_past (chosen d (length (order_of m t))) (turn_of m t i) None (omega arith))
+    ∙ e)))
     (cases_lt (turn_of m t i) (length (order_of m t)))
 
 -- it is the first entry within the cut that the turn may take
-pub tentative-find : (m : Problem) (cuts : List ℕ) (t i : ℕ) → turn_of m t i < length (order_of m t) → tentative m cuts t i ≡ find (picks m cuts t i) (take (slice_index cuts i) (list_of m i))
+pub tentative-find : (m : Problem) (cuts : List ℕ) (t i : ℕ) → turn_of m t i < length (order_of m t)
+    → tentative m cuts t i ≡ find (picks m cuts t i) (take (slice_index cuts i) (list_of m i))
 unfolding turn_list picks
 tentative-find m cuts t i l =
     let d = type_dictatorship m cuts t in
@@ -116,13 +133,15 @@ pub record Takes (m : Problem) (cuts : List ℕ) (t i p : ℕ) : Type 0 where
   pub within : place_of p (list_of m i) < slice_index cuts i
   pub room : seats_before m cuts t i p < quota_of m p
 
-pub tentative-takes : (m : Problem) (cuts : List ℕ) (t i p : ℕ) → tentative m cuts t i ≡ Some p → Takes m cuts t i p
+pub tentative-takes : (m : Problem) (cuts : List ℕ) (t i p : ℕ) → tentative m cuts t i ≡ Some p
+    → Takes m cuts t i p
 unfolding picks seats_before
 tentative-takes m cuts t i p e =
     let d = type_dictatorship m cuts t in
     let k = turn_of m t i in
     let l = tentative-turn m cuts t i p e in
-    let f = find_take (picks m cuts t i) (list_of m i) (slice_index cuts i) p (sym (tentative-find m cuts t i l) ∙ e) in
+    let f = find_take (picks m cuts t i) (list_of m i) (slice_index cuts i) p
+    (sym (tentative-find m cuts t i l) ∙ e) in
     let both = and_parts (is_offered m t i p) (is_open d k p) f.passes in
     let room = is_open-true d k p both.1 in
     let q = type-quota m cuts t p in
@@ -150,5 +169,11 @@ takes_by m cuts t i p r =
     let z = type-fill m cuts t p in
     let room = r.room in
     let open' = is_open-from d k p (omega arith) in
-    let f = find_first_take (picks m cuts t i) (list_of m i) (slice_index cuts i) p (and_from (is_offered m t i p) (is_open d k p) r.offered open') r.within r.listed in
-    record { entry = f.entry; takes = tentative-find m cuts t i r.turn ∙ f.found; no_later = f.no_later }
+    let f = find_first_take (picks m cuts t i) (list_of m i) (slice_index cuts i) p
+    (and_from (is_offered m t i p) (is_open d k p) r.offered open') r.within r.listed in
+    record {
+      entry =
+          f.entry;
+      takes = tentative-find m cuts t i r.turn ∙ f.found;
+      no_later = f.no_later;
+    }

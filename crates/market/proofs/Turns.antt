@@ -12,11 +12,13 @@ use Rattle.market.proofs.Firsts.{find_passes, find_free}
 unfoldable pub is_open : Dictatorship → ℕ → ℕ → Bool
 is_open d k p = has_seat d (chosen d k) p
 
-pub is_open-true : (d : Dictatorship) (k p : ℕ) → is_open d k p ≡ true → slice_index d.fill p + taken d k p < slice_index d.quota p
+pub is_open-true : (d : Dictatorship) (k p : ℕ) → is_open d k p ≡ true
+    → slice_index d.fill p + taken d k p < slice_index d.quota p
 unfolding is_open has_seat taken
 is_open-true d k p e = ltb-true _ _ e
 
-pub is_open-from : (d : Dictatorship) (k p : ℕ) → slice_index d.fill p + taken d k p < slice_index d.quota p → is_open d k p ≡ true
+pub is_open-from : (d : Dictatorship) (k p : ℕ)
+    → slice_index d.fill p + taken d k p < slice_index d.quota p → is_open d k p ≡ true
 unfolding is_open has_seat taken
 is_open-from d k p l = lt-ltb _ _ l
 
@@ -45,9 +47,12 @@ unfolding taken
 taken-zero d p = ap (count_of p) (chosen-zero d)
 
 -- one more where the turn takes p
-pub taken-suc : (d : Dictatorship) (k p : ℕ) → taken d (suc k) p ≡ taken d k p + cond (is_programme p (picked d k)) 1 0
+pub taken-suc : (d : Dictatorship) (k p : ℕ)
+    → taken d (suc k) p ≡ taken d k p + cond (is_programme p (picked d k)) 1 0
 unfolding taken
-taken-suc d k p = ap (count_of p) (chosen-suc d k) ∙ sum_by_push (λ o. cond (is_programme p o) 1 0) (chosen d k) (picked d k)
+taken-suc d k p =
+    ap (count_of p) (chosen-suc d k)
+    ∙ sum_by_push (λ o. cond (is_programme p o) 1 0) (chosen d k) (picked d k)
 
 pub one_more : (b : Bool) → b ≡ true → cond {A = ℕ} b 1 0 ≡ 1
 one_more b e = ap (λ (x : Bool). cond {A = ℕ} x 1 0) e
@@ -73,7 +78,8 @@ pub picked-open : (d : Dictatorship) (k p : ℕ) → picked d k ≡ Some p → i
 picked-open d k p e = find_passes (is_open d k) (list_at d k) p (sym (picked-find d k) ∙ e)
 
 -- no programme is filled past its quota
-pub taken-le-quota : (d : Dictatorship) (p : ℕ) → slice_index d.fill p ≤ slice_index d.quota p → (k : ℕ) → slice_index d.fill p + taken d k p ≤ slice_index d.quota p
+pub taken-le-quota : (d : Dictatorship) (p : ℕ) → slice_index d.fill p ≤ slice_index d.quota p
+    → (k : ℕ) → slice_index d.fill p + taken d k p ≤ slice_index d.quota p
 taken-le-quota d p h zero = let e = taken-zero d p in omega arith
 taken-le-quota d p h (suc k) =
     let e = taken-suc d k p in
@@ -87,7 +93,9 @@ taken-le-quota d p h (suc k) =
     (cases_Bool (is_programme p (picked d k)))
 
 -- a programme that is open under the older lists is open under the newer ones
-open_free : (older newer : Dictatorship) → ShortensLists older newer → (k : ℕ) → ((q : ℕ) → taken newer k q ≤ taken older k q) → (p : ℕ) → is_open older k p ≡ true → is_open newer k p ≡ true
+open_free : (older newer : Dictatorship) → ShortensLists older newer → (k : ℕ)
+    → ((q : ℕ) → taken newer k q ≤ taken older k q) → (p : ℕ) → is_open older k p ≡ true
+    → is_open newer k p ≡ true
 open_free older newer s k ih p o =
     let l = is_open-true older k p o in
     let h = ih p in
@@ -96,14 +104,19 @@ open_free older newer s k ih p o =
     is_open-from newer k p (omega arith)
 
 -- what the newer list takes and is open under the older ones is taken under the older ones
-picked_free : (older newer : Dictatorship) → ShortensLists older newer → (k : ℕ) → ((q : ℕ) → taken newer k q ≤ taken older k q) → (p : ℕ) → picked newer k ≡ Some p → is_open older k p ≡ true → picked older k ≡ Some p
+picked_free : (older newer : Dictatorship) → ShortensLists older newer → (k : ℕ)
+    → ((q : ℕ) → taken newer k q ≤ taken older k q) → (p : ℕ) → picked newer k ≡ Some p
+    → is_open older k p ≡ true → picked older k ≡ Some p
 picked_free older newer s k ih p e o =
     let rest = s.lists k in
-    let found = find_free (is_open older k) (is_open newer k) (open_free older newer s k ih) (list_at newer k) rest.0 p (sym (picked-find newer k) ∙ e) o in
+    let found =
+    find_free (is_open older k) (is_open newer k) (open_free older newer s k ih)
+    (list_at newer k) rest.0 p (sym (picked-find newer k) ∙ e) o in
     picked-find older k ∙ ap (find (is_open older k)) (sym rest.1) ∙ found
 
 -- with shorter lists each programme has at every turn at most as many seats taken
-pub shorter_lists_free_seats : (older newer : Dictatorship) → ShortensLists older newer → FreesSeats older newer
+pub shorter_lists_free_seats : (older newer : Dictatorship) → ShortensLists older newer
+    → FreesSeats older newer
 shorter_lists_free_seats older newer s zero p = let e = taken-zero newer p in omega arith
 shorter_lists_free_seats older newer s (suc k) p =
     let ih = shorter_lists_free_seats older newer s k in

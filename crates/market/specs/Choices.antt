@@ -28,7 +28,8 @@ pub record IsRound (m : Problem) (cuts : List ℕ) (table : List (List (Option �
 pub record IsWithinCuts (m : Problem) (table : List (List (Option ℕ))) (cuts : List ℕ) : Type 0 where
   pub kind : (t i p : ℕ) → choice_in table t i ≡ Some p → kind_of m p ≡ t
   pub turn : (t i p : ℕ) → choice_in table t i ≡ Some p → turn_of m t i < length (order_of m t)
-  pub within : (t i p : ℕ) → choice_in table t i ≡ Some p → place_of p (list_of m i) < slice_index cuts i
+  pub within : (t i p : ℕ) → choice_in table t i ≡ Some p
+      → place_of p (list_of m i) < slice_index cuts i
 
 -- the best choice of each candidate
 unfoldable pub placed_in : Problem → (ℕ → ℕ → Option ℕ) → List (Option ℕ)

@@ -29,10 +29,12 @@ type_items programmes locals lists t i =
 
 -- the places of a candidate's programmes of a type
 unfoldable pub type_places : List Prog → List (List ℕ) → ℕ → ℕ → List ℕ
-type_places programmes lists t i = places_from (λ p. kind_in programmes p == t) 0 (slice_index_or lists i [])
+type_places programmes lists t i =
+    places_from (λ p. kind_in programmes p == t) 0 (slice_index_or lists i [])
 
 -- the lists of the turns of a type, with their places
-pub record IsTypeLists (programmes : List Prog) (locals : List ℕ) (lists : List (List ℕ)) (t : ℕ) (order : List ℕ) (f : FlatTypeLists) : Type 0 where
+pub record IsTypeLists (programmes : List Prog) (locals : List ℕ) (lists : List (List ℕ)) (t : ℕ)
+    (order : List ℕ) (f : FlatTypeLists) : Type 0 where
   pub items : IsFlat f.items f.bounds (map (type_items programmes locals lists t) order)
   pub places : IsFlat f.places f.bounds (map (type_places programmes lists t) order)
 
@@ -43,9 +45,11 @@ type_lists_at found t = slice_index_or found t (record { items = []; places = []
 -- for each type its lists in turn order
 pub record HasTypeLists (m : Problem) (locals : List ℕ) (found : List FlatTypeLists) : Type 0 where
   pub count : length found ≡ m.types
-  pub each : (t : ℕ) → t < m.types → IsTypeLists m.programmes locals m.lists t (order_of m t) (type_lists_at found t)
+  pub each : (t : ℕ) → t < m.types
+      → IsTypeLists m.programmes locals m.lists t (order_of m t) (type_lists_at found t)
 
 -- all that a market keeps beside its problem
-pub record HasParts (m : Problem) (tables members : List (List ℕ)) (locals : List ℕ) (found : List FlatTypeLists) : Type 0 where
+pub record HasParts (m : Problem) (tables members : List (List ℕ)) (locals : List ℕ)
+    (found : List FlatTypeLists) : Type 0 where
   pub has_tables : HasTables m tables members locals
   pub has_type_lists : HasTypeLists m locals found

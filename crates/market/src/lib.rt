@@ -33,7 +33,6 @@ mod build;
 mod type_lists;
 // Lists that lie one after another in one vector.
 mod flat_lists;
-
 #[cfg(test)]
 mod tests;
 

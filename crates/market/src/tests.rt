@@ -59,7 +59,12 @@ fn looks_up_what_it_was_built_of(rt: HostRuntime) -> Result<(), Fail> {
 }
 
 // The lists of a type's turns up to these cuts, each with a 9 at its end.
-fn turn_lists(alloc: Global, market: &Market, cuts: &Cuts, kind: u32) -> Result<Vec<u32>, AllocError>
+fn turn_lists(
+    alloc: Global,
+    market: &Market,
+    cuts: &Cuts,
+    kind: u32,
+) -> Result<Vec<u32>, AllocError>
     requires kind { kind < market.now.types }
     requires cuts { IsCuts market.now cuts.now }
 {

@@ -16,11 +16,25 @@ loop-place-preserved c =
     let g = slice_index c.args.locals.now in
     elim c.if-programmes-index.branch [
       | then-programmes-index+in_ok-push+in_ok-push-2 w ↦ record {
-        items = items_more g f xs c.args.items.now.items c.loop-place.items.items _ k c.loop-place-test.true (eq-eqb kind t w.if-programmes-index.true) c.loop-place.invariant.items (ap (λ (v : Vec ℕ Global). v.items) w.items-is ∙ w.in_ok-push.ensures.items);
-        places = places_more f xs c.args.places.now.items c.loop-place.places.items _ k c.loop-place-test.true (eq-eqb kind t w.if-programmes-index.true) c.loop-place.invariant.places (ap (λ (v : Vec ℕ Global). v.items) w.places-is ∙ w.in_ok-push-2.ensures.items);
+        items = items_more g f xs c.args.items.now.items c.loop-place.items.items _ k
+            c.loop-place-test.true (eq-eqb kind t w.if-programmes-index.true)
+            c.loop-place.invariant.items
+            (ap (λ (v : Vec ℕ Global). v.items) w.items-is ∙ w.in_ok-push.ensures.items);
+        places = places_more f xs c.args.places.now.items c.loop-place.places.items _ k
+            c.loop-place-test.true (eq-eqb kind t w.if-programmes-index.true)
+            c.loop-place.invariant.places
+            (ap (λ (v : Vec ℕ Global). v.items) w.places-is ∙ w.in_ok-push-2.ensures.items);
       }
       | else-programmes-index w ↦ record {
-        items = ap (λ (v : Vec ℕ Global). v.items) w.items-is ∙ items_same g f xs c.args.items.now.items c.loop-place.items.items k c.loop-place-test.true (ne_eqb kind t w.if-programmes-index.false) c.loop-place.invariant.items;
-        places = ap (λ (v : Vec ℕ Global). v.items) w.places-is ∙ places_same f xs c.args.places.now.items c.loop-place.places.items k c.loop-place-test.true (ne_eqb kind t w.if-programmes-index.false) c.loop-place.invariant.places;
+        items =
+            ap (λ (v : Vec ℕ Global). v.items) w.items-is
+            ∙ items_same g f xs c.args.items.now.items c.loop-place.items.items k
+            c.loop-place-test.true (ne_eqb kind t w.if-programmes-index.false)
+            c.loop-place.invariant.items;
+        places =
+            ap (λ (v : Vec ℕ Global). v.items) w.places-is
+            ∙ places_same f xs c.args.places.now.items c.loop-place.places.items k
+            c.loop-place-test.true (ne_eqb kind t w.if-programmes-index.false)
+            c.loop-place.invariant.places;
       }
     ]

@@ -16,10 +16,15 @@ pub loop-candidate-preserved : goal.loop-candidate-preserved
 unfolding list_of
 loop-candidate-preserved c =
     let n = c.candidate_count-candidate-end.ensures.count in
-    map_next (λ (list : List ℕ). length list) c.args.market.now.lists c.loop-candidate.candidate [] (length c.list-entries.result.now) c.loop-candidate.lengths.items c.push.new.self.items (omega arith) c.loop-candidate.invariant (ap (λ (xs : List ℕ). length xs) c.list-entries.ensures) c.in_ok-push.ensures.items
+    map_next (λ (list : List ℕ). length list) c.args.market.now.lists c.loop-candidate.candidate []
+    (length c.list-entries.result.now) c.loop-candidate.lengths.items c.push.new.self.items
+    (omega arith) c.loop-candidate.invariant
+    (ap (λ (xs : List ℕ). length xs) c.list-entries.ensures) c.in_ok-push.ensures.items
 
 pub returns-clause-cuts : goal.returns-clause-cuts
 unfolding whole_cuts
 returns-clause-cuts c =
     let n = c.candidate_count-candidate-end.ensures.count in
-    c.loop-candidate.invariant ∙ ap (map (λ (list : List ℕ). length list)) (take_all c.loop-candidate.candidate c.args.market.now.lists (omega arith))
+    c.loop-candidate.invariant
+    ∙ ap (map (λ (list : List ℕ). length list))
+    (take_all c.loop-candidate.candidate c.args.market.now.lists (omega arith))

@@ -19,4 +19,7 @@ pub loop-programme-preserved : goal.loop-programme-preserved
 unfolding quota_of
 loop-programme-preserved c =
     let k = c.loop-programme.programme-index in
-    map_next (quota_of c.args.self.now) c.type_programmes-members.result.now k 0 c.programme-seats.result.quota c.loop-programme.quota.items c.push.new.self.items c.loop-programme-test.true c.loop-programme.invariant (ap (λ (p : Prog). p.quota) c.programme-seats.ensures) c.in_ok-push.ensures.items
+    map_next (quota_of c.args.self.now) c.type_programmes-members.result.now k 0
+    c.programme-seats.result.quota c.loop-programme.quota.items c.push.new.self.items
+    c.loop-programme-test.true c.loop-programme.invariant
+    (ap (λ (p : Prog). p.quota) c.programme-seats.ensures) c.in_ok-push.ensures.items

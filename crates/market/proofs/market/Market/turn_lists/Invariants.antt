@@ -5,6 +5,7 @@ use Rattle.market.proofs.market.Market.turn_lists.Given as goal
 
 abbrev pub invariant-loop-index : goal.invariant-loop-index
 invariant-loop-index l = record {
-  flat : IsFlat l.items.items l.bounds.items (map (local_list l.self l.cuts l.fn.kind) (take l.index l.rest));
+  flat : IsFlat l.items.items l.bounds.items
+      (map (local_list l.self l.cuts l.fn.kind) (take l.index l.rest));
   few : length l.items.items ≤ 48 * l.index;
 }

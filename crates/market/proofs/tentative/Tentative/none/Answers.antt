@@ -12,4 +12,5 @@ returns-clause-none c =
     ∙ map-replicate (map decode) types (replicate count 0)
     ∙ ap (replicate types) (map-replicate decode count 0)
     ∙ ap (λ (n : ℕ). replicate n (replicate {A = Option ℕ} count None)) c.type_count.ensures.count
-    ∙ ap (λ (n : ℕ). replicate c.args.market.now.types (replicate {A = Option ℕ} n None)) c.candidate_count.ensures.count
+    ∙ ap (λ (n : ℕ). replicate c.args.market.now.types (replicate {A = Option ℕ} n None))
+    c.candidate_count.ensures.count

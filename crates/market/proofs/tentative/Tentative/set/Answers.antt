@@ -13,11 +13,14 @@ returns c =
     let k = length-map rows (map decode) in
     let lt : kind < length rows = omega (arith, c.requires.kind) in
     let row = get_or_read rows kind c.index_mut-row.result.now lt c.index_mut-row.ensures.value [] in
-    let new : map decode c.write.new.self ≡ set (get_or (map (map decode) rows) kind []) at c.args.choice
+    let new : map decode c.write.new.self
+    ≡ set (get_or (map (map decode) rows) kind []) at c.args.choice
     = ap (map decode) c.write.ensures
     ∙ map-set decode c.index_mut-row.result.now at c.encoded.result
     ∙ ap (set (map decode c.index_mut-row.result.now) at) c.encoded.ensures
-    ∙ ap (λ (xs : List (Option ℕ)). set xs at c.args.choice) (ap (map decode) row ∙ sym (get_or-map_past (map decode) rows kind [])) in
+    ∙ ap (λ (xs : List (Option ℕ)). set xs at c.args.choice)
+    (ap (map decode) row ∙ sym (get_or-map_past (map decode) rows kind [])) in
     map-set (map decode) rows kind c.write.new.self
     ∙ ap (set (map (map decode) rows) kind) new
-    ∙ ap (λ (xs : List (List (Option ℕ))). set xs kind (set (get_or xs kind []) at c.args.choice)) c.self.view_is
+    ∙ ap (λ (xs : List (List (Option ℕ))). set xs kind (set (get_or xs kind []) at c.args.choice))
+    c.self.view_is
