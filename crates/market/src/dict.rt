@@ -7,7 +7,7 @@ use crate::List;
 use crate::flat_lists::FlatLists;
 use std::marker::Model;
 
-// The lists of all turns, in one piece or each by itself.
+/// The lists of all turns, in one piece or each by itself.
 #[derive(Drop)]
 pub enum Lists {
     Flat(FlatLists),
