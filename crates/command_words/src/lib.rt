@@ -2,8 +2,9 @@
 #![tactic(auto)]
 
 // The table of commands, and the reading of a list of words against it.
-#[cfg(test)]
-mod tests;
 mod words;
 
 pub use words::{Command, WordsFault, read_words};
+
+#[cfg(test)]
+mod tests;

@@ -1,13 +1,23 @@
-// A library with one function.
+//! Files of rows: their rows and fields lent without a copy, the numbers and type names in fields,
+//! what a file's first fault is, and the texts of rows.
 #![tactic(auto)]
 
-ghost use Rattle.std.specs.Prelude.{◌≡◌};
-ghost use Rattle.record_files.specs.Echo.{echo_of};
+// The form of a file, its header and the shape of its rows.
+mod form;
+// Numbers and type names in fields.
+mod fields;
+// The texts of rows.
+mod row_texts;
+// Rows and their fields.
+mod rows;
+// Why a table could not be read.
+mod table_stop;
 
-// The `ensures` clause is the contract: what `echo` returns is `echo_of` of its argument, a definition
-// in `specs/Echo.antt`, which a caller's clause can cite too.
-pub fn echo(x: usize) -> usize
-    ensures { result ≡ echo_of x }
-{
-    x
-}
+pub use fields::{number, type_name};
+pub use form::FileForm;
+pub use row_texts::{Field, put_row_1, put_row_2, put_row_3, put_row_4};
+pub use rows::{RecordRow, Records, RowPart};
+pub use table_stop::TableStop;
+
+#[cfg(test)]
+mod tests;

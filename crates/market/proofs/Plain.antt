@@ -1,0 +1,310 @@
+-- One round's cuts and placement, candidate by candidate.
+use Rattle.std.proofs.Common.{◌≡◌, ◌≢◌, ℕ, zero, suc, ◌+◌, ◌*◌, ◌<◌, ◌≤◌, Bool, true, false, cond, List, [], length, Option, refl, sym, ap, ◌∙◌, subst, arith, map, set, ⊎_elim}
+use Rattle.std.specs.Prelude.{slice_index, slice_index_or, is_some, nat_lt, if◌then◌else◌}
+use Rattle.std.specs.List.{position_or_len}
+use Rattle.std.proofs.lemmas.Bool.{cases_lt, cases_eq, cases_Bool, eq-eqb, ne_eqb, false≢true}
+use Rattle.std.proofs.lemmas.List.{get_or-set_same, get_or-set_other, length-set, length-map, ext_get_or}
+use Rattle.std.proofs.lemmas.List.FromFn.{fill_by_all, length-map-range_with_len}
+use Rattle.std.proofs.Math.ListN.{get_or-map as get_or-map_past}
+use Rattle.market.specs.Counting.{is_programme, count_below, sum_below}
+use Rattle.market.specs.Problems.{Problem, IsValid, kind_of, list_of}
+use Rattle.market.specs.Stability.{held_by}
+use Rattle.market.specs.Mechanism.{tentative, has_several, is_taken, best_place, next_cut, next_cuts, whole_cuts, cuts_after, several_count, is_settled, entry_count, entries_left, cutting_rounds, IsCuts, placed, turns_of_round, mechanism, mechanism_placement, mechanism_rounds, mechanism_cuts, best_in, cut_in, cuts_in, has_several_in, several_in}
+use Rattle.market.specs.Choices.{IsRound}
+use Rattle.market.specs.declared.placement.Outcome.{Outcome}
+use Rattle.market.proofs.Seats.{position_agree}
+use Rattle.market.proofs.Turns.{one_more, no_more}
+use Rattle.market.proofs.Rounds.{next_cut-lt, next_cut-several, next_cut-same, next_cuts-at, next_cuts-le, cuts_after-suc, settled-none, cutting_rounds-settles, first_total}
+use Rattle.market.proofs.Dicts.{entry_lt}
+
+pub count_agree : (f g : ℕ → Bool) (n : ℕ) → ((i : ℕ) → i < n → f i ≡ g i)
+    → count_below f n ≡ count_below g n
+count_agree f g zero h = refl
+count_agree f g (suc n) h =
+    let ih = count_agree f g n (λ i l. h i (omega arith)) in
+    let e = ap (λ (b : Bool). cond {A = ℕ} b 1 0) (h n (omega arith)) in
+    omega arith
+
+-- the tests on a round's table are the definitions' own
+pub several_is : (m : Problem) (cuts : List ℕ) (table : List (List (Option ℕ))) (i : ℕ)
+    → IsRound m cuts table → i < length m.lists
+    → nat_lt 1 (count_below (λ t. is_some (held_by (slice_index_or table t []) i)) (length table))
+    ≡ has_several m cuts i
+unfolding has_several has_several_in
+several_is m cuts table i r l =
+    let n = r.types in
+    let a = count_agree (λ t. is_some (held_by (slice_index_or table t []) i))
+    (λ t. is_some (tentative m cuts t i)) (length table)
+    (λ t lt. ap (λ (o : Option ℕ). is_some o) (r.each t i (omega arith) l)) in
+    ap (nat_lt 1) (a ∙ ap (count_below (λ t. is_some (tentative m cuts t i))) n)
+
+pub best_is : (m : Problem) → IsValid m → (cuts : List ℕ) (table : List (List (Option ℕ))) (i : ℕ)
+    → IsRound m cuts table → i < length m.lists
+    → position_or_len (λ p. is_programme p (held_by (slice_index_or table (kind_of m p) []) i))
+    (list_of m i) ≡ best_place m cuts i
+unfolding best_place best_in is_taken
+best_is m v cuts table i r l =
+    position_agree (λ p. is_programme p (held_by (slice_index_or table (kind_of m p) []) i))
+    (λ p. is_programme p (tentative m cuts (kind_of m p) i)) (list_of m i)
+    (λ j lj. let p = slice_index (list_of m i) j in ap (is_programme p)
+    (r.each (kind_of m p) i (v.kinds p (entry_lt m v i j l lj)) l))
+
+-- ---- the cuts of the first k candidates
+
+pub record IsCutUpto (m : Problem) (old : List ℕ) (k : ℕ) (new : List ℕ) (count : ℕ) : Type 0 where
+  pub candidates : length new ≡ length m.lists
+  pub done : (i : ℕ) → i < k → i < length m.lists → slice_index new i ≡ next_cut m old i
+  pub open' : (i : ℕ) → k ≤ i → slice_index new i ≡ slice_index old i
+  pub counted : count ≡ count_below (has_several m old) k
+
+pub IsCutUpto-none : (m : Problem) (old : List ℕ) → length old ≡ length m.lists
+    → IsCutUpto m old 0 old 0
+IsCutUpto-none m old e =
+    record {
+      candidates = e;
+      done = λ i l h. absurd (omega arith);
+      open' = λ i l. refl;
+      counted = refl;
+    }
+
+suc_count : (f : ℕ → Bool) (k : ℕ)
+    → count_below f (k + 1) ≡ count_below f k + (if f k then 1 else 0)
+suc_count f k = let e : k + 1 ≡ suc k = omega arith in ap (count_below f) e
+
+pub IsCutUpto-cut : (m : Problem) (old new : List ℕ) (k c x : ℕ) → k < length m.lists
+    → has_several m old k ≡ true → x ≡ best_place m old k + 1 → IsCutUpto m old k new c
+    → IsCutUpto m old (k + 1) (set new k x) (c + 1)
+IsCutUpto-cut m old new k c x l s e f =
+    let n = f.candidates in
+    record {
+      candidates = length-set new k x ∙ f.candidates;
+      done = λ i li h.
+          ⊎_elim
+          (λ same. ap (slice_index (set new k x)) same ∙ get_or-set_same new k x 0 (omega arith) ∙ e
+          ∙ sym (next_cut-several m old k s) ∙ ap (next_cut m old) (sym same))
+          (λ ne. get_or-set_other new k i x 0 ne ∙ f.done i (omega arith) h)
+          (cases_eq i k);
+      open' = λ i li. get_or-set_other new k i x 0 (λ z. omega arith) ∙ f.open' i (omega arith);
+      counted = let one = one_more (has_several m old k) s in let a = f.counted in let b =
+          suc_count (has_several m old) k in omega arith;
+    }
+
+pub IsCutUpto-keep : (m : Problem) (old new : List ℕ) (k c : ℕ) → has_several m old k ≡ false
+    → IsCutUpto m old k new c → IsCutUpto m old (k + 1) new c
+IsCutUpto-keep m old new k c s f =
+    record {
+      candidates = f.candidates;
+      done = λ i li h.
+          ⊎_elim
+          (λ same. ap (slice_index new) same ∙ f.open' k (omega arith)
+          ∙ sym (next_cut-same m old k s) ∙ ap (next_cut m old) (sym same))
+          (λ ne. f.done i (omega arith) h)
+          (cases_eq i k);
+      open' = λ i li. f.open' i (omega arith);
+      counted = let none = no_more (has_several m old k) s in let a = f.counted in let b =
+          suc_count (has_several m old) k in omega arith;
+    }
+
+pub IsCutUpto-all : (m : Problem) (old new : List ℕ) (k c : ℕ) → k ≡ length m.lists
+    → IsCutUpto m old k new c → (new ≡ next_cuts m old) × (c ≡ several_count m old)
+unfolding next_cuts cuts_in next_cut cut_in several_count several_in has_several has_several_in
+IsCutUpto-all m old new k c e f = (
+  fill_by_all (next_cut m old) new (length m.lists) 0 f.candidates (λ i l. f.done i (omega arith) l),
+  f.counted ∙ ap (count_below (has_several m old)) e,
+)
+
+-- ---- the loop over rounds
+
+pub IsCuts-next : (m : Problem) (cuts : List ℕ) → IsCuts m cuts
+    → length (next_cuts m cuts) ≡ length m.lists → IsCuts m (next_cuts m cuts)
+IsCuts-next m cuts c n =
+    record {
+      candidates = n;
+      within = λ i l. let a = next_cuts-le m cuts i in let b = c.within i l in omega arith;
+    }
+
+-- each candidate that is cut loses an entry
+cuts_count : (f : ℕ → Bool) (new old : ℕ → ℕ) (n : ℕ)
+    → ((i : ℕ) → i < n → new i + cond {A = ℕ} (f i) 1 0 ≤ old i)
+    → sum_below new n + count_below f n ≤ sum_below old n
+cuts_count f new old zero h = omega arith
+cuts_count f new old (suc n) h = let ih = cuts_count f new old n (λ i l. h i (omega arith)) in
+    let here = h n (omega arith) in omega arith
+
+cut_total : (m : Problem) (cuts : List ℕ)
+    → entries_left m (next_cuts m cuts) + several_count m cuts ≤ entries_left m cuts
+unfolding entries_left several_count several_in has_several has_several_in
+cut_total m cuts =
+    cuts_count (has_several m cuts) (λ i. slice_index (next_cuts m cuts) i)
+    (λ i. slice_index cuts i) (length m.lists)
+    (λ i l.
+    let at = next_cuts-at m cuts i l in
+    let le = next_cuts-le m cuts i in
+    ⊎_elim
+    (λ t. let one = one_more (has_several m cuts i) t in let h = next_cut-lt m cuts i t in omega arith)
+    (λ f. let none = no_more (has_several m cuts i) f in omega arith)
+    (cases_Bool (has_several m cuts i)))
+
+pub total-cuts : (m : Problem) (r : ℕ)
+    → sum_below (λ k. several_count m (cuts_after m k)) r + entries_left m (cuts_after m r)
+    ≤ entry_count m
+total-cuts m zero = let e = first_total m in omega arith
+total-cuts m (suc r) =
+    let ih = total-cuts m r in
+    let c = cut_total m (cuts_after m r) in
+    let s = ap (entries_left m) (cuts_after-suc m r) in
+    omega arith
+
+pub sum_bound : (f : ℕ → ℕ) (b n : ℕ) → ((i : ℕ) → i < n → f i ≤ b) → sum_below f n ≤ n * b
+sum_bound f b zero h = omega arith
+sum_bound f b (suc n) h = let ih = sum_bound f b n (λ i l. h i (omega arith)) in let here =
+    h n (omega arith) in omega arith
+
+pub few_entries : (m : Problem) → IsValid m → entry_count m ≤ 168000000
+unfolding entry_count
+few_entries m v =
+    let a = sum_bound (λ i. length (list_of m i)) 48 (length m.lists) v.list_lengths in
+    let n = v.candidates in
+    omega arith
+
+length-next : (m : Problem) (cuts : List ℕ) → length (next_cuts m cuts) ≡ length m.lists
+unfolding next_cuts cuts_in next_cut cut_in
+length-next m cuts = length-map-range_with_len (next_cut m cuts) 0 (length m.lists)
+
+pub whole_fit : (m : Problem) → IsCuts m (whole_cuts m)
+unfolding whole_cuts list_of
+whole_fit m = record {
+  candidates = length-map m.lists (λ (list : List ℕ). length list);
+  within = λ i l. let e = whole-at m i in omega arith;
+}
+  where
+    whole-at : (m : Problem) (i : ℕ)
+        → slice_index (map (λ (list : List ℕ). length list) m.lists) i
+        ≡ length (slice_index_or m.lists i [])
+    whole-at m i = get_or-map_past (λ (list : List ℕ). length list) m.lists i []
+
+-- the rounds so far: the cuts, that none of them was the last, and the candidates cut
+pub record IsRoundsUpto (m : Problem) (r : ℕ) (cuts : List ℕ) (total : ℕ) : Type 0 where
+  pub at : cuts ≡ cuts_after m r
+  pub cuts_fit : IsCuts m cuts
+  pub not_before : (k : ℕ) → k < r → is_settled m (cuts_after m k) ≡ false
+  pub counted : total ≡ sum_below (λ k. several_count m (cuts_after m k)) r
+
+pub rounds-le : (m : Problem) (r total : ℕ) (cuts : List ℕ) → IsRoundsUpto m r cuts total
+    → r ≤ cutting_rounds m
+rounds-le m r total cuts u =
+    let s = cutting_rounds-settles m in
+    ⊎_elim
+    (λ less. absurd (false≢true (sym (u.not_before (cutting_rounds m) less) ∙ s.settled)))
+    (λ le. le)
+    (cases_lt (cutting_rounds m) r)
+
+settled-zero : (m : Problem) (cuts : List ℕ) → several_count m cuts ≡ 0 → is_settled m cuts ≡ true
+unfolding is_settled
+settled-zero m cuts e = eq-eqb (several_count m cuts) 0 e
+
+settled-not : (m : Problem) (cuts : List ℕ) → (several_count m cuts ≡ 0 → ⊥)
+    → is_settled m cuts ≡ false
+unfolding is_settled
+settled-not m cuts ne = ne_eqb (several_count m cuts) 0 ne
+
+pub rounds-last : (m : Problem) (r total : ℕ) (cuts : List ℕ) → IsRoundsUpto m r cuts total
+    → several_count m cuts ≡ 0 → r ≡ cutting_rounds m
+rounds-last m r total cuts u z =
+    let s = cutting_rounds-settles m in
+    let le = rounds-le m r total cuts u in
+    let here = settled-zero m (cuts_after m r) (ap (several_count m) (sym u.at) ∙ z) in
+    ⊎_elim
+    (λ less. absurd (false≢true (sym (s.not_before r (omega arith) less) ∙ here)))
+    (λ ge. omega arith)
+    (cases_lt r (cutting_rounds m))
+
+pub IsRoundsUpto-none : (m : Problem) (cuts : List ℕ) → cuts ≡ whole_cuts m
+    → IsRoundsUpto m 0 cuts 0
+unfolding cuts_after
+IsRoundsUpto-none m cuts e = record {
+  at = e;
+  cuts_fit = subst (IsCuts m) (sym e) (whole_fit m);
+  not_before = λ k l. absurd (omega arith);
+  counted = refl;
+}
+
+pub IsRoundsUpto-more : (m : Problem) (r total count : ℕ) (cuts next : List ℕ)
+    → IsRoundsUpto m r cuts total → next ≡ next_cuts m cuts → count ≡ several_count m cuts
+    → (count ≡ 0 → ⊥) → IsRoundsUpto m (r + 1) next (total + count)
+IsRoundsUpto-more m r total count cuts next u e c nz =
+    let s : suc r ≡ r + 1 = omega arith in
+    subst (λ (k : ℕ). IsRoundsUpto m k next (total + count)) s (record {
+      at = e ∙ ap (next_cuts m) u.at ∙ sym (cuts_after-suc m r);
+      cuts_fit = subst (IsCuts m) (sym e) (IsCuts-next m cuts u.cuts_fit (length-next m cuts));
+      not_before = λ k l.
+          ⊎_elim
+          (λ less. u.not_before k less)
+          (λ same. let q : r ≡ k = omega arith in
+          subst (λ (j : ℕ). is_settled m (cuts_after m j) ≡ false) q
+          (ap (is_settled m) (sym u.at) ∙ settled-not m cuts (λ z. nz (c ∙ z))))
+          (cases_lt k r);
+      counted = let a = u.counted in let b = c ∙ ap (several_count m) u.at in omega arith;
+    })
+
+-- the next round starts with fewer entries
+pub rounds-fall : (m : Problem) (count : ℕ) (cuts next : List ℕ) → next ≡ next_cuts m cuts
+    → count ≡ several_count m cuts → (count ≡ 0 → ⊥) → entries_left m next < entries_left m cuts
+rounds-fall m count cuts next e c nz =
+    let a = cut_total m cuts in
+    let b = ap (entries_left m) e in
+    let p : count ≢ 0 = nz in
+    omega arith
+
+pub sum_next : (f : ℕ → ℕ) (k s x : ℕ) → s ≡ sum_below f k → x ≡ f k → s + x ≡ sum_below f (k + 1)
+sum_next f k s x e h = let n : k + 1 ≡ suc k = omega arith in let q = ap (sum_below f) n in omega arith
+
+pub rounds_small : (m : Problem) → IsValid m → (r total : ℕ) (cuts : List ℕ)
+    → IsRoundsUpto m r cuts total → r ≤ 168000000
+rounds_small m v r total cuts u =
+    let a = rounds-le m r total cuts u in
+    let s = cutting_rounds-settles m in
+    let f = few_entries m v in
+    omega (arith, s.bounded)
+
+pub total_small : (m : Problem) → IsValid m → (r total count : ℕ) (cuts : List ℕ)
+    → IsRoundsUpto m r cuts total → count ≡ several_count m cuts → total + count ≤ 168000000
+total_small m v r total count cuts u c =
+    let a = total-cuts m r in
+    let b = cut_total m (cuts_after m r) in
+    let e = c ∙ ap (several_count m) u.at in
+    let t = u.counted in
+    let f = few_entries m v in
+    omega arith
+
+same_outcome : (a : Outcome) (placement : List (Option ℕ)) (rounds cuts turns : ℕ)
+    → placement ≡ a.placement → rounds ≡ a.rounds → cuts ≡ a.cuts → turns ≡ a.turns
+    → record { placement = placement; rounds = rounds; cuts = cuts; turns = turns } ≡ a
+same_outcome a placement rounds cuts turns p r c t =
+    λ i. record { placement = p i; rounds = r i; cuts = c i; turns = t i }
+
+pub outcome_is : (m : Problem) (r total wide turns : ℕ) (cuts : List ℕ) (held : List (Option ℕ))
+    → IsRoundsUpto m r cuts total → several_count m cuts ≡ 0 → held ≡ placed m cuts → wide ≡ r + 1
+    → turns ≡ turns_of_round m
+    → record { placement = held; rounds = r + 1; cuts = total; turns = wide * turns } ≡ mechanism m
+unfolding mechanism mechanism_placement mechanism_rounds mechanism_cuts
+outcome_is m r total wide turns cuts held u z h w t =
+    let last = rounds-last m r total cuts u z in
+    same_outcome (mechanism m) held (r + 1) total (wide * turns)
+    (h ∙ ap (placed m) (u.at ∙ ap (cuts_after m) last))
+    (ap (λ (n : ℕ). n + 1) last)
+    (u.counted ∙ ap (sum_below (λ k. several_count m (cuts_after m k))) last)
+    (ap (λ (n : ℕ). n * turns) (w ∙ ap (λ (n : ℕ). n + 1) last)
+    ∙ ap (λ (n : ℕ). (cutting_rounds m + 1) * n) t)
+
+-- where nobody takes several, nothing is cut
+pub settled-cuts : (m : Problem) (cuts : List ℕ) → IsCuts m cuts → several_count m cuts ≡ 0
+    → next_cuts m cuts ≡ cuts
+settled-cuts m cuts f z =
+    let len = length-next m cuts in
+    let n = f.candidates in
+    let s = settled-zero m cuts z in
+    ext_get_or 0 (next_cuts m cuts) cuts (omega arith)
+    (λ i l. let li : i < length m.lists =
+    omega arith in next_cuts-at m cuts i li
+    ∙ next_cut-same m cuts i (settled-none m cuts i s li))

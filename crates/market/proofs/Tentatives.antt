@@ -1,0 +1,179 @@
+-- What a candidate takes in a type, against the candidate's own list.
+use Rattle.std.proofs.Common.{◌≡◌, ℕ, zero, suc, ◌<◌, ◌≤◌, Bool, true, ◌&&◌, List, [], ◌∷◌, length, Option, Some, None, refl, sym, ap, ◌∙◌, arith, get_or, ⊎_elim, map, take, replicate}
+use Rattle.std.specs.Prelude.{find, ◌==◌, slice_index}
+use Rattle.std.proofs.lemmas.Bool.{cases_lt, eqb-true, eq-eqb, ne_eqb, and_parts, and_from}
+use Rattle.std.proofs.lemmas.List.{get_or_past, get_or_append_left, get_or_push, get_or-replicate, length-replicate, length-map, get_or-map}
+use Rattle.std.proofs.Math.ListN.{get_or-map as get_or-map_past}
+use Rattle.std.proofs.lemmas.List.Sums.{position_or_len_is}
+use Rattle.std.proofs.lemmas.Option.{none-some}
+use Rattle.market.specs.declared.programme.Prog.{Prog}
+use Rattle.market.specs.Problems.{Problem, IsValid, place_of, kind_of, quota_of, list_of, order_of, turn_of}
+use Rattle.market.specs.Dictatorships.{Dictatorship, chosen, picked, list_at, taken}
+use Rattle.market.specs.Mechanism.{is_offered, turn_list, type_dictatorship, tentative}
+use Rattle.market.proofs.Firsts.{find_take, find_first_take, find-filter, place_get}
+use Rattle.market.proofs.Turns.{is_open, is_open-true, is_open-from, picked-find, chosen-suc, length-chosen}
+
+-- ---- turns
+
+pub turn_at : (m : Problem) → IsValid m → (t k : ℕ) → t < m.types → k < length (order_of m t)
+    → turn_of m t (slice_index (order_of m t) k) ≡ k
+unfolding turn_of
+turn_at m v t k lt lk =
+    let x = slice_index (order_of m t) k in
+    position_or_len_is (λ y. y == x) (order_of m t) k 0 (omega arith)
+    (λ j l. ne_eqb (slice_index (order_of m t) j) x (v.order_distinct t lt j k l lk))
+    (λ l. eq-eqb x x refl)
+
+pub candidate_at : (m : Problem) (t i : ℕ) → turn_of m t i < length (order_of m t)
+    → slice_index (order_of m t) (turn_of m t i) ≡ i
+unfolding turn_of
+candidate_at m t i l = place_get i (order_of m t) 0 l
+
+pub get-chosen : (d : Dictatorship) (n k : ℕ) → k < n → get_or (chosen d n) k None ≡ picked d k
+get-chosen d zero k l = absurd (omega arith)
+get-chosen d (suc n) k l =
+    let e = ap (λ (xs : List (Option ℕ)). get_or xs k None) (chosen-suc d n) in
+    let len = length-chosen d n in
+    ⊎_elim
+    (λ less. e ∙ get_or_append_left (chosen d n) (picked d n ∷ []) None k (omega arith)
+    ∙ get-chosen d n k less)
+    (λ more. let same : n ≡ k =
+    omega arith in e ∙ get_or_push (chosen d n) (picked d n) None k (len ∙ same)
+    ∙ ap (picked d) same)
+    (cases_lt k n)
+
+-- ---- the dictatorship of a type
+
+pub type-quota : (m : Problem) (cuts : List ℕ) (t p : ℕ)
+    → slice_index (type_dictatorship m cuts t).quota p ≡ quota_of m p
+unfolding type_dictatorship quota_of
+type-quota m cuts t p =
+    get_or-map_past (λ (q : Prog). q.quota) m.programmes p (record { kind = 0; quota = 0 })
+
+pub zeros : (n p : ℕ) → slice_index (replicate n 0) p ≡ 0
+zeros n p =
+    ⊎_elim
+    (λ l. get_or-replicate n p 0 0 l)
+    (λ past. let e = length-replicate {A = ℕ} n 0 in get_or_past (replicate n 0) p 0 (omega arith))
+    (cases_lt p n)
+
+pub type-fill : (m : Problem) (cuts : List ℕ) (t p : ℕ)
+    → slice_index (type_dictatorship m cuts t).fill p ≡ 0
+unfolding type_dictatorship
+type-fill m cuts t p = zeros (length m.programmes) p
+
+pub type-list : (m : Problem) (cuts : List ℕ) (t k : ℕ) → k < length (order_of m t)
+    → list_at (type_dictatorship m cuts t) k ≡ turn_list m cuts t (slice_index (order_of m t) k)
+unfolding type_dictatorship list_at
+type-list m cuts t k l = get_or-map (turn_list m cuts t) (order_of m t) k 0 [] l
+
+pub type-list_past : (m : Problem) (cuts : List ℕ) (t k : ℕ) → length (order_of m t) ≤ k
+    → list_at (type_dictatorship m cuts t) k ≡ []
+unfolding type_dictatorship list_at
+type-list_past m cuts t k l =
+    let e = length-map (order_of m t) (turn_list m cuts t) in
+    get_or_past (map (turn_list m cuts t) (order_of m t)) k [] (omega arith)
+
+-- ---- offers: the only lemmas that know which programmes a turn is offered
+
+pub offered-kind : (m : Problem) (t i p : ℕ) → is_offered m t i p ≡ true → kind_of m p ≡ t
+unfolding is_offered
+offered-kind m t i p e = eqb-true (kind_of m p) t e
+
+pub offered-from : (m : Problem) (t i p : ℕ) → kind_of m p ≡ t → is_offered m t i p ≡ true
+unfolding is_offered
+offered-from m t i p e = eq-eqb (kind_of m p) t e
+
+-- ---- what a candidate takes
+
+unfoldable pub seats_before : Problem → List ℕ → ℕ → ℕ → ℕ → ℕ
+seats_before m cuts t i p = taken (type_dictatorship m cuts t) (turn_of m t i) p
+
+-- the test by which the turn of i picks
+unfoldable pub picks : Problem → List ℕ → ℕ → ℕ → ℕ → Bool
+picks m cuts t i p = is_offered m t i p && is_open (type_dictatorship m cuts t) (turn_of m t i) p
+
+pub tentative-picked : (m : Problem) (cuts : List ℕ) (t i : ℕ)
+    → turn_of m t i < length (order_of m t)
+    → tentative m cuts t i ≡ picked (type_dictatorship m cuts t) (turn_of m t i)
+unfolding tentative
+tentative-picked m cuts t i l =
+    get-chosen (type_dictatorship m cuts t) (length (order_of m t)) (turn_of m t i) l
+
+pub tentative-turn : (m : Problem) (cuts : List ℕ) (t i p : ℕ) → tentative m cuts t i ≡ Some p
+    → turn_of m t i < length (order_of m t)
+unfolding tentative
+tentative-turn m cuts t i p e =
+    let d = type_dictatorship m cuts t in
+    let len = length-chosen d (length (order_of m t)) in
+    ⊎_elim
+    (λ l. l)
+    (λ past. absurd (none-some p
+    (sym (get_or_past (chosen d (length (order_of m t))) (turn_of m t i) None (omega arith))
+    ∙ e)))
+    (cases_lt (turn_of m t i) (length (order_of m t)))
+
+-- it is the first entry within the cut that the turn may take
+pub tentative-find : (m : Problem) (cuts : List ℕ) (t i : ℕ) → turn_of m t i < length (order_of m t)
+    → tentative m cuts t i ≡ find (picks m cuts t i) (take (slice_index cuts i) (list_of m i))
+unfolding turn_list picks
+tentative-find m cuts t i l =
+    let d = type_dictatorship m cuts t in
+    let k = turn_of m t i in
+    tentative-picked m cuts t i l
+    ∙ picked-find d k
+    ∙ ap (find (is_open d k)) (type-list m cuts t k l ∙ ap (turn_list m cuts t) (candidate_at m t i l))
+    ∙ find-filter (is_open d k) (is_offered m t i) (take (slice_index cuts i) (list_of m i))
+
+pub record Takes (m : Problem) (cuts : List ℕ) (t i p : ℕ) : Type 0 where
+  pub turn : turn_of m t i < length (order_of m t)
+  pub offered : is_offered m t i p ≡ true
+  pub kind : kind_of m p ≡ t
+  pub listed : place_of p (list_of m i) < length (list_of m i)
+  pub within : place_of p (list_of m i) < slice_index cuts i
+  pub room : seats_before m cuts t i p < quota_of m p
+
+pub tentative-takes : (m : Problem) (cuts : List ℕ) (t i p : ℕ) → tentative m cuts t i ≡ Some p
+    → Takes m cuts t i p
+unfolding picks seats_before
+tentative-takes m cuts t i p e =
+    let d = type_dictatorship m cuts t in
+    let k = turn_of m t i in
+    let l = tentative-turn m cuts t i p e in
+    let f = find_take (picks m cuts t i) (list_of m i) (slice_index cuts i) p
+    (sym (tentative-find m cuts t i l) ∙ e) in
+    let both = and_parts (is_offered m t i p) (is_open d k p) f.passes in
+    let room = is_open-true d k p both.1 in
+    let q = type-quota m cuts t p in
+    record {
+      turn = l;
+      offered = both.0;
+      kind = offered-kind m t i p both.0;
+      listed = f.listed;
+      within = f.within;
+      room = omega arith;
+    }
+
+-- it stands no later than any entry within the cut that has room
+pub record TakesBy (m : Problem) (cuts : List ℕ) (t i p : ℕ) : Type 0 where
+  pub entry : ℕ
+  pub takes : tentative m cuts t i ≡ Some entry
+  pub no_later : place_of entry (list_of m i) ≤ place_of p (list_of m i)
+
+pub takes_by : (m : Problem) (cuts : List ℕ) (t i p : ℕ) → Takes m cuts t i p → TakesBy m cuts t i p
+unfolding picks seats_before
+takes_by m cuts t i p r =
+    let d = type_dictatorship m cuts t in
+    let k = turn_of m t i in
+    let q = type-quota m cuts t p in
+    let z = type-fill m cuts t p in
+    let room = r.room in
+    let open' = is_open-from d k p (omega arith) in
+    let f = find_first_take (picks m cuts t i) (list_of m i) (slice_index cuts i) p
+    (and_from (is_offered m t i p) (is_open d k p) r.offered open') r.within r.listed in
+    record {
+      entry =
+          f.entry;
+      takes = tentative-find m cuts t i r.turn ∙ f.found;
+      no_later = f.no_later;
+    }

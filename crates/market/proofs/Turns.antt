@@ -1,0 +1,141 @@
+-- What a serial dictatorship does, turn by turn.
+use Rattle.std.proofs.Common.{◌≡◌, ℕ, zero, suc, ◌+◌, ◌<◌, ◌≤◌, Bool, true, false, cond, List, [], ◌∷◌, ◌++◌, length, Option, Some, None, refl, sym, ap, ◌∙◌, arith, length-append, ⊎_elim}
+use Rattle.std.specs.Prelude.{find, slice_index}
+use Rattle.std.proofs.lemmas.Bool.{ltb-true, lt-ltb, eqb-true, eq-eqb, cases_lt, cases_Bool, false≢true}
+use Rattle.std.proofs.lemmas.List.Folds.{find_at}
+use Rattle.std.proofs.lemmas.List.Sums.{sum_by_push}
+use Rattle.market.specs.Counting.{is_programme, count_of}
+use Rattle.market.specs.Dictatorships.{Dictatorship, has_seat, list_at, first_open, with_next, chosen, choice, picked, taken, ShortensLists, FreesSeats}
+use Rattle.market.proofs.Firsts.{find_passes, find_free}
+
+-- whether p has a seat left at turn k
+unfoldable pub is_open : Dictatorship → ℕ → ℕ → Bool
+is_open d k p = has_seat d (chosen d k) p
+
+pub is_open-true : (d : Dictatorship) (k p : ℕ) → is_open d k p ≡ true
+    → slice_index d.fill p + taken d k p < slice_index d.quota p
+unfolding is_open has_seat taken
+is_open-true d k p e = ltb-true _ _ e
+
+pub is_open-from : (d : Dictatorship) (k p : ℕ)
+    → slice_index d.fill p + taken d k p < slice_index d.quota p → is_open d k p ≡ true
+unfolding is_open has_seat taken
+is_open-from d k p l = lt-ltb _ _ l
+
+-- a turn takes the first entry that is open
+pub picked-find : (d : Dictatorship) (k : ℕ) → picked d k ≡ find (is_open d k) (list_at d k)
+unfolding picked choice first_open is_open
+picked-find d k = sym (find_at (has_seat d (chosen d k)) (list_at d k))
+
+pub chosen-suc : (d : Dictatorship) (k : ℕ) → chosen d (suc k) ≡ chosen d k ++ picked d k ∷ []
+unfolding chosen with_next picked choice
+chosen-suc d k = refl
+
+pub chosen-zero : (d : Dictatorship) → chosen d zero ≡ []
+unfolding chosen
+chosen-zero d = refl
+
+pub length-chosen : (d : Dictatorship) (k : ℕ) → length (chosen d k) ≡ k
+length-chosen d zero = ap length (chosen-zero d)
+length-chosen d (suc k) =
+    let e = length-append (chosen d k) (picked d k ∷ []) in
+    let ih = length-chosen d k in
+    ap length (chosen-suc d k) ∙ (omega arith)
+
+pub taken-zero : (d : Dictatorship) (p : ℕ) → taken d zero p ≡ 0
+unfolding taken
+taken-zero d p = ap (count_of p) (chosen-zero d)
+
+-- one more where the turn takes p
+pub taken-suc : (d : Dictatorship) (k p : ℕ)
+    → taken d (suc k) p ≡ taken d k p + cond (is_programme p (picked d k)) 1 0
+unfolding taken
+taken-suc d k p =
+    ap (count_of p) (chosen-suc d k)
+    ∙ sum_by_push (λ o. cond (is_programme p o) 1 0) (chosen d k) (picked d k)
+
+pub one_more : (b : Bool) → b ≡ true → cond {A = ℕ} b 1 0 ≡ 1
+one_more b e = ap (λ (x : Bool). cond {A = ℕ} x 1 0) e
+
+pub no_more : (b : Bool) → b ≡ false → cond {A = ℕ} b 1 0 ≡ 0
+no_more b e = ap (λ (x : Bool). cond {A = ℕ} x 1 0) e
+
+pub is_programme-same : (p : ℕ) → is_programme p (Some p) ≡ true
+is_programme-same p = eq-eqb p p refl
+
+pub is_programme-from : (p : ℕ) (o : Option ℕ) → o ≡ Some p → is_programme p o ≡ true
+is_programme-from p o e = ap (is_programme p) e ∙ is_programme-same p
+
+pub is_programme-true : (p : ℕ) (o : Option ℕ) → is_programme p o ≡ true → o ≡ Some p
+is_programme-true p None e = absurd (false≢true e)
+is_programme-true p (Some q) e = ap Some (eqb-true q p e)
+
+pub taken-grows : (d : Dictatorship) (k p : ℕ) → taken d k p ≤ taken d (suc k) p
+taken-grows d k p = let e = taken-suc d k p in omega arith
+
+-- what a turn takes was open
+pub picked-open : (d : Dictatorship) (k p : ℕ) → picked d k ≡ Some p → is_open d k p ≡ true
+picked-open d k p e = find_passes (is_open d k) (list_at d k) p (sym (picked-find d k) ∙ e)
+
+-- no programme is filled past its quota
+pub taken-le-quota : (d : Dictatorship) (p : ℕ) → slice_index d.fill p ≤ slice_index d.quota p
+    → (k : ℕ) → slice_index d.fill p + taken d k p ≤ slice_index d.quota p
+taken-le-quota d p h zero = let e = taken-zero d p in omega arith
+taken-le-quota d p h (suc k) =
+    let e = taken-suc d k p in
+    let ih = taken-le-quota d p h k in
+    ⊎_elim
+    (λ t.
+    let o = is_open-true d k p (picked-open d k p (is_programme-true p (picked d k) t)) in
+    let one = one_more (is_programme p (picked d k)) t in
+    omega arith)
+    (λ f. let none = no_more (is_programme p (picked d k)) f in omega arith)
+    (cases_Bool (is_programme p (picked d k)))
+
+-- a programme that is open under the older lists is open under the newer ones
+open_free : (older newer : Dictatorship) → ShortensLists older newer → (k : ℕ)
+    → ((q : ℕ) → taken newer k q ≤ taken older k q) → (p : ℕ) → is_open older k p ≡ true
+    → is_open newer k p ≡ true
+open_free older newer s k ih p o =
+    let l = is_open-true older k p o in
+    let h = ih p in
+    let f = ap (λ (xs : List ℕ). slice_index xs p) s.fill in
+    let q = ap (λ (xs : List ℕ). slice_index xs p) s.quota in
+    is_open-from newer k p (omega arith)
+
+-- what the newer list takes and is open under the older ones is taken under the older ones
+picked_free : (older newer : Dictatorship) → ShortensLists older newer → (k : ℕ)
+    → ((q : ℕ) → taken newer k q ≤ taken older k q) → (p : ℕ) → picked newer k ≡ Some p
+    → is_open older k p ≡ true → picked older k ≡ Some p
+picked_free older newer s k ih p e o =
+    let rest = s.lists k in
+    let found =
+    find_free (is_open older k) (is_open newer k) (open_free older newer s k ih)
+    (list_at newer k) rest.0 p (sym (picked-find newer k) ∙ e) o in
+    picked-find older k ∙ ap (find (is_open older k)) (sym rest.1) ∙ found
+
+-- with shorter lists each programme has at every turn at most as many seats taken
+pub shorter_lists_free_seats : (older newer : Dictatorship) → ShortensLists older newer
+    → FreesSeats older newer
+shorter_lists_free_seats older newer s zero p = let e = taken-zero newer p in omega arith
+shorter_lists_free_seats older newer s (suc k) p =
+    let ih = shorter_lists_free_seats older newer s k in
+    let here = ih p in
+    let n = taken-suc newer k p in
+    let o = taken-suc older k p in
+    ⊎_elim
+    (λ t.
+    let took = is_programme-true p (picked newer k) t in
+    let room = is_open-true newer k p (picked-open newer k p took) in
+    let f = ap (λ (xs : List ℕ). slice_index xs p) s.fill in
+    let q = ap (λ (xs : List ℕ). slice_index xs p) s.quota in
+    let one = one_more (is_programme p (picked newer k)) t in
+    ⊎_elim
+    (λ less. omega arith)
+    (λ same.
+    let old = picked_free older newer s k ih p took (is_open-from older k p (omega arith)) in
+    let too = one_more (is_programme p (picked older k)) (is_programme-from p (picked older k) old) in
+    omega arith)
+    (cases_lt (taken newer k p) (taken older k p)))
+    (λ f. let none = no_more (is_programme p (picked newer k)) f in omega arith)
+    (cases_Bool (is_programme p (picked newer k)))

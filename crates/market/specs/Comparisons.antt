@@ -1,0 +1,23 @@
+-- One placement compared with another, candidate by candidate, and one market with a wider one.
+use Rattle.std.specs.Prelude.{◌≡◌, ℕ, ◌≤◌, List, Option, Some, None}
+use Rattle.market.specs.Problems.{Problem, place_of, kind_of, quota_of, list_of}
+use Rattle.market.specs.Stability.{held_by}
+
+-- who is given p holds p or a programme listed higher
+abbrev pub HoldsAtLeast : List ℕ → Option ℕ → Option ℕ → Type 0
+HoldsAtLeast list None held = Unit {0}
+HoldsAtLeast list (Some p) None = ⊥
+HoldsAtLeast list (Some p) (Some q) = place_of q list ≤ place_of p list
+
+-- each candidate holds in the second placement what the first gives, or a programme listed higher
+abbrev pub GivesAtLeast : Problem → List (Option ℕ) → List (Option ℕ) → Type 0
+GivesAtLeast m given held = (i : ℕ) → HoldsAtLeast (list_of m i) (held_by given i) (held_by held i)
+
+-- the same market but for quotas, which are as large or larger in the second
+pub record Widens (m wider : Problem) : Type 0 where
+  pub types : wider.types ≡ m.types
+  pub lists : wider.lists ≡ m.lists
+  pub orders : wider.orders ≡ m.orders
+  pub ranks : wider.ranks ≡ m.ranks
+  pub kinds : (p : ℕ) → kind_of wider p ≡ kind_of m p
+  pub quotas : (p : ℕ) → quota_of m p ≤ quota_of wider p

@@ -1,0 +1,93 @@
+-- A placement problem as plain lists and numbers. Candidates, programmes and score types are indexes.
+use Rattle.std.specs.Prelude.{◌≡◌, ℕ, ◌<◌, ◌≤◌, Bool, List, [], length, Option, IsTrue, is_some, ◌==◌, slice_get, slice_index, slice_index_or}
+use Rattle.std.specs.List.{position_or_len}
+use Rattle.market.specs.declared.programme.Prog.{Prog}
+
+-- a market as its parts
+pub record Problem : Type 0 where
+  -- how many score types there are
+  pub types : ℕ
+  -- the score type and the quota of each programme
+  pub programmes : List Prog
+  -- the preference list of each candidate: programmes, best first
+  pub lists : List (List ℕ)
+  -- the turn order of each type: the candidates who have a rank in it, best rank first
+  pub orders : List (List ℕ)
+  -- the ranks of each type, in its turn order
+  pub ranks : List (List ℕ)
+
+-- no two entries are equal
+abbrev pub IsDistinct : List ℕ → Type 0
+IsDistinct xs = (i j : ℕ) → i < j → j < length xs → slice_index xs i ≡ slice_index xs j → ⊥
+
+-- the first place of x in the list, or the list's length where it is not there
+abbrev pub place_of : ℕ → List ℕ → ℕ
+place_of x xs = position_or_len (λ y. y == x) xs
+
+-- a programme by its index
+abbrev pub programme_at : Problem → ℕ → Prog
+programme_at m p = slice_index_or m.programmes p (record { kind = 0; quota = 0 })
+
+-- the type of a programme in a list of programmes
+abbrev pub kind_in : List Prog → ℕ → ℕ
+kind_in programmes p = (slice_index_or programmes p (record { kind = 0; quota = 0 })).kind
+
+-- the score type of a programme
+unfoldable pub kind_of : Problem → ℕ → ℕ
+kind_of m p = kind_in m.programmes p
+
+-- the quota of a programme: how many seats it has
+unfoldable pub quota_of : Problem → ℕ → ℕ
+quota_of m p = (programme_at m p).quota
+
+-- the preference list of a candidate
+unfoldable pub list_of : Problem → ℕ → List ℕ
+list_of m i = slice_index_or m.lists i []
+
+-- the turn order of a type
+unfoldable pub order_of : Problem → ℕ → List ℕ
+order_of m t = slice_index_or m.orders t []
+
+-- the ranks of a type, in its turn order
+unfoldable pub ranks_of : Problem → ℕ → List ℕ
+ranks_of m t = slice_index_or m.ranks t []
+
+-- the turn of a candidate in a type, or the number of turns where the candidate has no rank in it
+unfoldable pub turn_of : Problem → ℕ → ℕ → ℕ
+turn_of m t i = place_of i (order_of m t)
+
+-- the rank of a candidate in a type, or none
+unfoldable pub rank_of : Problem → ℕ → ℕ → Option ℕ
+rank_of m t i = slice_get (ranks_of m t) (turn_of m t i)
+
+-- whether the programme admits the candidate at all: the candidate has a rank in its type
+unfoldable pub admits : Problem → ℕ → ℕ → Bool
+admits m p i = is_some (rank_of m (kind_of m p) i)
+
+-- the programme is acceptable to the candidate: listed, and admitting the candidate
+pub record IsAcceptable (m : Problem) (i p : ℕ) : Type 0 where
+  pub listed : place_of p (list_of m i) < length (list_of m i)
+  pub admitted : IsTrue (admits m p i)
+
+-- the parts fit together: indexes in range, nothing listed twice, ranks that rise strictly along the
+-- turn order, and all within the limits
+pub record IsValid (m : Problem) : Type 0 where
+  pub types : m.types ≤ 32
+  pub programmes : length m.programmes ≤ 120000
+  pub candidates : length m.lists ≤ 3500000
+  pub orders : length m.orders ≡ m.types
+  pub ranks : length m.ranks ≡ m.types
+  pub kinds : (p : ℕ) → p < length m.programmes → kind_of m p < m.types
+  pub quotas : (p : ℕ) → p < length m.programmes → quota_of m p ≤ 100000
+  pub list_lengths : (i : ℕ) → i < length m.lists → length (list_of m i) ≤ 48
+  pub list_entries : (i k : ℕ) → i < length m.lists → k < length (list_of m i)
+      → slice_index (list_of m i) k < length m.programmes
+  pub list_distinct : (i : ℕ) → i < length m.lists → IsDistinct (list_of m i)
+  pub order_entries : (t k : ℕ) → t < m.types → k < length (order_of m t)
+      → slice_index (order_of m t) k < length m.lists
+  pub order_distinct : (t : ℕ) → t < m.types → IsDistinct (order_of m t)
+  pub rank_lengths : (t : ℕ) → t < m.types → length (ranks_of m t) ≡ length (order_of m t)
+  pub ranks_rise : (t j k : ℕ) → t < m.types → j < k → k < length (ranks_of m t)
+      → slice_index (ranks_of m t) j < slice_index (ranks_of m t) k
+  pub rank_limits : (t k : ℕ) → t < m.types → k < length (ranks_of m t)
+      → (1 ≤ slice_index (ranks_of m t) k) × (slice_index (ranks_of m t) k ≤ 99999999)

@@ -1,0 +1,117 @@
+// One serial dictatorship over programmes with numbers of their own.
+
+ghost use Rattle.std.specs.Prelude.{◌≡◌, ◌<◌, length, slice_index};
+ghost use Rattle.market.specs.Dictatorships.{IsValidDictatorship, list_at};
+
+use crate::List;
+use crate::flat_lists::FlatLists;
+use std::marker::Model;
+
+/// The lists of all turns, in one piece or each by itself.
+#[derive(Drop)]
+pub enum Lists {
+    Flat(FlatLists),
+    Each(Vec<List>),
+}
+
+/// One serial dictatorship: for each programme its quota and the seats taken before the first turn,
+/// and for each turn its list. Contracts see it as a `Dictatorship`, which is always valid.
+#[derive(Drop)]
+pub struct Dict {
+    quota: Vec<u32>,
+    fill: Vec<u32>,
+    lists: Lists,
+}
+
+impl Model for Dict {
+    ghost use Rattle.market.specs.Dictatorships.{Dictatorship, IsValidDictatorship};
+    ghost use Rattle.market.specs.DictLists.{lists_of};
+
+    ghost Value = { Dictatorship };
+
+    ghost view = { λ d. record { quota = d.quota.items; fill = d.fill.items; lists = lists_of d.lists } };
+
+    ghost invariant = { λ d. IsValidDictatorship
+        (record { quota = d.quota.items; fill = d.fill.items; lists = lists_of d.lists }) };
+}
+
+impl Dict {
+    /// The dictatorship of these parts. It takes no memory.
+    pub fn from_parts(quota: Vec<u32>, fill: Vec<u32>, lists: Vec<List>) -> Dict
+        requires { IsValidDictatorship
+            (record { quota = quota.items; fill = fill.items; lists = lists.items }) }
+        ensures quota { result.quota ≡ quota.items }
+        ensures fill { result.fill ≡ fill.items }
+        ensures lists { result.lists ≡ lists.items }
+    {
+        Dict {
+            quota,
+            fill,
+            lists: Lists::Each(lists),
+        }
+    }
+
+    // The same of lists in one piece.
+    pub(crate) fn from_flat(quota: Vec<u32>, fill: Vec<u32>, lists: FlatLists) -> Dict
+        requires { IsValidDictatorship (record { quota = quota.items; fill = fill.items; lists = lists }) }
+        ensures quota { result.quota ≡ quota.items }
+        ensures fill { result.fill ≡ fill.items }
+        ensures lists { result.lists ≡ lists }
+    {
+        Dict {
+            quota,
+            fill,
+            lists: Lists::Flat(lists),
+        }
+    }
+
+    /// How many turns there are.
+    pub fn turns(&self) -> u32
+        ensures count { result ≡ length self.now.lists }
+        ensures valid { IsValidDictatorship self.now }
+    {
+        match &self.lists {
+            Lists::Flat(lists) => lists.count() as u32,
+            Lists::Each(lists) => lists.len() as u32,
+        }
+    }
+
+    /// How many programmes there are.
+    pub fn programmes(&self) -> u32
+        ensures count { result ≡ length self.now.quota }
+        ensures valid { IsValidDictatorship self.now }
+    {
+        self.quota.len() as u32
+    }
+
+    /// The quota of a programme.
+    pub fn quota(&self, programme: u32) -> u32
+        requires { programme < length self.now.quota }
+        ensures { result ≡ slice_index self.now.quota programme }
+    {
+        self.quota[programme as usize]
+    }
+
+    /// The seats of a programme that are taken before the first turn.
+    pub fn fill(&self, programme: u32) -> u32
+        requires { programme < length self.now.quota }
+        ensures { result ≡ slice_index self.now.fill programme }
+    {
+        self.fill[programme as usize]
+    }
+
+    /// The list of a turn: programmes, best first.
+    #[tactic(auto, unfolding(crate::specs::Dictatorships::list_at))]
+    pub fn list(&self, turn: u32) -> &[u32]
+        requires { turn < length self.now.lists }
+        ensures { result.now ≡ list_at self.now turn }
+    {
+        match &self.lists {
+            Lists::Flat(lists) => lists.list(turn as usize),
+            Lists::Each(lists) => {
+                let list = &lists[turn as usize];
+                list.items()
+            }
+        }
+    }
+}

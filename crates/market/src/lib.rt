@@ -1,0 +1,51 @@
+//! A market, the definitions of the mechanism that places its candidates, and what every way of
+//! running that mechanism shares.
+//!
+//! `specs/` says what is meant: what a market is, which placements are stable, and the
+//! multi-category serial dictatorship after Balinski and Sönmez (1999). The types here hold such
+//! values; their contracts see them as plain lists and numbers. Candidates, programmes and score
+//! types are indexes.
+#![tactic(auto)]
+
+// A list of numbers.
+mod list;
+// A programme: its score type and its quota.
+mod programme;
+// What each candidate holds, and the outcome of a placement.
+mod placement;
+// A market, its look-ups and its dictatorships.
+mod market;
+// How much of each preference list a round reads.
+mod cuts;
+// One serial dictatorship.
+mod dict;
+// What each candidate has chosen in each type.
+mod tentative;
+// A counter of turns.
+mod steps;
+// What can place the candidates of a market.
+mod placer;
+// Worked examples.
+mod examples;
+// The tables that a market keeps.
+mod build;
+// The lists of a type in turn order, which a market keeps.
+mod type_lists;
+// Lists that lie one after another in one vector.
+mod flat_lists;
+#[cfg(test)]
+mod tests;
+
+pub use cuts::Cuts;
+pub use dict::Dict;
+pub use examples::{
+    examples_are_valid, exchange_placement, freed_seat_placement, three_rounds_placement,
+    two_turns_choices,
+};
+pub use list::List;
+pub use market::Market;
+pub use placement::{Outcome, Placement};
+pub use placer::Placer;
+pub use programme::Prog;
+pub use steps::Steps;
+pub use tentative::Tentative;

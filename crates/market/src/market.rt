@@ -1,0 +1,262 @@
+// A market: a placement problem with the tables that make its look-ups quick.
+
+ghost use Rattle.std.specs.Prelude.{◌≡◌, ◌<◌, ◌≤◌, length, slice_index, map, drop, IfOk};
+ghost use Rattle.market.specs.Problems.{IsValid, list_of, order_of, rank_of, turn_of, programme_at, quota_of};
+ghost use Rattle.market.specs.Mechanism.{IsCuts};
+ghost use Rattle.market.specs.LocalNumbers.{programmes_of, local_of, local_dictatorship, local_list as local_turn_list, IsFill, IsFillBefore, ChoosesAlike};
+
+use crate::build::{all_members, local_numbers, turn_tables};
+use crate::flat_lists::{FlatLists, first_bound};
+use crate::type_lists::{TypeLists, add_turn, all_type_lists};
+use crate::{Cuts, Dict, List, Prog};
+use std::alloc::{AllocError, Global};
+use std::marker::Model;
+
+/// Score types, programmes with quotas, and candidates with preference lists and ranks. Contracts
+/// see it as a `Problem`, which is always valid.
+#[derive(Drop)]
+pub struct Market {
+    types: u32,
+    programmes: Vec<Prog>,
+    lists: Vec<List>,
+    orders: Vec<List>,
+    ranks: Vec<List>,
+    // For each type the turn of each candidate, or the number of turns for none.
+    tables: Vec<List>,
+    // For each type its programmes.
+    members: Vec<List>,
+    // For each programme its local number.
+    locals: Vec<u32>,
+    // For each type the lists of its turns, as local numbers.
+    type_lists: Vec<TypeLists>,
+}
+
+impl Model for Market {
+    ghost use Rattle.market.specs.Problems.{Problem};
+    ghost use Rattle.market.specs.TypeLists.{HasParts};
+
+    ghost Value = { Problem };
+
+    ghost view = { λ m. record {
+      types = m.types;
+      programmes = m.programmes.items;
+      lists = m.lists.items;
+      orders = m.orders.items;
+      ranks = m.ranks.items;
+    } };
+
+    ghost invariant = { λ m. HasParts
+        (record {
+          types = m.types;
+          programmes = m.programmes.items;
+          lists = m.lists.items;
+          orders = m.orders.items;
+          ranks = m.ranks.items;
+        })
+        m.tables.items m.members.items m.locals.items m.type_lists.items };
+}
+
+impl Market {
+    /// The market of these parts: the programmes, the preference list of each candidate, and for
+    /// each type the candidates in turn order and their ranks. Nothing but memory is refused.
+    pub fn build(
+        alloc: Global,
+        types: u32,
+        programmes: Vec<Prog>,
+        lists: Vec<List>,
+        orders: Vec<List>,
+        ranks: Vec<List>,
+    ) -> Result<Market, AllocError>
+        requires { IsValid (record {
+          types = types;
+          programmes = programmes.items;
+          lists = lists.items;
+          orders = orders.items;
+          ranks = ranks.items;
+        }) }
+        ensures types { IfOk result (λ m. m.types ≡ types) }
+        ensures programmes { IfOk result (λ m. m.programmes ≡ programmes.items) }
+        ensures lists { IfOk result (λ m. m.lists ≡ lists.items) }
+        ensures orders { IfOk result (λ m. m.orders ≡ orders.items) }
+        ensures ranks { IfOk result (λ m. m.ranks ≡ ranks.items) }
+    {
+        let tables = turn_tables(alloc, lists.len(), &orders)?;
+        let members = all_members(alloc, types, &programmes)?;
+        let locals = local_numbers(alloc, types, &programmes)?;
+        let type_lists = all_type_lists(alloc, &programmes, &locals, &lists, types, &orders)?;
+        Ok(Market {
+            types,
+            programmes,
+            lists,
+            orders,
+            ranks,
+            tables,
+            members,
+            locals,
+            type_lists,
+        })
+    }
+
+    /// How many score types there are.
+    pub fn type_count(&self) -> u32
+        ensures count { result ≡ self.now.types }
+        ensures valid { IsValid self.now }
+    {
+        self.types
+    }
+
+    /// How many programmes there are.
+    pub fn programme_count(&self) -> u32
+        ensures { result ≡ length self.now.programmes }
+    {
+        self.programmes.len() as u32
+    }
+
+    /// How many candidates there are.
+    pub fn candidate_count(&self) -> u32
+        ensures count { result ≡ length self.now.lists }
+        ensures valid { IsValid self.now }
+    {
+        self.lists.len() as u32
+    }
+
+    /// A programme by its index.
+    pub fn programme(&self, programme: u32) -> Prog
+        requires { programme < length self.now.programmes }
+        ensures { result ≡ programme_at self.now programme }
+    {
+        self.programmes[programme as usize]
+    }
+
+    /// The preference list of a candidate: programmes, best first.
+    #[tactic(auto, unfolding(crate::specs::Problems::list_of))]
+    pub fn list(&self, candidate: u32) -> &[u32]
+        requires { candidate < length self.now.lists }
+        ensures { result.now ≡ list_of self.now candidate }
+    {
+        let list = &self.lists[candidate as usize];
+        list.items()
+    }
+
+    /// The turn order of a type: the candidates who have a rank in it, best rank first.
+    #[tactic(auto, unfolding(crate::specs::Problems::order_of))]
+    pub fn order(&self, kind: u32) -> &[u32]
+        requires { kind < self.now.types }
+        ensures order { result.now ≡ order_of self.now kind }
+        ensures valid { IsValid self.now }
+    {
+        let order = &self.orders[kind as usize];
+        order.items()
+    }
+
+    /// The turn of a candidate in a type, or the number of turns where there is none.
+    pub fn turn(&self, kind: u32, candidate: u32) -> u32
+        requires kind { kind < self.now.types }
+        requires candidate { candidate < length self.now.lists }
+        ensures { result ≡ turn_of self.now kind candidate }
+    {
+        let table = &self.tables[kind as usize];
+        table.items()[candidate as usize]
+    }
+
+    /// The rank of a candidate in a type, None where there is none.
+    #[tactic(auto, unfolding(crate::specs::Problems::rank_of, crate::specs::Problems::ranks_of))]
+    pub fn rank(&self, kind: u32, candidate: u32) -> Option<u32>
+        requires kind { kind < self.now.types }
+        requires candidate { candidate < length self.now.lists }
+        ensures { result ≡ rank_of self.now kind candidate }
+    {
+        let turn = self.turn(kind, candidate);
+        let ranks = &self.ranks[kind as usize];
+        ranks.items().get(turn as usize).copied()
+    }
+
+    /// The programmes of a type, rising. The one at place j has the local number j.
+    pub fn type_programmes(&self, kind: u32) -> &[u32]
+        requires { kind < self.now.types }
+        ensures members { result.now ≡ programmes_of self.now kind }
+        ensures valid { IsValid self.now }
+    {
+        let members = &self.members[kind as usize];
+        members.items()
+    }
+
+    /// The local number of a programme: its place among those of its type.
+    pub fn local(&self, programme: u32) -> u32
+        requires { programme < length self.now.programmes }
+        ensures { result ≡ local_of self.now programme }
+    {
+        self.locals[programme as usize]
+    }
+
+    /// The dictatorship of a type under cuts, over local numbers, from a turn on and with these
+    /// seats taken before it. The list of turn k is that of the candidate at place `from_turn` + k
+    /// of the turn order, up to the cut and restricted to the type.
+    pub fn dict(
+        &self,
+        alloc: Global,
+        kind: u32,
+        cuts: &Cuts,
+        from_turn: u32,
+        fill: &[u32],
+    ) -> Result<Dict, AllocError>
+        requires kind { kind < self.now.types }
+        requires cuts { IsCuts self.now cuts.now }
+        requires from { from_turn ≤ length (order_of self.now kind) }
+        requires fill { IsFill self.now kind fill.now }
+
+        ensures dictatorship { IfOk result (λ d. d ≡ local_dictatorship self.now cuts.now kind from_turn fill.now) }
+
+        // With the seats that the turns before `from_turn` take, its turns choose as those of the
+        // type's own dictatorship over the market's numbers.
+        ensures alike { IfOk result (λ d. IsFillBefore self.now cuts.now kind from_turn fill.now
+            → ChoosesAlike self.now cuts.now kind from_turn d) }
+    {
+        let lists = self.turn_lists(alloc, kind, cuts, from_turn)?;
+        let quota = self.quotas(alloc, kind)?;
+        let fill = Vec::from_slice(alloc, fill)?;
+        Ok(Dict::from_flat(quota, fill, lists))
+    }
+
+    // The quotas of the programmes of a type.
+    fn quotas(&self, alloc: Global, kind: u32) -> Result<Vec<u32>, AllocError>
+        requires { kind < self.now.types }
+        ensures { IfOk result (λ quota. quota.items ≡ map (quota_of self.now) (programmes_of self.now kind)) }
+    {
+        let mut quota = Vec::new(alloc);
+        let members = self.type_programmes(kind);
+        for programme in members {
+            let seats = self.programme(*programme).quota;
+            quota.push(seats)?;
+        }
+        Ok(quota)
+    }
+
+    // The lists of the turns of a type from a turn on.
+    fn turn_lists(
+        &self,
+        alloc: Global,
+        kind: u32,
+        cuts: &Cuts,
+        from_turn: u32,
+    ) -> Result<FlatLists, AllocError>
+        requires kind { kind < self.now.types }
+        requires cuts { IsCuts self.now cuts.now }
+        requires from { from_turn ≤ length (order_of self.now kind) }
+        ensures valid { IsValid self.now }
+        ensures lists { IfOk result (λ lists. lists
+            ≡ map (local_turn_list self.now cuts.now kind) (drop from_turn (order_of self.now kind))) }
+    {
+        let order = self.order(kind);
+        let rest = &order[from_turn as usize..];
+        let type_lists = &self.type_lists[kind as usize];
+        let mut items = Vec::with_capacity(alloc, type_lists.items().len())?;
+        let mut bounds = first_bound(alloc, rest.len())?;
+        for (index, candidate) in rest.iter().enumerate() {
+            let turn = from_turn as usize + index;
+            add_turn(&mut items, type_lists, turn, cuts.cut(*candidate))?;
+            bounds.push(items.len() as u32)?;
+        }
+        Ok(FlatLists::from_parts(items, bounds))
+    }
+}

@@ -1,0 +1,110 @@
+// The market of three rounds by its calls, each that takes memory with ample memory.
+
+ghost use Rattle.std.specs.Prelude.{◌≡◌, ◌<◌, IfOk};
+ghost use Rattle.market.specs.Mechanism.{IsCuts};
+ghost use Rattle.market.specs.Examples.{three_rounds};
+
+use crate::{Cuts, List, Market, Placement, Prog, Tentative};
+use std::alloc::{AllocError, Global};
+use std::test::Fail;
+
+// A list of these numbers.
+fn list(alloc: Global, items: &[u32]) -> Result<List, AllocError>
+    ensures { IfOk result (λ l. l ≡ items.now) }
+{
+    Ok(List::from_vec(Vec::from_slice(alloc, items)?))
+}
+
+// The market of three rounds.
+fn three_rounds(alloc: Global) -> Result<Market, AllocError>
+    ensures { IfOk result (λ m. m ≡ three_rounds) }
+{
+    let programmes = vec![in alloc;
+        Prog { kind: 0, quota: 1 },
+        Prog { kind: 0, quota: 1 },
+        Prog { kind: 1, quota: 1 },
+    ]?;
+    let first = list(alloc, &[0, 2])?;
+    let second = list(alloc, &[2, 0, 1])?;
+    let third = list(alloc, &[1])?;
+    let lists = vec![in alloc; first, second, third]?;
+    let order = list(alloc, &[0, 1, 2])?;
+    let other_order = list(alloc, &[0, 1, 2])?;
+    let orders = vec![in alloc; order, other_order]?;
+    let ranks = list(alloc, &[1, 2, 3])?;
+    let other_ranks = list(alloc, &[1, 2, 3])?;
+    let ranks = vec![in alloc; ranks, other_ranks]?;
+    Market::build(alloc, 2, programmes, lists, orders, ranks)
+}
+
+// What several threads may share, and one may hand to another.
+fn crosses_threads<T: Send + Sync>(_value: &T) {}
+
+#[test]
+fn looks_up_what_it_was_built_of(rt: HostRuntime) -> Result<(), Fail> {
+    let alloc = rt.alloc();
+    let market = three_rounds(alloc)?;
+    assert_eq!(rt; market.type_count(), 2);
+    assert_eq!(rt; market.programme_count(), 3);
+    assert_eq!(rt; market.candidate_count(), 3);
+    for kind in 0..market.type_count() {
+        assert_eq!(rt; market.order(kind), &[0, 1, 2][..]);
+        for candidate in 0..market.candidate_count() {
+            assert_eq!(rt; market.turn(kind, candidate), candidate);
+            assert_eq!(rt; market.rank(kind, candidate), Some(candidate + 1));
+        }
+    }
+    crosses_threads(&market);
+    Ok(())
+}
+
+// The lists of a type's turns up to these cuts, each with a 9 at its end.
+fn turn_lists(
+    alloc: Global,
+    market: &Market,
+    cuts: &Cuts,
+    kind: u32,
+) -> Result<Vec<u32>, AllocError>
+    requires kind { kind < market.now.types }
+    requires cuts { IsCuts market.now cuts.now }
+{
+    let fill = vec![in alloc; 0u32; market.type_programmes(kind).len()]?;
+    let dict = market.dict(alloc, kind, cuts, 0, &fill)?;
+    crosses_threads(&dict);
+    let mut found = Vec::new(alloc);
+    for turn in 0..dict.turns() {
+        for local in dict.list(turn) {
+            found.push(*local)?;
+        }
+        found.push(9)?;
+    }
+    Ok(found)
+}
+
+#[test]
+fn gives_the_dictatorship_of_a_type(rt: HostRuntime) -> Result<(), Fail> {
+    let alloc = rt.alloc();
+    let market = three_rounds(alloc)?;
+    let mut cuts = Cuts::whole(alloc, &market)?;
+    let lists = turn_lists(alloc, &market, &cuts, 0)?;
+    assert_eq!(rt; lists.as_slice(), &[0, 9, 0, 1, 9, 1, 9][..]);
+    cuts.set(1, 2);
+    assert_eq!(rt; cuts.cut(1), 2);
+    Ok(())
+}
+
+#[test]
+fn keeps_choices_and_placements(rt: HostRuntime) -> Result<(), Fail> {
+    let alloc = rt.alloc();
+    let market = three_rounds(alloc)?;
+    let mut table = Tentative::none(alloc, &market)?;
+    table.set(0, 1, Some(0));
+    assert_eq!(rt; table.choice(0, 1), Some(0));
+    assert_eq!(rt; table.choice(1, 1), None);
+    let placement = Placement::from_vec(vec![in alloc; Some(0), None]?);
+    assert_eq!(rt; placement.held(), &[Some(0), None][..]);
+    assert_eq!(rt; placement.holds(1), None);
+    crosses_threads(&table);
+    crosses_threads(&placement);
+    Ok(())
+}
