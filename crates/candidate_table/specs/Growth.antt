@@ -33,6 +33,7 @@ with_row programmes table row = with_candidate table row.0 (number_in row) (list
 
 -- a row is taken where nothing is wrong with it, else its fault is told; want of memory says nothing
 abbrev pub IsRowTaken : List ℕ → Candidates → Row → Result (Unit {0}) TableStop → Candidates → Type 0
-IsRowTaken programmes old row (Ok _) new = (row_fault_in programmes old row ≡ None) × (new ≡ with_row programmes old row)
+IsRowTaken programmes old row (Ok _) new = (row_fault_in programmes old row ≡ None)
+    × (new ≡ with_row programmes old row)
 IsRowTaken programmes old row (Err (Fault fault)) new = row_fault_in programmes old row ≡ Some fault
 IsRowTaken programmes old row (Err Memory) new = ⊤

@@ -13,3 +13,6 @@ mod table;
 
 pub use numbers::CandidateNumbers;
 pub use table::CandidateTable;
+
+#[cfg(test)]
+mod tests;

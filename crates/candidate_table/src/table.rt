@@ -36,22 +36,23 @@ impl CandidateTable {
     /// The table of a file of at most 2^30 bytes beside the programmes' codes; `Fault` exactly where
     /// the file has a first fault, and then it carries it.
     ///
-    /// `_pieces` is the number of pieces, 1 to 64, in which the file may be read. The result does not
-    /// depend on it. After a refusal there is no table.
+    /// `pieces` is the number of parts, 1 to 64, in which the file may be read; it is read in one. The
+    /// result does not depend on it. After a refusal there is no table.
     pub fn read<R: Threads, P: Finder>(
-        _rt: &R,
+        rt: &R,
         alloc: Global,
         bytes: &[u8],
-        _pieces: u32,
+        pieces: u32,
         programmes: &P,
     ) -> Result<CandidateTable, TableStop>
         requires size { length bytes.now ≤ 2 ^ 30 }
-        requires pieces { (1 ≤ _pieces) × (_pieces ≤ 64) }
+        requires pieces { (1 ≤ pieces) × (pieces ≤ 64) }
         ensures read { IsTableRead (candidates_fault (P.numbers programmes.now) bytes.now)
             (candidates_table (P.numbers programmes.now) bytes.now) result }
 
         // The lists meet what a market asks of them.
-        ensures lists { IfOk result (λ table. All (IsPreferenceList (length (P.numbers programmes.now))) table.lists) }
+        ensures lists { IfOk result (λ table.
+            All (IsPreferenceList (length (P.numbers programmes.now))) table.lists) }
     {
         let form = candidates_form();
         let mut records = Records::of_bytes(bytes);

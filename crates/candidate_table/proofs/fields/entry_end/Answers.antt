@@ -7,4 +7,5 @@ returns-then-byte-eq59-clause-cut c =
     λ lt. split-cut 59 c.args.list.now c.loop-index.index lt c.if-byte-eq59.true c.loop-index.invariant
 
 pub returns-clause-whole : goal.returns-clause-whole
-returns-clause-whole c = λ _. split-whole 59 c.args.list.now (λ k lt. c.loop-index.invariant k (omega arith))
+returns-clause-whole c =
+    λ _. split-whole 59 c.args.list.now (λ k lt. c.loop-index.invariant k (omega arith))

@@ -11,11 +11,13 @@ pub returns : goal.returns
 returns c =
     let row = c.args.row.now in
     let number : number_of (field_at row 0) 1 99999999999 ≡ Ok c.in-Ok.number =
-        sym (c.in-Ok.ensures ∙ ap (λ (text : List ℕ). number_of text 1 99999999999) c.field.ensures) in
+    sym (c.in-Ok.ensures ∙ ap (λ (text : List ℕ). number_of text 1 99999999999) c.field.ensures) in
     let codes : list_of (field_at row 1) ≡ Ok c.in-Ok-read_list.codes =
-        sym (c.in-Ok-read_list.ensures ∙ ap list_of c.field-2.ensures) in
-    (λ j. first_of (reading_fault Candidates row.0 1 (number j)) (reading_fault Candidates row.0 2 (codes j)),
-     record {
-       number = number_of-value (field_at row 0) 1 99999999999 c.in-Ok.number number;
-       codes = list_of-values (field_at row 1) c.in-Ok-read_list.codes codes;
-     })
+    sym (c.in-Ok-read_list.ensures ∙ ap list_of c.field-2.ensures) in (
+      λ j. first_of (reading_fault Candidates row.0 1 (number j))
+          (reading_fault Candidates row.0 2 (codes j)),
+      record {
+        number = number_of-value (field_at row 0) 1 99999999999 c.in-Ok.number number;
+        codes = list_of-values (field_at row 1) c.in-Ok-read_list.codes codes;
+      },
+    )

@@ -8,6 +8,8 @@ pub returns-clause-ok : goal.returns-clause-ok
 returns-clause-ok c =
     let lines = c.self.inside.lines.entries in
     let absent : lookup (nat_eq c.args.number) lines ≡ None =
-        ap (λ (known : List (ℕ × ℕ)). lookup (nat_eq c.args.number) known) c.self.view_is ∙ c.requires.new in
-    c.in_ok-insert.ensures.entries ∙ insert_entry-new nat_eq c.self.inside.lines c.args.number c.args.line absent
+    ap (λ (known : List (ℕ × ℕ)). lookup (nat_eq c.args.number) known) c.self.view_is
+    ∙ c.requires.new in
+    c.in_ok-insert.ensures.entries
+    ∙ insert_entry-new nat_eq c.self.inside.lines c.args.number c.args.line absent
     ∙ ap (λ (known : List (ℕ × ℕ)). known ++ (c.args.number, c.args.line) ∷ []) c.self.view_is
