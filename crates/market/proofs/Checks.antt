@@ -118,7 +118,7 @@ pub parts_valid : (m : Problem) (programmes : List Prog) (lists orders ranks : L
     → IsValid (record { types = m.types; programmes = programmes; lists = lists; orders = orders; ranks = ranks })
 parts_valid m programmes lists orders ranks v p l o r =
     let same : m ≡ record { types = m.types; programmes = programmes; lists = lists; orders = orders; ranks = ranks }
-        = λ i. record { types = m.types; programmes = sym p i; lists = sym l i; orders = sym o i; ranks = sym r i } in
+    = λ i. record { types = m.types; programmes = sym p i; lists = sym l i; orders = sym o i; ranks = sym r i } in
     subst IsValid same v
 
 -- lists made of equal lists are equal
@@ -176,5 +176,5 @@ pub dictatorship_parts_valid : (d : Dictatorship) (quota fill : List ℕ) (lists
     → IsValidDictatorship (record { quota = quota; fill = fill; lists = lists })
 dictatorship_parts_valid d quota fill lists v q f l =
     let same : d ≡ record { quota = quota; fill = fill; lists = lists }
-        = λ i. record { quota = sym q i; fill = sym f i; lists = sym l i } in
+    = λ i. record { quota = sym q i; fill = sym f i; lists = sym l i } in
     subst IsValidDictatorship same v
