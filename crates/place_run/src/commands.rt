@@ -32,8 +32,5 @@ pub(crate) fn prepare_place<H: Shelf>(
     read_file(alloc, shelf, programmes, FileKind::Programmes)?;
     read_file(alloc, shelf, candidates, FileKind::Candidates)?;
     read_file(alloc, shelf, ranks, FileKind::Ranks)?;
-    match text::placement(alloc) {
-        Ok(text) => Ok(text),
-        Err(_) => Err(Stop::Memory),
-    }
+    Ok(text::placement(alloc)?)
 }

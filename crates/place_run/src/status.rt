@@ -2,6 +2,8 @@
 ghost use Rattle.std.specs.Prelude.{◌≡◌};
 ghost use Rattle.place_run.specs.Outcome.{code_of, status_of};
 
+use std::alloc::AllocError;
+
 /// One of the files of a command.
 #[derive(Clone, Copy, Debug, PartialEq, Eq)]
 pub enum FileKind {
@@ -63,5 +65,15 @@ impl Stop {
             Stop::ReadFault => Status::ReadFault,
             Stop::Memory => Status::Memory,
         }
+    }
+}
+
+impl From<AllocError> for Stop {
+    ghost use Rattle.place_run.specs.declared.status.Stop.TheVariants.{Memory};
+
+    ghost from_gives = { λ _ stop. stop ≡ Memory };
+
+    fn from(_: AllocError) -> Stop {
+        Stop::Memory
     }
 }

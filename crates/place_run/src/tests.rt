@@ -75,48 +75,50 @@ fn words_that_are_no_command_are_refused(rt: HostRuntime) -> Result<(), Fail> {
     Ok(())
 }
 
+const BROKEN: &[u8] = b"candidate,list\nx,101\n";
+
+const MARKED: &[u8] = b"\xef\xbb\xbfprogramme,type,quota\n";
+
+const CUT_SHORT: &[u8] = b"programme,type,quota";
+
+// Files that are refused: the status, its line, and how often the shelf failed. Where a file is refused, the next is
+// not opened, so that it may be missing.
+const REFUSED: [(&[(&str, &[u8])], Status, &[u8], u64); 5] = [
+    (
+        &[("p", PROGRAMMES), ("c", BROKEN)],
+        Status::NotPlain(FileKind::Candidates),
+        b"not plain candidates\n",
+        0,
+    ),
+    (
+        &[("p", PROGRAMMES), ("r", b"")],
+        Status::ReadFault,
+        b"read fault\n",
+        1,
+    ),
+    (
+        &[("p", MARKED), ("c", BROKEN)],
+        Status::NotPlain(FileKind::Programmes),
+        b"not plain programmes\n",
+        0,
+    ),
+    (
+        &[("p", CUT_SHORT), ("c", CANDIDATES)],
+        Status::NotPlain(FileKind::Programmes),
+        b"not plain programmes\n",
+        0,
+    ),
+    (
+        &[("p", PROGRAMMES), ("c", CANDIDATES), ("r", b"")],
+        Status::NotPlain(FileKind::Ranks),
+        b"not plain ranks\n",
+        0,
+    ),
+];
+
 #[test]
 fn the_first_file_that_cannot_be_used_is_named(rt: HostRuntime) -> Result<(), Fail> {
-    let broken: &[u8] = b"candidate,list\nx,101\n";
-    let marked: &[u8] = b"\xef\xbb\xbfprogramme,type,quota\n";
-    let cases: [(&[(&str, &[u8])], Status, &[u8], u64); 5] = [
-        // The ranks are missing, but they are not opened.
-        (
-            &[("p", PROGRAMMES), ("c", broken)],
-            Status::NotPlain(FileKind::Candidates),
-            b"not plain candidates\n",
-            0,
-        ),
-        (
-            &[("p", PROGRAMMES), ("r", b"")],
-            Status::ReadFault,
-            b"read fault\n",
-            1,
-        ),
-        (
-            &[("p", marked), ("c", broken)],
-            Status::NotPlain(FileKind::Programmes),
-            b"not plain programmes\n",
-            0,
-        ),
-        (
-            &[("p", PROGRAMMES), ("c", CANDIDATES), ("r", b"")],
-            Status::NotPlain(FileKind::Ranks),
-            b"not plain ranks\n",
-            0,
-        ),
-        (
-            &[
-                ("p", b"programme,type,quota"),
-                ("c", CANDIDATES),
-                ("r", RANKS),
-            ],
-            Status::NotPlain(FileKind::Programmes),
-            b"not plain programmes\n",
-            0,
-        ),
-    ];
-    for (files, wanted, line, count) in cases {
+    for (files, wanted, line, count) in REFUSED {
         let (status, out, notes, faults) = run(&rt, rt.alloc(), &PLACE, files)?;
         assert_eq!(rt; status, wanted);
         assert_eq!(rt; out.bytes(), b"".as_slice());
