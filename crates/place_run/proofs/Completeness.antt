@@ -1,5 +1,5 @@
 -- Where nothing failed, a run is whole: each status but those of a fault and of memory says what the outcome is.
-use Rattle.std.proofs.Common.{◌≡◌, ℕ, List, [], ◌++◌, refl, sym, ap, ◌∙◌, append-nil, subst, Some, None, inl, inr}
+use Rattle.std.proofs.Common.{◌≡◌, ℕ, List, [], refl, sym, ap, ◌∙◌, append-nil, subst, Some, None, inl, inr}
 use Rattle.std.specs.Prelude.{Option}
 use Rattle.place_edges.specs.Shelf.{Files}
 use Rattle.place_edges.specs.Sink.{Appended}
