@@ -1,5 +1,5 @@
 -- A table that grows by a row.
-use Rattle.std.specs.Prelude.{ℕ, List, [], ◌∷◌, ◌++◌, Bool, ◌==◌, ◌&&◌, not, nat_le, nat_eq, bytes_eq, length, Option, None, Some, Result, Ok, Err, option_map, ◌≡◌, ⊤}
+use Rattle.std.specs.Prelude.{ℕ, List, [], ◌∷◌, ◌++◌, Bool, ◌&&◌, not, nat_le, nat_eq, bytes_eq, length, Option, None, Some, Result, Ok, Err, option_map, ◌≡◌, ⊤}
 use Rattle.std.specs.List.{list_any}
 use Rattle.std.specs.Map.{lookup}
 use Rattle.indexmap.specs.IndexSet.{insert_key}

@@ -1,5 +1,5 @@
 // What the fields of a row say, by themselves.
-ghost use Rattle.std.specs.Prelude.{◌≡◌, ◌≤◌, length, None, Some, Ok, MatchResult};
+ghost use Rattle.std.specs.Prelude.{◌≡◌, ◌≤◌, length, None, Some, Ok, IfOk, IfErr, MatchResult};
 ghost use Rattle.record_files.specs.FirstFaults.{fault_at, reading_fault};
 ghost use Rattle.record_files.specs.Numbers.{number_of, value};
 ghost use Rattle.record_files.specs.Rows.{fields_of};
@@ -44,8 +44,10 @@ fn number_in(
     low: u64,
     high: u64,
 ) -> Result<u64, FileFault>
-    ensures { MatchResult result (λ read. (number_of text.now low high ≡ Ok read) × (read ≡ value text.now) × (low ≤ read) × (read ≤ high))
-        (λ fault. reading_fault FileKind.Programmes row.now.0 field (number_of text.now low high) ≡ Some fault) }
+    ensures read { IfOk result (λ read. (number_of text.now low high ≡ Ok read) × (read ≡ value text.now)) }
+    ensures limits { IfOk result (λ read. (low ≤ read) × (read ≤ high)) }
+    ensures fault { IfErr result (λ fault. Some fault
+        ≡ reading_fault FileKind.Programmes row.now.0 field (number_of text.now low high)) }
 {
     match number(text, low, high) {
         Ok(read) => Ok(read),

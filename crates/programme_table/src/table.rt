@@ -1,9 +1,7 @@
 // The table, its reading and its look-ups.
-ghost use Rattle.std.specs.Prelude.{◌≡◌, ◌^◌, ◌≤◌, ◌<◌, All, length, map, slice_get, [], Some, None, IfOk, OnOk, MatchOption};
+ghost use Rattle.std.specs.Prelude.{◌≡◌, ◌^◌, ◌≤◌, ◌<◌, [], All, length, map, slice_get, Some, None, IfOk, OnOk};
 ghost use Rattle.record_files.specs.FirstFaults.{IsTableRead};
-ghost use Rattle.record_files.specs.Rows.{fields_of};
-ghost use Rattle.programme_table.specs.Fields.{IsFieldsOf};
-ghost use Rattle.programme_table.specs.Growth.{IsRowTaken, clash, is_full_for, line_with, with_programme};
+ghost use Rattle.programme_table.specs.Growth.{IsRowTaken, clash, with_programme};
 ghost use Rattle.programme_table.specs.Programmes.{form as programmes, programmes_fault};
 ghost use Rattle.programme_table.specs.Table.{prog_of, programmes_table, table_of};
 
@@ -41,9 +39,11 @@ impl Model for ProgrammeTable {
 }
 
 impl ProgrammeTable {
-    /// The table of a file, or the file's first fault.
+    /// The table of a file of at most 2^30 bytes; `Fault` exactly where the file has a first fault,
+    /// and then it carries it.
     ///
-    /// The file is read in at most so many pieces, 1 to 64; the table does not depend on it.
+    /// The last argument is the number of pieces, 1 to 64, in which the file may be read. The result
+    /// does not depend on it. After a refusal there is no table.
     pub fn read<R: Threads>(
         _rt: &R,
         alloc: Global,

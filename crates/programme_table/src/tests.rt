@@ -32,64 +32,94 @@ fn codes_and_types_stand_in_file_order(rt: HostRuntime) -> Result<(), Fail> {
     Ok(())
 }
 
-const SIXTEEN_TYPES: &str =
-    "1,A,1\n2,B,1\n3,C,1\n4,D,1\n5,E,1\n6,F,1\n7,G,1\n8,H,1\n9,I,1\n10,J,1\n11,K,1\n\
-    12,L,1\n13,M,1\n14,N,1\n15,O,1\n16,P,1\n17,A,1\n";
+// Sixteen types in seventeen rows, and a seventeenth.
+const MANY_TYPES: &str =
+    "programme,type,quota\n1,A,1\n2,B,1\n3,C,1\n4,D,1\n5,E,1\n6,F,1\n7,G,1\n8,H,1\n9,I,1\n\
+    10,J,1\n11,K,1\n12,L,1\n13,M,1\n14,N,1\n15,O,1\n16,P,1\n17,A,1\n18,Q,1\n";
+
+// A file, and its fault's line, field, kind and earlier line.
+const FILES: [(&str, u32, u8, FaultKind, u32); 12] = [
+    ("", 1, 0, FaultKind::Header, 0),
+    ("\nprogramme,type\n", 2, 0, FaultKind::Header, 0),
+    (
+        "programme,type,quota\n101,SAY,2\n202,EA,1\n101,EA,3\n",
+        4,
+        1,
+        FaultKind::Duplicate,
+        2,
+    ),
+    (
+        "programme,type,quota\n7,SAY,2\n\n007,EA,1\n7,EA,x\n",
+        4,
+        1,
+        FaultKind::Duplicate,
+        2,
+    ),
+    (
+        "programme,type,quota\n101,SAY,2\n101,say,2\n",
+        3,
+        2,
+        FaultKind::BadTypeName,
+        0,
+    ),
+    (
+        "programme,type,quota\n0,say,x\n",
+        2,
+        1,
+        FaultKind::OutOfRange,
+        0,
+    ),
+    (
+        "programme,type,quota\n1000000000,SAY,2\n",
+        2,
+        1,
+        FaultKind::OutOfRange,
+        0,
+    ),
+    (
+        "programme,type,quota\n1x,SAY,2\n",
+        2,
+        1,
+        FaultKind::NotNumber,
+        0,
+    ),
+    (
+        "programme,type,quota\n1,SAY,100000\n2,SAY,100001\n",
+        3,
+        3,
+        FaultKind::OutOfRange,
+        0,
+    ),
+    (
+        "programme,type,quota\n1,SAY,\n",
+        2,
+        3,
+        FaultKind::NotNumber,
+        0,
+    ),
+    (
+        "programme,type,quota\n1,SAY,2,\n",
+        2,
+        0,
+        FaultKind::FieldCount,
+        0,
+    ),
+    (MANY_TYPES, 19, 2, FaultKind::OutOfRange, 0),
+];
 
 #[test]
 fn the_first_fault_is_told(rt: HostRuntime) -> Result<(), Fail> {
-    // The data rows, and the fault's line, field, kind and earlier line.
-    let rows: [(&str, Option<(u32, u8, FaultKind, u32)>); 14] = [
-        ("", None),
-        (
-            "101,SAY,2\n202,EA,1\n101,EA,3\n",
-            Some((4, 1, FaultKind::Duplicate, 2)),
-        ),
-        (
-            "7,SAY,2\n\n007,EA,1\n7,EA,x\n",
-            Some((4, 1, FaultKind::Duplicate, 2)),
-        ),
-        (
-            "101,SAY,2\n101,say,2\n",
-            Some((3, 2, FaultKind::BadTypeName, 0)),
-        ),
-        ("0,say,x\n", Some((2, 1, FaultKind::OutOfRange, 0))),
-        ("1000000000,SAY,2\n", Some((2, 1, FaultKind::OutOfRange, 0))),
-        ("1x,SAY,2\n", Some((2, 1, FaultKind::NotNumber, 0))),
-        (
-            "1,SAY,100000\n2,SAY,100001\n",
-            Some((3, 3, FaultKind::OutOfRange, 0)),
-        ),
-        ("1,SAY,\n", Some((2, 3, FaultKind::NotNumber, 0))),
-        ("1,SAY\n", Some((2, 0, FaultKind::FieldCount, 0))),
-        ("1,SAY,2,\n", Some((2, 0, FaultKind::FieldCount, 0))),
-        (
-            "1,SAY,2\n\n1,EA,3\nx,EA,3\n",
-            Some((4, 1, FaultKind::Duplicate, 2)),
-        ),
-        ("16 types", None),
-        ("17 types", Some((19, 2, FaultKind::OutOfRange, 0))),
-    ];
-    for (data, fault) in &rows {
-        let mut text = String::from_str(rt.alloc(), "programme,type,quota\n")?;
-        match *data {
-            "16 types" => text.push_str(SIXTEEN_TYPES)?,
-            "17 types" => {
-                text.push_str(SIXTEEN_TYPES)?;
-                text.push_str("18,Q,1\n")?;
-            }
-            _ => text.push_str(data)?,
-        }
-        let told = match ProgrammeTable::read(&rt, rt.alloc(), text.as_bytes(), 1) {
-            Err(TableStop::Fault(found)) => Some((
-                found.line,
-                found.field,
-                found.kind,
-                found.earlier,
-            )),
-            _ => None,
+    for (text, line, field, kind, earlier) in FILES {
+        assert!(rt; text.len() < 1024);
+        let fault = match ProgrammeTable::read(&rt, rt.alloc(), text.as_bytes(), 1) {
+            Err(TableStop::Fault(fault)) => fault,
+            _ => return Err(Fail::new("no fault")),
         };
-        assert_eq!(rt; told, *fault, "{data}");
+        assert_eq!(rt;
+            (fault.line, fault.field, fault.kind, fault.earlier),
+            (line, field, kind, earlier),
+            "{text}"
+        );
     }
     Ok(())
 }
