@@ -1,0 +1,93 @@
+#!/usr/bin/env python3
+"""Times the program beside plain Rust on the same files: run.py SIZE..
+
+A size is one of small, middle, full and unlisted. Each market is made once under bench/out. For each program the time,
+the peak memory and the time of each phase are printed, and the ratio of the program to plain Rust. A phase ends where
+the program opens its next file, or writes its first byte; it is seen from outside, the same way for both programs.
+"""
+import os
+import shutil
+import subprocess
+import sys
+import time
+
+HERE = os.path.dirname(os.path.abspath(__file__))
+OUT = os.path.join(HERE, "out")
+PROGRAM = os.path.join(HERE, "..", "crates", "place_program", "out", "place_program")
+PLAIN = os.path.join(OUT, "plain")
+FILES = ["programmes.csv", "candidates.csv", "ranks.csv"]
+# candidates, programmes, types, rank rows
+SIZES = {
+    "small": (20_000, 500, 5, 60_000),
+    "middle": (200_000, 5_000, 8, 1_100_000),
+    "full": (3_500_000, 60_000, 16, 20_000_000),
+    # no programmes: lists are empty, so that nearly all the work is reading
+    "unlisted": (3_500_000, 0, 16, 20_000_000),
+}
+
+
+def files_of(size):
+    folder = os.path.join(OUT, size)
+    if not os.path.exists(os.path.join(folder, "ranks.csv")):
+        words = [str(number) for number in SIZES[size]]
+        subprocess.run([sys.executable, os.path.join(HERE, "make_market.py"), *words, "7", folder], check=True)
+    return [os.path.join(folder, name) for name in FILES]
+
+
+def open_file(pid, files):
+    """The place of the last file that the process has open, if it has one open."""
+    at = None
+    try:
+        for entry in os.listdir("/proc/%d/fd" % pid):
+            path = os.readlink("/proc/%d/fd/%s" % (pid, entry))
+            if path in files:
+                at = files.index(path)
+    except OSError:
+        pass
+    return at
+
+
+def timed(command, files):
+    """The output file, the seconds of all, the peak in MB, and the seconds of each phase."""
+    printed = os.path.join(OUT, "printed-" + os.path.basename(command))
+    with open(printed, "wb") as out:
+        start = time.monotonic()
+        child = subprocess.Popen([command, "place", *files], stdout=out, stderr=subprocess.DEVNULL)
+        starts = [None] * len(files)
+        while True:
+            done, status, usage = os.wait4(child.pid, os.WNOHANG)
+            now = time.monotonic() - start
+            if done:
+                break
+            at = open_file(child.pid, files)
+            if at is not None and starts[at] is None:
+                starts[at] = now
+            if len(starts) == len(files) and os.path.getsize(printed):
+                starts.append(now)
+            time.sleep(0.002)
+    starts.append(now)
+    known = [moment for moment in starts if moment is not None]
+    phases = [after - before for before, after in zip(known, known[1:])]
+    return printed, now, usage.ru_maxrss / 1024, phases, os.waitstatus_to_exitcode(status)
+
+
+def main():
+    if not os.path.exists(PROGRAM):
+        sys.exit("bench: build the program first, as with ./place")
+    if shutil.which("rustc") is None:
+        sys.exit("bench: skipped, there is no rustc")
+    os.makedirs(OUT, exist_ok=True)
+    subprocess.run(["rustc", "-O", "-o", PLAIN, os.path.join(HERE, "plain.rs")], check=True)
+    for size in sys.argv[1:] or ["small", "middle"]:
+        files = files_of(size)
+        ours = timed(PROGRAM, files)
+        plain = timed(PLAIN, files)
+        same = open(ours[0], "rb").read() == open(plain[0], "rb").read()
+        print("%s: %s" % (size, "the same text" if same else "ANOTHER TEXT"))
+        for name, run in (("place", ours), ("plain", plain)):
+            phases = " ".join("%.2f" % seconds for seconds in run[3])
+            print("  %s status %d: %.2f s, peak %.0f MB, phases %s" % (name, run[4], run[1], run[2], phases))
+        print("  ratio of times %.2f" % (ours[1] / plain[1]))
+
+
+main()

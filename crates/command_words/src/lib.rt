@@ -1,0 +1,10 @@
+//! The grammar of the command line: the command that a list of words gives, or the first refusal.
+#![tactic(auto)]
+
+// The table of commands, and the reading of a list of words against it.
+mod words;
+
+pub use words::{Command, WordsFault, read_words};
+
+#[cfg(test)]
+mod tests;

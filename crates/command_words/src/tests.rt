@@ -1,0 +1,51 @@
+// Words on both sides of each rule.
+use super::{Command, WordsFault, read_words};
+use std::alloc::{AllocError, Global};
+use std::test::Fail;
+
+fn words(alloc: Global, texts: &[&str]) -> Result<Vec<String>, AllocError> {
+    let mut words = Vec::new(alloc);
+    for text in texts {
+        words.push(String::from_str(alloc, text)?)?;
+    }
+    Ok(words)
+}
+
+#[test]
+fn a_command_is_its_word_and_as_many_words_as_it_wants(rt: HostRuntime) -> Result<(), Fail> {
+    let rows: [(&[&str], Result<Command, WordsFault>); 12] = [
+        (&["place", "P", "C", "R"], Ok(Command::Place(4))),
+        // Any word is a name where a name stands.
+        (&["place", "-P", "", "--workers"], Ok(Command::Place(4))),
+        (&[], Err(WordsFault::NoCommand)),
+        (&["plan"], Err(WordsFault::UnknownCommand(1))),
+        (&[""], Err(WordsFault::UnknownCommand(1))),
+        (
+            &["Place", "P", "C", "R"],
+            Err(WordsFault::UnknownCommand(1)),
+        ),
+        (&["places", "P"], Err(WordsFault::UnknownCommand(1))),
+        (&["place"], Err(WordsFault::WordCount(2))),
+        (&["place", "P", "C"], Err(WordsFault::WordCount(4))),
+        (
+            &["place", "P", "C", "R", "S"],
+            Err(WordsFault::WordCount(5)),
+        ),
+        (
+            &["place", "P", "C", "R", "S", "T"],
+            Err(WordsFault::WordCount(5)),
+        ),
+        (
+            &["place", "P", "C", "R", "--workers", "2"],
+            Err(WordsFault::WordCount(5)),
+        ),
+    ];
+    for (texts, meaning) in &rows {
+        assert_eq!(rt;
+            read_words(&words(rt.alloc(), texts)?),
+            *meaning,
+            "{texts:?}"
+        );
+    }
+    Ok(())
+}

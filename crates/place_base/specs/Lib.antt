@@ -1,0 +1,3 @@
+pub mod FaultKind
+pub mod FileKind
+pub mod TypeName

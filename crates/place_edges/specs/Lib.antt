@@ -1,0 +1,9 @@
+pub mod Causes
+pub mod Failures
+pub mod HeldFiles
+pub mod MemShelf
+pub mod MemSink
+pub mod RealShelf
+pub mod Shelf
+pub mod Sink
+pub mod SureShelf

@@ -1,0 +1,62 @@
+-- What a shelf holds, and what its calls do.
+use Rattle.std.specs.Prelude.{◌≡◌, ℕ, ◌+◌, ◌-◌, ◌^◌, ◌<◌, ◌≤◌, ◌⊎◌, min, max, List, [], ◌++◌, length, take, Option, Some, None, Result, Ok, Err, IsSome, ⊤}
+
+-- the bytes held under each name
+abbrev pub Files : Type 0
+Files = List ℕ → Option (List ℕ)
+
+-- an open makes the named file current from its start; a shelf that tells its files opens only what it holds
+abbrev pub Opens : {T E : Type 0} → Option Files → List ℕ → Result T E → Option (List ℕ) → Type 0
+Opens None name result rest = ⊤
+Opens (Some files) name (Ok _) rest = (files name ≡ rest) × IsSome rest
+Opens (Some files) name (Err _) rest = rest ≡ Some []
+
+-- the rest loses these bytes from its front
+abbrev pub Loses : Option (List ℕ) → Option (List ℕ) → List ℕ → Type 0
+Loses None new bytes = new ≡ None
+Loses (Some xs) None bytes = ⊥
+Loses (Some xs) (Some ys) bytes = xs ≡ bytes ++ ys
+
+-- nothing is left, where that is told
+abbrev pub IsAtEnd : Option (List ℕ) → Type 0
+IsAtEnd None = ⊤
+IsAtEnd (Some xs) = xs ≡ []
+
+-- a take of n bytes
+abbrev pub TakesCount : Option (List ℕ) → Option (List ℕ) → ℕ → List ℕ → Type 0
+TakesCount old new n into = Loses old new (take n into) × (n ≡ 0 → 0 < length into → IsAtEnd new)
+
+-- a take gives the next bytes, and none only at the end; after a failure the rest is not told
+abbrev pub Takes : {E : Type 0} → Option (List ℕ) → Option (List ℕ) → Result ℕ E → List ℕ → Type 0
+Takes old new (Ok n) into = TakesCount old new n into
+Takes old new (Err _) into = new ≡ None
+
+-- the tally after an answer
+abbrev pub tally_after : {E : Type 0} → ℕ → Result ℕ E → ℕ
+tally_after tally (Ok n) = max tally (min (tally + n) (2 ^ 64 - 1))
+tally_after tally (Err _) = tally
+
+-- these bytes were taken of the named file, and this is the rest
+abbrev pub TakenOf : Option Files → List ℕ → List ℕ → Option (List ℕ) → Type 0
+TakenOf None name bytes rest = ⊤
+TakenOf (Some files) name bytes None = ⊥
+TakenOf (Some files) name bytes (Some rest) = files name ≡ Some (bytes ++ rest)
+
+-- the named file has these bytes, where that is told
+abbrev pub HasBytes : Option Files → List ℕ → List ℕ → Type 0
+HasBytes None name bytes = ⊤
+HasBytes (Some files) name bytes = files name ≡ Some bytes
+
+-- the named file has more than this many bytes, where that is told
+abbrev pub HasMore : Option Files → List ℕ → ℕ → Type 0
+HasMore None name n = ⊤
+HasMore (Some files) name n = (bytes : List ℕ) × (files name ≡ Some bytes) × (n < length bytes)
+
+-- the tally rose by more than n, or stands at its last value
+abbrev pub GaveMore : ℕ → ℕ → ℕ → Type 0
+GaveMore before now n = (before + n < now) ⊎ (2 ^ 64 - 1 ≤ now)
+
+-- how many bytes are left, none where that is not told
+abbrev pub left_count : Option (List ℕ) → ℕ
+left_count None = 0
+left_count (Some xs) = length xs

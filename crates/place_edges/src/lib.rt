@@ -1,0 +1,32 @@
+//! What the program meets of the outside: shelves, from which files are read, and sinks, to which texts are written.
+#![tactic(auto)]
+
+/// Which calls are told to fail.
+mod failures;
+/// Files held in memory, and the one that is being read.
+mod held;
+/// A shelf in memory.
+mod mem_shelf;
+/// A sink in memory.
+mod mem_sink;
+/// The files and streams of the system.
+mod real;
+/// What a shelf is.
+mod shelf;
+/// What a sink is.
+mod sink;
+/// A shelf and a sink that never fail.
+mod sure;
+/// A file read whole, and a text written whole.
+mod whole;
+
+pub use mem_shelf::MemShelf;
+pub use mem_sink::MemSink;
+pub use real::{RealShelf, RealSink};
+pub use shelf::{Failed, Shelf};
+pub use sink::Sink;
+pub use sure::{SureShelf, SureSink};
+pub use whole::{ReadStop, read_whole, write_whole};
+
+#[cfg(test)]
+mod tests;

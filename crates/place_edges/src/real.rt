@@ -1,0 +1,184 @@
+// The files and streams of the system. What they hold is not told.
+ghost use Rattle.std.specs.Prelude.{◌≡◌, ℕ, None, true};
+ghost use Rattle.std.specs.Io.{ReadsAtMost, WritesAtMost};
+ghost use Rattle.place_edges.specs.Causes.{HasCause, faults_after};
+ghost use Rattle.place_edges.specs.Shelf.{tally_after};
+ghost use Rattle.place_edges.specs.Sink.{Puts};
+
+use crate::{Failed, Shelf, Sink};
+use std::fs::File;
+use std::io::{self, ErrorKind, Read, Write};
+use std::marker::Model;
+use std::rt::Files;
+
+/// The files of the system, by their paths. It tells no bytes and grants every name.
+///
+/// A file that is missing or may not be read fails to open. A directory opens, and its first read fails.
+#[derive(Drop)]
+pub struct RealShelf<R: Files + Drop> {
+    rt: R,
+    file: Option<R::File>,
+    faults: u64,
+    tally: u64,
+}
+
+impl<R: Files + Drop> Model for RealShelf<R> {
+    ghost use Rattle.place_edges.specs.RealShelf.{Counts};
+
+    ghost Value = { Counts };
+
+    ghost view = { λ s. record { faults = s.faults; tally = s.tally } };
+}
+
+impl<R: Files + Drop> RealShelf<R> {
+    /// The files that this runtime reaches.
+    pub fn new(rt: R) -> RealShelf<R>
+        ensures { result ≡ record { faults = 0; tally = 0 } }
+    {
+        RealShelf {
+            rt,
+            file: None,
+            faults: 0,
+            tally: 0,
+        }
+    }
+}
+
+impl<R: Files + Drop> Shelf for RealShelf<R> {
+    ghost files = { λ _. None };
+
+    ghost rest = { λ _. None };
+
+    ghost grants = { λ _ _. true };
+
+    ghost faults = { λ s. s.faults };
+
+    ghost tally = { λ s. s.tally };
+
+    fn open(&mut self, name: &str) -> Result<(), Failed>
+        ensures cause { HasCause self.old.faults self.new.faults result }
+        ensures changes { self.new ≡ record self.old { faults = faults_after self.old.faults result } }
+    {
+        self.file = None;
+        match File::open(&self.rt, name) {
+            Ok(file) => {
+                self.file = Some(file);
+                Ok(())
+            }
+            Err(_) => {
+                self.faults = self.faults.saturating_add(1);
+                Err(Failed)
+            }
+        }
+    }
+
+    fn take(&mut self, into: &mut [u8]) -> Result<usize, Failed>
+        ensures bound { ReadsAtMost result into.new }
+        ensures cause { HasCause self.old.faults self.new.faults result }
+        ensures changes { self.new ≡ record {
+          faults = faults_after self.old.faults result;
+          tally = tally_after self.old.tally result;
+        } }
+    {
+        let Some(file) = &mut self.file else {
+            return Ok(0);
+        };
+        match read_once(file, into) {
+            Ok(count) => {
+                self.tally = self.tally.saturating_add(count as u64);
+                Ok(count)
+            }
+            Err(_) => {
+                self.faults = self.faults.saturating_add(1);
+                Err(Failed)
+            }
+        }
+    }
+}
+
+/// A stream of the system, which tells nothing of what it got.
+///
+/// A put flushes the stream before it answers. Where the flush fails the put fails, though the stream may have got
+/// some of its bytes.
+#[derive(Drop)]
+pub struct RealSink<W: Write> {
+    inner: W,
+    faults: u64,
+}
+
+impl<W: Write> Model for RealSink<W> {
+    ghost Value = { ℕ };
+
+    ghost view = { λ s. s.faults };
+}
+
+impl<W: Write> RealSink<W> {
+    /// A sink over this stream.
+    pub fn new(inner: W) -> RealSink<W>
+        ensures { result ≡ 0 }
+    {
+        RealSink { inner, faults: 0 }
+    }
+}
+
+impl<W: Write> Sink for RealSink<W> {
+    ghost written = { λ _. None };
+
+    ghost faults = { λ faults. faults };
+
+    fn put(&mut self, bytes: &[u8]) -> Result<usize, Failed>
+        ensures bound { WritesAtMost result bytes.now }
+        ensures bytes { Puts None None result bytes.now }
+        ensures cause { HasCause self.old self.new result }
+        ensures changes { self.new ≡ faults_after self.old result }
+    {
+        if bytes.is_empty() {
+            return Ok(0);
+        }
+        if let Ok(count) = write_once(&mut self.inner, bytes)
+            && count > 0
+            && flush_once(&mut self.inner).is_ok()
+        {
+            return Ok(count);
+        }
+        self.faults = self.faults.saturating_add(1);
+        Err(Failed)
+    }
+}
+
+// Reads once, and again where the system interrupted the read.
+fn read_once<R: Read>(reader: &mut R, into: &mut [u8]) -> io::Result<usize>
+    ensures { ReadsAtMost result into.new }
+{
+    for _ in 0..u64::MAX {
+        match reader.read(into) {
+            Err(error) if error.kind() == ErrorKind::Interrupted => {}
+            answer => return answer,
+        }
+    }
+    Err(ErrorKind::Interrupted.into())
+}
+
+// Writes once, and again where the system interrupted the write.
+fn write_once<W: Write>(writer: &mut W, bytes: &[u8]) -> io::Result<usize>
+    ensures { WritesAtMost result bytes.now }
+{
+    for _ in 0..u64::MAX {
+        match writer.write(bytes) {
+            Err(error) if error.kind() == ErrorKind::Interrupted => {}
+            answer => return answer,
+        }
+    }
+    Err(ErrorKind::Interrupted.into())
+}
+
+// Flushes once, and again where the system interrupted the flush.
+fn flush_once<W: Write>(writer: &mut W) -> io::Result<()> {
+    for _ in 0..u64::MAX {
+        match writer.flush() {
+            Err(error) if error.kind() == ErrorKind::Interrupted => {}
+            answer => return answer,
+        }
+    }
+    Err(ErrorKind::Interrupted.into())
+}

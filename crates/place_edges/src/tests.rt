@@ -1,0 +1,161 @@
+// What the edges do at each call, in tables.
+use crate::{
+    Failed, MemShelf, MemSink, ReadStop, RealShelf, RealSink, Shelf, Sink, SureShelf, SureSink,
+    read_whole, write_whole,
+};
+use std::alloc::Global;
+use std::io::{self, ErrorKind, Write};
+use std::test::Fail;
+
+fn text(alloc: Global, text: &str) -> Result<String, Fail> {
+    Ok(String::from_str(alloc, text)?)
+}
+
+#[test]
+fn a_shelf_fails_where_it_is_told_to(rt: HostRuntime) -> Result<(), Fail> {
+    let alloc = rt.alloc();
+    let mut shelf = MemShelf::new(alloc);
+    shelf.add(text(alloc, "a")?, b"12345".to_vec(alloc)?)?;
+    shelf.fail_at(3)?;
+    let mut into = [0u8; 4];
+
+    assert_eq!(rt; shelf.open("b"), Err(Failed), "a name that is not held");
+    assert_eq!(rt; shelf.open("a"), Ok(()));
+    assert_eq!(rt; shelf.take(&mut into), Err(Failed), "the third call");
+    assert_eq!(rt; shelf.open("a"), Ok(()));
+    assert_eq!(rt; shelf.take(&mut into), Ok(4));
+    assert_eq!(rt; into, *b"1234");
+    assert_eq!(rt; shelf.take(&mut into), Ok(1));
+    assert_eq!(rt; shelf.take(&mut into), Ok(0));
+    assert_eq!(rt; (shelf.calls(), shelf.faults()), (7, 2));
+    Ok(())
+}
+
+#[test]
+fn a_file_that_is_replaced_is_read_to_its_end(rt: HostRuntime) -> Result<(), Fail> {
+    let alloc = rt.alloc();
+    let mut shelf = MemShelf::new(alloc);
+    shelf.add(text(alloc, "a")?, b"old".to_vec(alloc)?)?;
+    let mut into = [0u8; 2];
+    assert_eq!(rt; shelf.open("a"), Ok(()));
+    assert_eq!(rt; shelf.take(&mut into), Ok(2));
+    shelf.add(text(alloc, "a")?, b"new".to_vec(alloc)?)?;
+    assert_eq!(rt; shelf.take(&mut into), Ok(1));
+    assert_eq!(rt; into, *b"dl");
+    let bytes = read_whole(alloc, &mut shelf, "a").ok().ok_or("not read")?;
+    assert_eq!(rt; bytes.as_slice(), b"new".as_slice());
+    Ok(())
+}
+
+#[test]
+fn a_sink_takes_pieces_while_there_is_room(rt: HostRuntime) -> Result<(), Fail> {
+    let alloc = rt.alloc();
+    let mut sink = MemSink::new(alloc, 3, 5)?;
+    sink.fail_at(2)?;
+    let puts: [(&[u8], Result<usize, Failed>, &[u8]); 6] = [
+        (b"abcd", Ok(3), b"abc"),
+        (b"d", Err(Failed), b"abc"),
+        (b"", Ok(0), b"abc"),
+        (b"defg", Ok(2), b"abcde"),
+        (b"f", Err(Failed), b"abcde"),
+        (b"", Ok(0), b"abcde"),
+    ];
+    for (bytes, answer, held) in puts {
+        assert_eq!(rt; sink.put(bytes), answer);
+        assert_eq!(rt; sink.bytes(), held);
+    }
+    assert_eq!(rt; sink.faults(), 2);
+
+    let mut short = MemSink::new(alloc, 2, 3)?;
+    assert_eq!(rt; write_whole(&mut short, b"abc"), Ok(()));
+    assert_eq!(rt; write_whole(&mut short, b"d"), Err(Failed));
+    assert_eq!(rt; short.bytes(), b"abc".as_slice());
+    Ok(())
+}
+
+#[test]
+fn a_file_of_several_pieces_is_read_whole(rt: HostRuntime) -> Result<(), Fail> {
+    let alloc = rt.alloc();
+    let mut shelf = MemShelf::new(alloc);
+    let mut bytes = vec![in alloc; 7u8; 70_000]?;
+    bytes.push(8)?;
+    shelf.add(text(alloc, "long")?, bytes.clone()?)?;
+    let read = read_whole(alloc, &mut shelf, "long")
+        .ok()
+        .ok_or("not read")?;
+    assert!(rt; read.as_slice() == bytes.as_slice());
+    assert_eq!(rt; shelf.calls(), 4);
+
+    let mut sure = SureShelf::new(alloc);
+    sure.add(text(alloc, "long")?, bytes)?;
+    let read = read_whole(alloc, &mut sure, "long").ok().ok_or("not read")?;
+    assert_eq!(rt; read.len(), 70_001);
+    let read = read_whole(alloc, &mut sure, "other")
+        .ok()
+        .ok_or("not read")?;
+    assert!(rt; read.is_empty());
+    assert_eq!(rt; SureSink::new().put(b"abc"), Ok(3));
+    Ok(())
+}
+
+#[test]
+fn a_directory_and_a_missing_file_are_not_read(rt: HostRuntime) -> Result<(), Fail> {
+    let alloc = rt.alloc();
+    let mut shelf = RealShelf::new(rt);
+    for name in ["/", "/no/such/file"] {
+        let stop = read_whole(alloc, &mut shelf, name).err();
+        assert_eq!(rt; stop, Some(ReadStop::Failed), "{name}");
+    }
+    let read = read_whole(alloc, &mut shelf, "/dev/null")
+        .ok()
+        .ok_or("not read")?;
+    assert!(rt; read.is_empty());
+    Ok(())
+}
+
+// A stream whose calls answer in turn: the first write and the first flush are interrupted, the next take two bytes,
+// and from then on writes take nothing.
+#[derive(Drop)]
+struct Stream {
+    writes: u8,
+    flushes: u8,
+}
+
+impl Write for Stream {
+    fn write(&mut self, bytes: &[u8]) -> io::Result<usize> {
+        self.writes = self.writes.saturating_add(1);
+        match self.writes {
+            1 => Err(ErrorKind::Interrupted.into()),
+            2 | 3 => Ok(bytes.len().min(2)),
+            _ => Ok(0),
+        }
+    }
+
+    fn flush(&mut self) -> io::Result<()> {
+        self.flushes = self.flushes.saturating_add(1);
+        match self.flushes {
+            1 => Err(ErrorKind::Interrupted.into()),
+            2 => Ok(()),
+            _ => Err(ErrorKind::BrokenPipe.into()),
+        }
+    }
+}
+
+#[test]
+fn an_interrupted_write_is_no_fault(rt: HostRuntime) {
+    let mut sink = RealSink::new(Stream {
+        writes: 0,
+        flushes: 0,
+    });
+    for (answer, why) in [
+        (
+            Ok(2),
+            "after one interrupted write and one interrupted flush",
+        ),
+        (Err(Failed), "the flush fails"),
+        (Err(Failed), "the stream takes nothing"),
+    ] {
+        assert_eq!(rt; sink.put(b"abc"), answer, "{why}");
+    }
+    assert_eq!(rt; sink.put(b""), Ok(0));
+}

@@ -1,0 +1,94 @@
+-- The first fault of a file, apart from any order of reading.
+use Rattle.std.specs.Prelude.{ℕ, zero, suc, List, [], ◌∷◌, Bool, ◌==◌, not, nat_lt, nat_le, bytes_eq, length, take, drop, find, slice_get, if◌then◌else◌, Option, Some, None, option_map, option_and_then, Result, Ok, Err, ◌≡◌, ⊤}
+use Rattle.place_base.specs.declared.fault.FaultKind.{FaultKind}
+use Rattle.place_base.specs.declared.fault.FaultKind.TheVariants.{Header, FieldCount, Duplicate, TooManyRows, LineTooLong}
+use Rattle.place_base.specs.declared.fault.FileFault.{FileFault}
+use Rattle.place_base.specs.declared.fault.FileKind.{FileKind}
+use Rattle.record_files.specs.Rows.{Row, rows, fields_of}
+use Rattle.record_files.specs.Form.{Form}
+use Rattle.record_files.specs.declared.table_stop.TableStop.{TableStop}
+use Rattle.record_files.specs.declared.table_stop.TableStop.TheVariants.{Fault, Memory}
+
+-- a fault that repeats no line
+abbrev pub fault_at : FileKind → ℕ → ℕ → FaultKind → FileFault
+fault_at file line field kind =
+    record { file = file; line = line; field = field; kind = kind; earlier = 0 }
+
+-- a fault that repeats an earlier line
+abbrev pub duplicate_at : FileKind → ℕ → ℕ → ℕ → FileFault
+duplicate_at file line field earlier =
+    record { file = file; line = line; field = field; kind = Duplicate; earlier = earlier }
+
+-- a fault where the test holds
+abbrev pub fault_if : Bool → FileFault → Option FileFault
+fault_if test fault = if test then Some fault else None
+
+-- the first fault that is there
+abbrev pub first_of : Option FileFault → Option FileFault → Option FileFault
+first_of (Some fault) other = Some fault
+first_of None other = other
+
+-- the fault of a field that was read as a value
+abbrev pub reading_fault : {A : Type 0} → FileKind → ℕ → ℕ → Result A FaultKind → Option FileFault
+reading_fault file line field (Ok read) = None
+reading_fault file line field (Err kind) = Some (fault_at file line field kind)
+
+-- the fault of a field that repeats an earlier row, which the test finds
+abbrev pub repeat_fault : FileKind → ℕ → ℕ → (Row → Bool) → List Row → Option FileFault
+repeat_fault file line field same earlier =
+    option_map (λ row. duplicate_at file line field row.0) (find same earlier)
+
+-- a line of more than 1,024 bytes
+abbrev pub long_fault : Form → Row → Option FileFault
+long_fault form row = fault_if (nat_lt 1024 (length row.1)) (fault_at form.file row.0 0 LineTooLong)
+
+-- the fault of a first row
+abbrev pub header_fault : Form → Row → Option FileFault
+header_fault form row =
+    first_of (long_fault form row)
+    (fault_if (not (bytes_eq row.1 form.header)) (fault_at form.file row.0 0 Header))
+
+-- the fault of the first row of a file, or that of a file without rows
+abbrev pub first_row_fault : Form → List Row → Option FileFault
+first_row_fault form [] = Some (fault_at form.file 1 0 Header)
+first_row_fault form (row ∷ behind) = header_fault form row
+
+-- the fault of the data row at an index, before its fields are read
+abbrev pub shape_fault : Form → ℕ → Row → Option FileFault
+shape_fault form index row =
+    first_of (long_fault form row)
+    (first_of (fault_if (nat_le form.most_rows index) (fault_at form.file row.0 0 TooManyRows))
+    (fault_if (not (length (fields_of row) == form.fields)) (fault_at form.file row.0 0 FieldCount)))
+
+-- the fault of a data row behind the earlier ones: its shape, then its fields by themselves, then
+-- what it means beside the earlier rows and the other files
+abbrev pub fault_behind : Form → (Row → Option FileFault) → (List Row → Row → Option FileFault) → List Row → Row → Option FileFault
+fault_behind form reading meaning earlier row =
+    first_of (shape_fault form (length earlier) row) (first_of (reading row) (meaning earlier row))
+
+-- the fault of the data row at an index
+abbrev pub row_fault : Form → (Row → Option FileFault) → (List Row → Row → Option FileFault) → List Row → ℕ → Option FileFault
+row_fault form reading meaning lines index =
+    option_and_then (fault_behind form reading meaning (take index lines)) (slice_get lines index)
+
+-- the fault of the least index below a number that has one
+unfoldable pub least_fault : (ℕ → Option FileFault) → ℕ → Option FileFault
+least_fault fault zero = None
+least_fault fault (suc n) = first_of (least_fault fault n) (fault n)
+
+-- the rows behind the header
+abbrev pub data_rows : List ℕ → List Row
+data_rows bytes = drop 1 (rows bytes)
+
+-- the first fault of a file: that of its first row, or that of the least data row that has one
+abbrev pub first_fault : Form → (Row → Option FileFault) → (List Row → Row → Option FileFault) → List ℕ → Option FileFault
+first_fault form reading meaning bytes =
+    first_of (first_row_fault form (rows bytes))
+    (least_fault (row_fault form reading meaning (data_rows bytes)) (length (data_rows bytes)))
+
+-- what reading a table comes to: the table where there is no fault, else the fault; want of memory
+-- says nothing
+abbrev pub IsTableRead : {T : Type 0} → Option FileFault → T → Result T TableStop → Type 0
+IsTableRead fault table (Ok read) = (fault ≡ None) × (read ≡ table)
+IsTableRead fault table (Err (Fault found)) = fault ≡ Some found
+IsTableRead fault table (Err Memory) = ⊤

@@ -1,0 +1,14 @@
+-- Rows of a text.
+use Rattle.std.specs.Prelude.{ℕ, List, [], ◌∷◌, ◌++◌, decimal}
+use Rattle.std.specs.List.{join_with_byte}
+use Rattle.record_files.specs.declared.row_texts.Field.{Field}
+use Rattle.record_files.specs.declared.row_texts.Field.TheVariants.{Number, Text}
+
+-- what a field prints
+abbrev pub text_of : Field → List ℕ
+text_of (Number n) = decimal n
+text_of (Text bytes) = bytes.now
+
+-- fields with commas between them, and an LF
+abbrev pub row_text : List (List ℕ) → List ℕ
+row_text fields = join_with_byte 44 fields ++ 10 ∷ []

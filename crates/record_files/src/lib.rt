@@ -1,0 +1,23 @@
+//! Files of rows: their rows and fields lent without a copy, the numbers and type names in fields,
+//! what a file's first fault is, and the texts of rows.
+#![tactic(auto)]
+
+// The form of a file, its header and the shape of its rows.
+mod form;
+// Numbers and type names in fields.
+mod fields;
+// The texts of rows.
+mod row_texts;
+// Rows and their fields.
+mod rows;
+// Why a table could not be read.
+mod table_stop;
+
+pub use fields::{number, type_name};
+pub use form::FileForm;
+pub use row_texts::{Field, put_row_1, put_row_2, put_row_3, put_row_4};
+pub use rows::{RecordRow, Records, RowPart};
+pub use table_stop::TableStop;
+
+#[cfg(test)]
+mod tests;
