@@ -1,0 +1,4 @@
+pub mod Placed
+pub mod RankRows
+pub mod RankTables
+pub mod Repeats

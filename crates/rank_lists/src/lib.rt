@@ -1,0 +1,5 @@
+//! The ranks file: the turn order of each score type and the ranks in it, or the file's first fault.
+#![tactic(auto)]
+
+// Finding the first number of a list that stands twice.
+mod repeats;
