@@ -3,3 +3,7 @@
 
 // Finding the first number of a list that stands twice.
 mod repeats;
+// Sorting the ranks of a type into its turn order.
+mod turns;
+// A row by itself.
+mod row;
