@@ -1,3 +1,5 @@
 pub mod Counts
+pub mod Names
+pub mod RowGroups
 pub mod Sorting
 pub mod Standings
