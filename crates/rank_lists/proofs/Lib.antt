@@ -1,4 +1,5 @@
 pub mod Counts
+pub mod Duplicates
 pub mod Names
 pub mod RowGroups
 pub mod Sorting

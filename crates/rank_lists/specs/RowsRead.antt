@@ -20,3 +20,11 @@ own_fault index row = first_of (shape_fault ranks_form index row) (reading row)
 abbrev pub IsRowRead : ℕ → Row → Result RankRow FileFault → Type 0
 IsRowRead index row (Ok said) = (own_fault index row ≡ None) × SaysRow row said
 IsRowRead index row (Err fault) = own_fault index row ≡ Some fault
+
+-- a meaning that finds no fault: rows are read by themselves first
+abbrev pub unrelated : List Row → Row → Option FileFault
+unrelated earlier row = None
+
+-- the data row at an index
+abbrev pub row_at : List Row → ℕ → Row
+row_at rows index = slice_index_or rows index (0, [])
