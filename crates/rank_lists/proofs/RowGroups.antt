@@ -6,16 +6,17 @@ use Rattle.std.proofs.lemmas.Bool.Decides.{nat_tests}
 use Rattle.std.proofs.lemmas.Slice.Eq.{bytes_eq-Decides}
 use Rattle.place_base.specs.TypeName.{is_type_name}
 use Rattle.place_base.specs.declared.fault.FaultKind.{FaultKind}
-use Rattle.place_base.specs.declared.fault.FaultKind.TheVariants.{NotNumber, OutOfRange, BadTypeName}
+use Rattle.place_base.specs.declared.fault.FaultKind.TheVariants.{NotNumber, OutOfRange, BadTypeName, TooManyRows}
 use Rattle.place_base.specs.declared.fault.FileFault.{FileFault}
 use Rattle.place_base.specs.declared.fault.FileKind.{FileKind}
 use Rattle.place_base.specs.declared.fault.FileKind.TheVariants.{Ranks}
-use Rattle.record_files.specs.FirstFaults.{first_of, reading_fault}
+use Rattle.record_files.specs.FirstFaults.{first_of, fault_at, shape_fault, reading_fault}
 use Rattle.record_files.specs.Numbers.{value, is_number, number_of}
 use Rattle.record_files.specs.Rows.{Row, field_at}
 use Rattle.record_files.specs.TypeNames.{type_name_of}
 use Rattle.rank_lists.specs.Groups.{name_number, candidate_group, rank_group}
-use Rattle.rank_lists.specs.RankRows.{candidate_in, type_in, rank_in, reading, same_candidate, same_rank}
+use Rattle.rank_lists.specs.RankRows.{ranks_form, candidate_in, type_in, rank_in, reading, same_candidate, same_rank}
+use Rattle.rank_lists.specs.RowsRead.{own_fault}
 use Rattle.rank_lists.proofs.Names.{IsName, IsName-from, IsName-same}
 
 -- the parts of a row are within their limits
@@ -105,3 +106,23 @@ same_rank-group row other g h e =
     let numbers : name_number (type_in row) ≡ name_number (type_in other) = omega arith in
     let names : type_in row ≡ type_in other = IsName-same _ _ g.name h.name numbers in
     both-and _ _ (eq-true _ _ ranks) ((bytes_eq-Decides (type_in row) (type_in other)).1 names)
+
+-- a row without a fault of its own is not one too many
+pub few-rows : (index : ℕ) (row : Row) → own_fault index row ≡ None → index < 20000000
+few-rows index row h =
+    let parts = first_of-none _ _ (first_of-none _ _ (first_of-none _ _ h).0).1 in
+    cond_both (nat_le 20000000 index) (Some (fault_at Ranks row.0 0 TooManyRows)) None (λ o. o ≡ None → index < 20000000)
+        (λ yes e. absurd (cc))
+        (λ no e. below index no)
+        parts.0
+  where
+    below : (index : ℕ) → nat_le 20000000 index ≡ false → index < 20000000
+    below index h = grind (arith, nat_tests)
+
+first_of-nothing : (a : Option FileFault) → first_of a None ≡ a
+first_of-nothing (Some f) = refl
+first_of-nothing None = refl
+
+-- the fault of a row by itself is its fault beside rows that it has nothing to do with
+pub own_fault-unrelated : (index : ℕ) (row : Row) → first_of (shape_fault ranks_form index row) (first_of (reading row) None) ≡ own_fault index row
+own_fault-unrelated index row = ap (first_of (shape_fault ranks_form index row)) (first_of-nothing (reading row))

@@ -3,12 +3,9 @@ use Rattle.std.proofs.Common.{◌≡◌, ◌≢◌, ℕ, zero, suc, ◌+◌, ◌
 use Rattle.std.specs.Prelude.{slice_index, IsPermutation}
 use Rattle.std.proofs.lemmas.Bool.{cond_both}
 use Rattle.std.proofs.lemmas.Bool.Decides.{nat_tests}
+use Rattle.rank_lists.specs.Gathered.{key_of}
 use Rattle.rank_lists.specs.RankTables.{Standing, is_before, put_in, by_rank}
 use Rattle.rank_lists.proofs.Counts.{copies, one_if, copies-permutation, Rises, Rises-unique}
-
--- a rank with its candidate behind it
-abbrev pub key_of : Standing → ℕ
-key_of s = s.rank * 4294967296 + s.candidate
 
 -- the candidates of standings are small enough to stand behind a rank
 abbrev pub AreSmall : List Standing → Type 0

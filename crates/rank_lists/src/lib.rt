@@ -7,3 +7,5 @@ mod repeats;
 mod turns;
 // A row by itself.
 mod row;
+// The rows of a file, gathered.
+mod gather;
