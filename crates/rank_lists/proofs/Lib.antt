@@ -1,5 +1,6 @@
 pub mod Counts
-pub mod Duplicates
+pub mod EarlierDuplicates
+pub mod FirstDuplicates
 pub mod Gathering
 pub mod Names
 pub mod RowGroups

@@ -1,3 +1,4 @@
+pub mod Duplicates
 pub mod Gathered
 pub mod Groups
 pub mod Placed

@@ -9,3 +9,5 @@ mod turns;
 mod row;
 // The rows of a file, gathered.
 mod gather;
+// The first row that repeats an earlier one.
+mod duplicates;
