@@ -16,11 +16,14 @@ abbrev pub copies : ℕ → List ℕ → ℕ
 copies x [] = 0
 copies x (y ∷ ys) = one_if x y + copies x ys
 
-one_if-same : (x y : ℕ) → x ≡ y → one_if x y ≡ 1
+pub one_if-same : (x y : ℕ) → x ≡ y → one_if x y ≡ 1
 one_if-same x y e = grind (arith, nat_tests)
 
-one_if-other : (x y : ℕ) → x ≢ y → one_if x y ≡ 0
+pub one_if-other : (x y : ℕ) → x ≢ y → one_if x y ≡ 0
 one_if-other x y e = grind (arith, nat_tests)
+
+pub one_if-cases : (x y : ℕ) → (one_if x y ≡ 0) ⊎ (x ≡ y)
+one_if-cases x y = grind (arith, nat_tests)
 
 copies-sum : (x : ℕ) (ys : List ℕ) → sum_by (one_if x) ys ≡ copies x ys
 copies-sum x [] = refl
@@ -74,9 +77,6 @@ copies-placed m x o (y ∷ ys) h =
             let here : one_if x y ≡ 1 = one_if-same x y same in
             omega arith)
         (one_if-cases x y)
-  where
-    one_if-cases : (x y : ℕ) → (one_if x y ≡ 0) ⊎ (x ≡ y)
-    one_if-cases x y = grind (arith, nat_tests)
 
 -- rising from place to place
 abbrev pub Rises : List ℕ → Type 0

@@ -6,3 +6,4 @@ pub mod Names
 pub mod RowGroups
 pub mod Sorting
 pub mod Standings
+pub mod Ranking

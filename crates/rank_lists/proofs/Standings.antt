@@ -1,16 +1,25 @@
 -- Standings by rising rank, and the same as sorted numbers, each a rank with its candidate behind it.
 use Rattle.std.proofs.Common.{◌≡◌, ◌≢◌, ℕ, zero, suc, ◌+◌, ◌-◌, ◌*◌, ◌/◌, ◌%◌, ◌<◌, ◌≤◌, ◌==◌, List, [], ◌∷◌, Bool, true, false, length, map, refl, sym, ap, ◌∙◌, arith, subst, ⊎_elim}
-use Rattle.std.specs.Prelude.{slice_index, IsPermutation}
+use Rattle.std.specs.Prelude.{slice_index, slice_index_or, IsPermutation}
 use Rattle.std.proofs.lemmas.Bool.{cond_both}
 use Rattle.std.proofs.lemmas.Bool.Decides.{nat_tests}
 use Rattle.rank_lists.specs.Gathered.{key_of}
 use Rattle.rank_lists.specs.RankTables.{Standing, is_before, put_in, by_rank}
 use Rattle.rank_lists.proofs.Counts.{copies, one_if, copies-permutation, Rises, Rises-unique}
 
+-- a fact of each standing
+abbrev pub Each : (Standing → Type 0) → List Standing → Type 0
+Each P [] = Unit {0}
+Each P (s ∷ ss) = P s × Each P ss
+
+pub Each-at : (P : Standing → Type 0) (ss : List Standing) → Each P ss → (k : ℕ) (d : Standing) → k < length ss → P (slice_index_or ss k d)
+Each-at P [] h k d lt = absurd (omega arith)
+Each-at P (s ∷ ss) h zero d lt = h.0
+Each-at P (s ∷ ss) h (suc k) d lt = Each-at P ss h.1 k d (omega arith)
+
 -- the candidates of standings are small enough to stand behind a rank
 abbrev pub AreSmall : List Standing → Type 0
-AreSmall [] = Unit {0}
-AreSmall (s ∷ ss) = (s.candidate < 4294967296) × AreSmall ss
+AreSmall = Each (λ s. s.candidate < 4294967296)
 
 before-key : (s t : Standing) → s.candidate < 4294967296 → t.candidate < 4294967296 → is_before s t ≡ true → key_of s ≤ key_of t
 before-key s t a b e = grind (arith, nat_tests)
@@ -58,16 +67,22 @@ put_in-Climbs s (t ∷ ts) a b h = cond_both (is_before s t) (s ∷ t ∷ ts) (t
     (λ no. let le : key_of t ≤ key_of s = behind-key s t a b.0 no in
         (AtLeast-put_in (key_of t) s ts le h.0, put_in-Climbs s ts a b.1 h.1))
 
-put_in-AreSmall : (s : Standing) (ts : List Standing) → s.candidate < 4294967296 → AreSmall ts → AreSmall (put_in s ts)
-put_in-AreSmall s [] a b = (a, tt)
-put_in-AreSmall s (t ∷ ts) a b = cond_both (is_before s t) (s ∷ t ∷ ts) (t ∷ put_in s ts) AreSmall
-    (λ yes. (a, b))
-    (λ no. (b.0, put_in-AreSmall s ts a b.1))
+module _ (P : Standing → Type 0) where
+  put_in-Each : (s : Standing) (ts : List Standing) → P s → Each P ts → Each P (put_in s ts)
+  put_in-Each s [] a b = (a, tt)
+  put_in-Each s (t ∷ ts) a b = cond_both (is_before s t) (s ∷ t ∷ ts) (t ∷ put_in s ts) (Each P)
+      (λ yes. (a, b))
+      (λ no. (b.0, put_in-Each s ts a b.1))
+
+  -- sorting keeps what holds of each
+  pub by_rank-Each : (ss : List Standing) → Each P ss → Each P (by_rank ss)
+  by_rank-Each [] h = tt
+  by_rank-Each (s ∷ ss) h = put_in-Each s (by_rank ss) h.0 (by_rank-Each ss h.1)
 
 pub by_rank-AreSmall : (ss : List Standing) → AreSmall ss → AreSmall (by_rank ss)
-by_rank-AreSmall [] h = tt
-by_rank-AreSmall (s ∷ ss) h = put_in-AreSmall s (by_rank ss) h.0 (by_rank-AreSmall ss h.1)
+by_rank-AreSmall = by_rank-Each (λ s. s.candidate < 4294967296)
 
+-- sorted, the keys climb
 by_rank-Climbs : (ss : List Standing) → AreSmall ss → Climbs (map key_of (by_rank ss))
 by_rank-Climbs [] h = tt
 by_rank-Climbs (s ∷ ss) h = put_in-Climbs s (by_rank ss) h.0 (by_rank-AreSmall ss h.1) (by_rank-Climbs ss h.1)
@@ -84,6 +99,10 @@ module _ (f : Standing → ℕ) where
   pub copies-by_rank : (x : ℕ) (ss : List Standing) → copies x (map f (by_rank ss)) ≡ copies x (map f ss)
   copies-by_rank x [] = refl
   copies-by_rank x (s ∷ ss) = copies-put_in x s (by_rank ss) ∙ ap (λ n. one_if x (f s) + n) (copies-by_rank x ss)
+
+-- the keys of the standings by rising rank rise
+pub by_rank-Rises : (ss : List Standing) → AreSmall ss → Rises (map key_of (by_rank ss))
+by_rank-Rises ss small = Climbs-Rises (map key_of (by_rank ss)) (by_rank-Climbs ss small)
 
 -- the sorted keys are the keys of the standings by rising rank
 pub sorted-keys : (ss : List Standing) (sorted : List ℕ) → AreSmall ss → IsPermutation (map key_of ss) sorted → Rises sorted → sorted ≡ map key_of (by_rank ss)

@@ -7,3 +7,4 @@ pub mod RankTables
 pub mod Repeats
 pub mod RowsRead
 pub mod Turns
+pub mod Soundness
