@@ -7,3 +7,4 @@ pub mod RowGroups
 pub mod Sorting
 pub mod Standings
 pub mod Ranking
+pub mod TableLemmas

@@ -11,3 +11,7 @@ mod row;
 mod gather;
 // The first row that repeats an earlier one.
 mod duplicates;
+// The turn orders and ranks of a file.
+mod lists;
+
+pub use lists::{RankLists, RankParts};

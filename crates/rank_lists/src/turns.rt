@@ -1,7 +1,7 @@
 // The turn order of one type, sorted from the ranks given in it.
 
 ghost use Rattle.std.specs.Prelude.{◌≡◌, ◌+◌, ◌*◌, ◌^◌, ◌<◌, ◌/◌, ◌%◌, ◌++◌, ◌∷◌, [], map, OnOk, IfOk};
-ghost use Rattle.rank_lists.specs.Turns.{AreTurns};
+ghost use Rattle.rank_lists.specs.Turns.{AreTurns, AreAllTurns};
 
 use market::List;
 use std::alloc::{AllocError, Global};
@@ -51,7 +51,7 @@ impl GivenRanks {
 
     /// The turn order: rising ranks.
     pub(crate) fn into_turns(self, alloc: Global) -> Result<Turns, AllocError>
-        ensures { IfOk result (AreTurns self) }
+        ensures { IfOk result (λ turns. AreTurns self turns.order turns.ranks) }
     {
         let mut keys = self.keys;
         keys.sort_unstable();
@@ -59,6 +59,27 @@ impl GivenRanks {
         let ranks = List::from_vec(ranks_of(alloc, &keys)?);
         Ok(Turns { order, ranks })
     }
+}
+
+/// The turn orders of all types, and the ranks in them.
+#[derive(Drop)]
+pub(crate) struct AllTurns {
+    pub(crate) orders: Vec<List>,
+    pub(crate) ranks: Vec<List>,
+}
+
+/// The turn order of each type.
+pub(crate) fn all_turns(alloc: Global, given: Vec<GivenRanks>) -> Result<AllTurns, AllocError>
+    ensures { IfOk result (λ all. AreAllTurns given.items all.orders.items all.ranks.items) }
+{
+    let mut orders = Vec::with_capacity(alloc, given.len())?;
+    let mut ranks = Vec::with_capacity(alloc, given.len())?;
+    for of_type in given {
+        let turns = of_type.into_turns(alloc)?;
+        orders.push(turns.order)?;
+        ranks.push(turns.ranks)?;
+    }
+    Ok(AllTurns { orders, ranks })
 }
 
 // The candidates of keys.

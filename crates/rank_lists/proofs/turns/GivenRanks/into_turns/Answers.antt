@@ -9,6 +9,6 @@ returns c =
       sorted = sorted;
       permutation = let P : List ℕ → Type 0 = λ keys. IsPermutation keys sorted in subst P c.self.view_is c.sort_unstable.ensures.permutation;
       rises = λ i j le lt. IsNonDecreasingBy-from_sort (λ x. x) sorted c.sort_unstable.ensures.sorted i j 0 le lt;
-      order = c.from_vec-order.ensures ∙ c.in_ok-candidates_of.ensures ∙ ap (map (λ key. key % 4294967296)) c.deref.ensures.value;
-      ranks = c.from_vec-ranks.ensures ∙ c.in_ok-ranks_of.ensures ∙ ap (map (λ key. key / 4294967296)) c.deref-2.ensures.value;
+      order_is = c.from_vec-order.ensures ∙ c.in_ok-candidates_of.ensures ∙ ap (map (λ key. key % 4294967296)) c.deref.ensures.value;
+      ranks_are = c.from_vec-ranks.ensures ∙ c.in_ok-ranks_of.ensures ∙ ap (map (λ key. key / 4294967296)) c.deref-2.ensures.value;
     }
