@@ -118,8 +118,8 @@ module _ (bytes : List ℕ) (n : ℕ) (left : List Row) (r : IsReadTo ranks_form
       let parts = first_of-none _ _ here in
       (parts.0, (first_of-none _ _ parts.1).0)
 
-  fields : (k : ℕ) → k < n → HasFields (at k)
-  fields k lt = HasFields-from (at k) (own k lt).1
+  pub read-fields : (k : ℕ) → k < n → HasFields (at k)
+  read-fields k lt = HasFields-from (at k) (own k lt).1
 
   abbrev candidates : List ℕ
   candidates = map candidate_group (take n body)
@@ -131,13 +131,13 @@ module _ (bytes : List ℕ) (n : ℕ) (left : List Row) (r : IsReadTo ranks_form
   to-candidate i k a b e = candidate_group-same (at k) (at i) e
 
   from-candidate : (i k : ℕ) → i < n → k < n → candidate_group (at i) ≡ candidate_group (at k) → same_candidate (at k) (at i) ≡ true
-  from-candidate i k a b e = same_candidate-group (at k) (at i) (fields k b) (fields i a) e
+  from-candidate i k a b e = same_candidate-group (at k) (at i) (read-fields k b) (read-fields i a) e
 
   to-rank : (i k : ℕ) → i < n → k < n → same_rank (at k) (at i) ≡ true → rank_group (at i) ≡ rank_group (at k)
   to-rank i k a b e = rank_group-same (at k) (at i) e
 
   from-rank : (i k : ℕ) → i < n → k < n → rank_group (at i) ≡ rank_group (at k) → same_rank (at k) (at i) ≡ true
-  from-rank i k a b e = same_rank-group (at k) (at i) (fields k b) (fields i a) e
+  from-rank i k a b e = same_rank-group (at k) (at i) (read-fields k b) (read-fields i a) e
 
   no-candidate : (m k : ℕ) → NoRepeat candidates m → k < m → m ≤ n → repeat_fault Ranks (at k).0 2 (same_candidate (at k)) (take k body) ≡ None
   no-candidate m k distinct lt le = repeat-none body n r.within candidate_group same_candidate to-candidate from-candidate m k Ranks (at k).0 2 distinct lt le

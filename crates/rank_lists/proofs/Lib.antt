@@ -8,3 +8,4 @@ pub mod Sorting
 pub mod Standings
 pub mod Ranking
 pub mod TableLemmas
+pub mod Reading

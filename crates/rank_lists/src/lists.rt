@@ -95,13 +95,6 @@ impl RankLists {
         }
     }
 
-    /// The number of types.
-    pub fn type_count(&self) -> u32
-        ensures { result ≡ length self.now.orders }
-    {
-        self.orders.len() as u32
-    }
-
     /// The candidates with a rank in a type, by rising rank.
     pub fn turn_order(&self, kind: u32) -> &[u32]
         requires { kind < length self.now.orders }

@@ -1,0 +1,8 @@
+use Rattle.std.proofs.Common.{◌≡◌}
+use Rattle.rank_lists.proofs.lists.RankLists.rank_of.Goals as goal
+
+pub returns-in_err-place : goal.returns-in_err-place
+returns-in_err-place c = ?
+
+pub returns : goal.returns
+returns c = ?
