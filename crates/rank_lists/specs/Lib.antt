@@ -1,3 +1,4 @@
+pub mod ByCandidate
 pub mod Duplicates
 pub mod Gathered
 pub mod Groups
@@ -6,5 +7,5 @@ pub mod RankRows
 pub mod RankTables
 pub mod Repeats
 pub mod RowsRead
-pub mod Turns
 pub mod Soundness
+pub mod Turns

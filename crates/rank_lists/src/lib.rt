@@ -15,3 +15,4 @@ mod duplicates;
 mod lists;
 
 pub use lists::{RankLists, RankParts};
+mod by_candidate;

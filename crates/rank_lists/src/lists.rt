@@ -1,18 +1,19 @@
 // The turn orders and ranks of a file, and their look-ups.
 
-ghost use Rattle.std.specs.Prelude.{◌≡◌, ◌^◌, ◌<◌, ◌≤◌, length};
+ghost use Rattle.std.specs.Prelude.{◌≡◌, ◌^◌, ◌<◌, ◌≤◌, length, IfOk};
 ghost use Rattle.record_files.specs.FirstFaults.{IsTableRead};
 ghost use Rattle.rank_lists.specs.RankRows.{ranks_fault};
 ghost use Rattle.rank_lists.specs.RankTables.{ranks_table, order_at, rank_at};
 ghost use Rattle.rank_lists.specs.Soundness.{IsSound};
 
+use crate::by_candidate::tables_by_candidate;
 use crate::duplicates::first_duplicate;
 use crate::gather::{Gathered, RankRows, gather};
-use crate::turns::all_turns;
+use crate::turns::{AllTurns, all_turns};
 use market::List;
 use place_base::{Finder, TypeFinder};
 use record_files::TableStop;
-use std::alloc::Global;
+use std::alloc::{AllocError, Global};
 use std::marker::Model;
 use std::thread::Threads;
 
@@ -25,11 +26,13 @@ pub struct RankLists {
     candidates: u32,
     orders: Vec<List>,
     ranks: Vec<List>,
+    // For each type the rank of each candidate, 0 for none.
+    by_candidate: Vec<List>,
 }
 
 impl Model for RankLists {
     ghost use Rattle.rank_lists.specs.RankTables.{RankTable};
-    ghost use Rattle.rank_lists.specs.Soundness.{IsSound};
+    ghost use Rattle.rank_lists.specs.ByCandidate.{HasTables};
 
     ghost Value = { RankTable };
 
@@ -38,7 +41,9 @@ impl Model for RankLists {
     };
 
     ghost invariant = {
-        λ l. IsSound (record { candidates = l.candidates; orders = l.orders.items; ranks = l.ranks.items })
+        λ l. HasTables
+            (record { candidates = l.candidates; orders = l.orders.items; ranks = l.ranks.items })
+            l.by_candidate.items
     };
 }
 
@@ -85,14 +90,32 @@ impl RankLists {
         if let Some(fault) = stop {
             return Err(TableStop::Fault(fault));
         }
-        match all_turns(alloc, given) {
-            Ok(turns) => Ok(RankLists {
-                candidates: candidates.count(),
-                orders: turns.orders,
-                ranks: turns.ranks,
-            }),
+        let Ok(turns) = all_turns(alloc, given) else {
+            return Err(TableStop::Memory);
+        };
+        match RankLists::of_turns(alloc, candidates.count(), turns) {
+            Ok(lists) => Ok(lists),
             Err(_) => Err(TableStop::Memory),
         }
+    }
+
+    // The lists of turn orders of so many candidates.
+    fn of_turns(alloc: Global, candidates: u32, turns: AllTurns) -> Result<RankLists, AllocError>
+        requires {
+            IsSound (record { candidates = candidates; orders = turns.orders.items; ranks = turns.ranks.items })
+        }
+        ensures {
+            IfOk result (λ lists. lists
+                ≡ record { candidates = candidates; orders = turns.orders.items; ranks = turns.ranks.items })
+        }
+    {
+        let by_candidate = tables_by_candidate(alloc, candidates, &turns.orders, &turns.ranks)?;
+        Ok(RankLists {
+            candidates,
+            orders: turns.orders,
+            ranks: turns.ranks,
+            by_candidate,
+        })
     }
 
     /// The candidates with a rank in a type, by rising rank.
@@ -109,10 +132,8 @@ impl RankLists {
         requires candidate { candidate < self.now.candidates }
         ensures { result ≡ rank_at self.now kind candidate }
     {
-        let order = self.orders[kind as usize].items();
-        let ranks = self.ranks[kind as usize].items();
-        let place = order.iter().position(|other| *other == candidate)?;
-        ranks.get(place).copied()
+        let rank = self.by_candidate[kind as usize].items()[candidate as usize];
+        if rank == 0 { None } else { Some(rank) }
     }
 
     /// Gives the turn orders and ranks to a market, without a copy.

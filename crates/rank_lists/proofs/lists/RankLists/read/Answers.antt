@@ -20,8 +20,8 @@ returns-in-Some-stop g c =
     let stop = subst (λ o. StopsAt gathers.count gathers.left o) c.in-Some-stop.is gathers.stop in
     stop-first names numbers c.args.bytes.now c.in-Ok.gathered gathers c.in_default.ensures c.in-Some-stop.fault stop
 
-pub invariant_of-result : goal.invariant_of-result
-invariant_of-result g c =
+pub of_turns-requires : goal.of_turns-requires
+of_turns-requires g c =
     let names = g.T.TypeFinder.names c.args.types.now in
     let numbers = g.C.Finder.numbers c.args.candidates.now in
     let bytes = c.args.bytes.now in
@@ -33,8 +33,8 @@ invariant_of-result g c =
     let table = table-read names numbers bytes c.in-Ok.gathered gathers c.in_default.ensures stop few c.count.result _ _ size c.in-Ok-all_turns.ensures in
     subst IsSound (sym table) (table-sound names numbers bytes c.in-Ok.gathered gathers c.in_default.ensures stop few)
 
-pub returns-in-Ok-all_turns : goal.returns-in-Ok-all_turns
-returns-in-Ok-all_turns g c =
+pub returns-in-Ok-of_turns : goal.returns-in-Ok-of_turns
+returns-in-Ok-of_turns g c =
     let names = g.T.TypeFinder.names c.args.types.now in
     let numbers = g.C.Finder.numbers c.args.candidates.now in
     let bytes = c.args.bytes.now in
@@ -44,4 +44,4 @@ returns-in-Ok-all_turns g c =
     let few : length numbers ≤ 4294967296 = omega (arith, size, low) in
     let stop = subst (λ o. StopsAt gathers.count gathers.left o) c.in_default-stop.is gathers.stop in
     (no-fault names numbers bytes c.in-Ok.gathered gathers c.in_default.ensures stop,
-     table-read names numbers bytes c.in-Ok.gathered gathers c.in_default.ensures stop few c.count.result _ _ size c.in-Ok-all_turns.ensures)
+     c.in-Ok-of_turns.ensures ∙ table-read names numbers bytes c.in-Ok.gathered gathers c.in_default.ensures stop few c.count.result _ _ size c.in-Ok-all_turns.ensures)
