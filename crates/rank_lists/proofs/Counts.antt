@@ -1,6 +1,6 @@
 -- How often a number stands in a list. Lists in rising order that have each number equally often are
 -- equal.
-use Rattle.std.proofs.Common.{◌≡◌, ◌≢◌, ℕ, zero, suc, ◌+◌, ◌-◌, ◌%◌, ◌<◌, ◌≤◌, ◌==◌, List, [], ◌∷◌, ◌++◌, length, get_or, refl, sym, ap, ◌∙◌, arith, if◌then◌else◌, true, false, ⊎_elim, ◌⊎◌}
+use Rattle.std.proofs.Common.{◌≡◌, ◌≢◌, ℕ, zero, suc, ◌+◌, ◌%◌, ◌<◌, ◌≤◌, ◌==◌, List, [], ◌∷◌, length, refl, sym, ap, ◌∙◌, arith, if◌then◌else◌, ⊎_elim, ◌⊎◌}
 use Rattle.std.proofs.lemmas.Bool.{cases_lt}
 use Rattle.std.proofs.lemmas.Bool.Decides.{nat_tests}
 use Rattle.std.proofs.lemmas.List.Sums.{sum_by-cons}
@@ -64,19 +64,19 @@ pub copies-placed : (m x o : ℕ) (ys : List ℕ) → ((k : ℕ) → k < length 
 copies-placed m x o [] h = omega arith
 copies-placed m x o (y ∷ ys) h =
     let next : (k : ℕ) → k < length ys → slice_index ys k % m ≡ suc o + k =
-        λ k lt. h (suc k) (omega arith) ∙ (let e : o + suc k ≡ suc o + k = omega arith in e) in
+    λ k lt. h (suc k) (omega arith) ∙ (let e : o + suc k ≡ suc o + k = omega arith in e) in
     let rest : copies x ys ≤ 1 = copies-placed m x (suc o) ys next in
     ⊎_elim
-        (λ (other : one_if x y ≡ 0). omega arith)
-        (λ (same : x ≡ y).
-            let none : copies x ys ≡ 0 = copies-none x ys (λ k lt e.
-                let place : slice_index ys k % m ≡ suc o + k = next k lt in
-                let first : y % m ≡ o + 0 = h 0 (omega arith) in
-                let equal : slice_index ys k % m ≡ y % m = ap (λ n. n % m) (e ∙ same) in
-                omega arith) in
-            let here : one_if x y ≡ 1 = one_if-same x y same in
-            omega arith)
-        (one_if-cases x y)
+    (λ (other : one_if x y ≡ 0). omega arith)
+    (λ (same : x ≡ y).
+    let none : copies x ys ≡ 0 = copies-none x ys (λ k lt e.
+    let place : slice_index ys k % m ≡ suc o + k = next k lt in
+    let first : y % m ≡ o + 0 = h 0 (omega arith) in
+    let equal : slice_index ys k % m ≡ y % m = ap (λ n. n % m) (e ∙ same) in
+    omega arith) in
+    let here : one_if x y ≡ 1 = one_if-same x y same in
+    omega arith)
+    (one_if-cases x y)
 
 -- rising from place to place
 abbrev pub Rises : List ℕ → Type 0
@@ -89,8 +89,8 @@ Rises-tail x xs r i j le lt = r (suc i) (suc j) (omega arith) (omega arith)
 Rises-head : (x y : ℕ) (ys : List ℕ) → Rises (y ∷ ys) → 1 ≤ copies x (y ∷ ys) → y ≤ x
 Rises-head x y ys r one = ⊎_elim
     (λ (below : x < y). let none : copies x (y ∷ ys) ≡ 0 = copies-none x (y ∷ ys)
-        (λ k lt e. let above : y ≤ slice_index (y ∷ ys) k = r 0 k (omega arith) lt in omega arith) in
-        absurd (omega arith))
+    (λ k lt e. let above : y ≤ slice_index (y ∷ ys) k = r 0 k (omega arith) lt in omega arith) in
+    absurd (omega arith))
     (λ (le : y ≤ x). le)
     (cases_lt x y)
 
@@ -114,8 +114,8 @@ Rises-unique (x ∷ xs) (y ∷ ys) r s h =
     let high : x ≤ y = Rises-head y x xs r (omega arith) in
     let head : x ≡ y = omega arith in
     let tail : (z : ℕ) → copies z xs ≡ copies z ys = λ z.
-        let both : one_if z x + copies z xs ≡ one_if z y + copies z ys = h z in
-        let same : one_if z x ≡ one_if z y = ap (one_if z) head in
-        omega arith in
+    let both : one_if z x + copies z xs ≡ one_if z y + copies z ys = h z in
+    let same : one_if z x ≡ one_if z y = ap (one_if z) head in
+    omega arith in
     let rest : xs ≡ ys = Rises-unique xs ys (Rises-tail x xs r) (Rises-tail y ys s) tail in
     cc

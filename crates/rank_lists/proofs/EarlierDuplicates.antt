@@ -1,5 +1,5 @@
 -- The first duplicate is the earlier one of the first repeats of either kind.
-use Rattle.std.proofs.Common.{◌≡◌, ℕ, ◌+◌, ◌<◌, ◌≤◌, List, length, true, false, arith, Option, Some, None, MatchOption, nat_lt}
+use Rattle.std.proofs.Common.{◌≡◌, ℕ, ◌<◌, ◌≤◌, List, length, true, false, arith, Option, Some, None, MatchOption, nat_lt}
 use Rattle.std.proofs.lemmas.Bool.{cond_both}
 use Rattle.std.proofs.lemmas.Bool.Decides.{nat_tests}
 use Rattle.rank_lists.specs.Duplicates.{IsFirstDuplicate, earlier_duplicate}
@@ -28,5 +28,5 @@ earlier-first candidates ranks (Some c) None size g h =
     (g, λ i j below lt. h i j below (omega arith))
 earlier-first candidates ranks (Some c) (Some r) size g h =
     cond_both (nat_lt r.later c.later) (Some (Rank r)) (Some (Candidate c)) (IsFirstDuplicate candidates ranks)
-        (λ yes. let first = is-below r.later c.later yes in (h, λ i j below lt. g.first i j below (omega arith)))
-        (λ no. let first = is-not-below r.later c.later no in (g, λ i j below lt. h.first i j below (omega arith)))
+    (λ yes. let first = is-below r.later c.later yes in (h, λ i j below lt. g.first i j below (omega arith)))
+    (λ no. let first = is-not-below r.later c.later no in (g, λ i j below lt. h.first i j below (omega arith)))

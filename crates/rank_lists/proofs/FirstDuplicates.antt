@@ -1,7 +1,7 @@
 -- The rows of a ranks file that have no fault of their own: up to the first row that repeats an
 -- earlier one none has a fault at all, and that row's fault is the file's first.
-use Rattle.std.proofs.Common.{◌≡◌, ◌≢◌, ℕ, zero, suc, ◌+◌, ◌-◌, ◌<◌, ◌≤◌, List, [], ◌∷◌, Bool, true, false, length, map, take, drop, find, refl, sym, ap, ◌∙◌, arith, add-one, subst, ⊎_elim, Option, Some, None, length-take-le, length-drop}
-use Rattle.std.specs.Prelude.{slice_get, slice_index, slice_index_or, option_and_then, option_map}
+use Rattle.std.proofs.Common.{◌≡◌, ℕ, zero, suc, ◌+◌, ◌<◌, ◌≤◌, List, [], ◌∷◌, Bool, true, false, length, map, take, drop, find, refl, sym, ap, ◌∙◌, arith, subst, ⊎_elim, Option, Some, None, length-take-le}
+use Rattle.std.specs.Prelude.{slice_index, option_and_then, option_map}
 use Rattle.std.proofs.Math.Seq.{drop-cons}
 use Rattle.std.proofs.lemmas.Bool.{cases_lt, cases_Bool}
 use Rattle.std.proofs.lemmas.List.{get_or-map, get_or-take, length-map}
@@ -26,9 +26,9 @@ least_fault-each fault zero h k lt = absurd (omega arith)
 least_fault-each fault (suc n) h k lt =
     let parts = first_of-none (least_fault fault n) (fault n) h in
     ⊎_elim
-        (λ (below : k < n). least_fault-each fault n parts.0 k below)
-        (λ (above : n ≤ k). let same : n ≡ k = omega arith in subst (λ m. fault m ≡ None) same parts.1)
-        (cases_lt k n)
+    (λ (below : k < n). least_fault-each fault n parts.0 k below)
+    (λ (above : n ≤ k). let same : n ≡ k = omega arith in subst (λ m. fault m ≡ None) same parts.1)
+    (cases_lt k n)
 
 -- where each fault is none, the least is none
 least_fault-none : (fault : ℕ → Option FileFault) (n : ℕ) → ((k : ℕ) → k < n → fault k ≡ None) → least_fault fault n ≡ None
@@ -41,7 +41,7 @@ row_fault-at : (meaning : List Row → Row → Option FileFault) (body : List Ro
 row_fault-at meaning body k lt =
     ap (option_and_then (fault_behind ranks_form reading meaning (take k body))) (slice_get-get_or body k (0, []) lt)
     ∙ ap (λ n. first_of (shape_fault ranks_form n (row_at body k)) (first_of (reading (row_at body k)) (meaning (take k body) (row_at body k))))
-        (length-take-le k body (omega arith))
+    (length-take-le k body (omega arith))
 
 not-true : (b : Bool) → (b ≡ true → ⊥) → b ≡ false
 not-true b h = ⊎_elim (λ (yes : b ≡ true). absurd (h yes)) (λ (no : b ≡ false). no) (cases_Bool b)
@@ -79,10 +79,10 @@ module _ (body : List Row) (n : ℕ) (all : n ≤ length body) (group : Row → 
   repeat-none m k file line field distinct lt le =
       let size = length-take-le k body (omega arith) in
       let none : find (same (row_at body k)) (take k body) ≡ None =
-          find-none (same (row_at body k)) (take k body) (λ i below.
-              let here : i < k = omega arith in
-              rw (earlier-at k i (omega arith) here) (not-true _ (λ yes.
-                  distinct i k here lt (group-at i (omega arith) ∙ to i k (omega arith) (omega arith) yes ∙ sym (group-at k (omega arith)))))) in
+      find-none (same (row_at body k)) (take k body) (λ i below.
+      let here : i < k = omega arith in
+      rw (earlier-at k i (omega arith) here) (not-true _ (λ yes.
+      distinct i k here lt (group-at i (omega arith) ∙ to i k (omega arith) (omega arith) yes ∙ sym (group-at k (omega arith)))))) in
       ap (option_map (λ row. duplicate_at file line field row.0)) none
 
   -- the first row that repeats an earlier one
@@ -95,13 +95,12 @@ module _ (body : List Row) (n : ℕ) (all : n ≤ length body) (group : Row → 
       let size = length-take-le k body (omega arith) in
       let groups : group (row_at body i) ≡ group (row_at body k) = sym (group-at i (omega arith)) ∙ first.same ∙ group-at k within in
       let found : find (same (row_at body k)) (take k body) ≡ Some (row_at (take k body) i) =
-          find-some (same (row_at body k)) (take k body) i (omega arith)
-              (rw (earlier-at k i within order) (from i k (omega arith) within groups))
-              (λ j below. rw (earlier-at k j within (omega arith)) (not-true _ (λ yes.
-                  first.first j i below order
-                      (group-at j (omega arith) ∙ to j k (omega arith) within yes ∙ sym groups ∙ sym (group-at i (omega arith)))))) in
+      find-some (same (row_at body k)) (take k body) i (omega arith)
+      (rw (earlier-at k i within order) (from i k (omega arith) within groups))
+      (λ j below. rw (earlier-at k j within (omega arith)) (not-true _ (λ yes.
+      first.first j i below order
+      (group-at j (omega arith) ∙ to j k (omega arith) within yes ∙ sym groups ∙ sym (group-at i (omega arith)))))) in
       ap (option_map (λ row. duplicate_at file line field row.0)) (found ∙ ap (λ row. Some row) (earlier-at k i within order))
-
 
 module _ (bytes : List ℕ) (n : ℕ) (left : List Row) (r : IsReadTo ranks_form reading unrelated bytes n left) where
   abbrev body : List Row
@@ -200,4 +199,4 @@ module _ (bytes : List ℕ) (n : ℕ) (left : List Row) (r : IsReadTo ranks_form
       let within : k < n = omega (arith, first.within) in
       let found = repeat-found body n r.within rank_group same_rank to-rank from-rank i k Ranks (at k).0 3 first in
       stops k (duplicate_at Ranks (at k).0 3 (at i).0) within (λ a b below lt. c a b below (omega arith)) first.first
-          (rw (no-candidate (k + 1) k c (omega arith) (omega arith)) found)
+      (rw (no-candidate (k + 1) k c (omega arith) (omega arith)) found)

@@ -1,7 +1,7 @@
 -- One more row adds its two numbers, and its standing to those of its type.
-use Rattle.std.proofs.Common.{◌≡◌, ◌≢◌, ℕ, ◌+◌, ◌<◌, ◌==◌, List, [], ◌∷◌, ◌++◌, true, false, length, map, refl, sym, ap, ◌∙◌, arith, subst, ⊎_elim, Option, Some, None}
-use Rattle.std.specs.Prelude.{slice_index_or, slice_set, filter}
-use Rattle.std.specs.List.{filter_map, cons_option}
+use Rattle.std.proofs.Common.{◌≡◌, ◌≢◌, ℕ, ◌<◌, ◌==◌, List, [], ◌∷◌, ◌++◌, true, false, length, map, refl, sym, ap, ◌∙◌, arith, subst, ⊎_elim, Option, Some, None}
+use Rattle.std.specs.Prelude.{slice_index_or, slice_set}
+use Rattle.std.specs.List.{cons_option}
 use Rattle.std.proofs.Math.ListN.{length-set}
 use Rattle.std.proofs.lemmas.Bool.{cases_Bool}
 use Rattle.std.proofs.lemmas.Bool.Decides.{nat_tests}
@@ -39,22 +39,22 @@ keys-next : (given : List (List ℕ)) (earlier : List Standing) (o : Option Stan
 keys-next given earlier None kind lt h = h ∙ ap (λ ss. map key_of (in_type kind ss)) (sym (append-nothing earlier))
 keys-next given earlier (Some s) kind lt h = ⊎_elim
     (λ (yes : (s.kind == kind) ≡ true).
-        let same : s.kind ≡ kind = grind (arith, nat_tests) in
-        let here : slice_index_or (with_standing given (Some s)) kind [] ≡ slice_index_or given kind [] ++ key_of s ∷ [] =
-            subst (λ k. slice_index_or (slice_set given k (slice_index_or given k [] ++ key_of s ∷ [])) kind [] ≡ slice_index_or given kind [] ++ key_of s ∷ []) (sym same)
-                (get_or-set_same given kind (slice_index_or given kind [] ++ key_of s ∷ []) [] lt) in
-        let more : in_type kind (s ∷ []) ≡ s ∷ [] = rw yes refl in
-        here ∙ ap (λ keys. keys ++ key_of s ∷ []) h
-        ∙ sym (map-append key_of (in_type kind earlier) (s ∷ []))
-        ∙ ap (λ ss. map key_of (in_type kind earlier ++ ss)) (sym more)
-        ∙ ap (map key_of) (sym (filter-append (λ t. t.kind == kind) earlier (s ∷ []))))
+    let same : s.kind ≡ kind = grind (arith, nat_tests) in
+    let here : slice_index_or (with_standing given (Some s)) kind [] ≡ slice_index_or given kind [] ++ key_of s ∷ [] =
+    subst (λ k. slice_index_or (slice_set given k (slice_index_or given k [] ++ key_of s ∷ [])) kind [] ≡ slice_index_or given kind [] ++ key_of s ∷ []) (sym same)
+    (get_or-set_same given kind (slice_index_or given kind [] ++ key_of s ∷ []) [] lt) in
+    let more : in_type kind (s ∷ []) ≡ s ∷ [] = rw yes refl in
+    here ∙ ap (λ keys. keys ++ key_of s ∷ []) h
+    ∙ sym (map-append key_of (in_type kind earlier) (s ∷ []))
+    ∙ ap (λ ss. map key_of (in_type kind earlier ++ ss)) (sym more)
+    ∙ ap (map key_of) (sym (filter-append (λ t. t.kind == kind) earlier (s ∷ []))))
     (λ (no : (s.kind == kind) ≡ false).
-        let other : kind ≢ s.kind = grind (arith, nat_tests) in
-        let more : in_type kind (s ∷ []) ≡ [] = rw no refl in
-        get_or-set_other given s.kind kind (slice_index_or given s.kind [] ++ key_of s ∷ []) [] other ∙ h
-        ∙ ap (map key_of) (sym (append-nothing (in_type kind earlier)))
-        ∙ ap (λ ss. map key_of (in_type kind earlier ++ ss)) (sym more)
-        ∙ ap (map key_of) (sym (filter-append (λ t. t.kind == kind) earlier (s ∷ []))))
+    let other : kind ≢ s.kind = grind (arith, nat_tests) in
+    let more : in_type kind (s ∷ []) ≡ [] = rw no refl in
+    get_or-set_other given s.kind kind (slice_index_or given s.kind [] ++ key_of s ∷ []) [] other ∙ h
+    ∙ ap (map key_of) (sym (append-nothing (in_type kind earlier)))
+    ∙ ap (λ ss. map key_of (in_type kind earlier ++ ss)) (sym more)
+    ∙ ap (map key_of) (sym (filter-append (λ t. t.kind == kind) earlier (s ∷ []))))
     (cases_Bool (s.kind == kind))
 
 length-with_standing : (given : List (List ℕ)) (o : Option Standing) → length (with_standing given o) ≡ length given

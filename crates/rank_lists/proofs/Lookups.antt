@@ -1,5 +1,5 @@
 -- Looking a rank up by the candidate finds the rank that stands beside the candidate in the order.
-use Rattle.std.proofs.Common.{◌≡◌, ◌≢◌, ℕ, ◌+◌, ◌<◌, ◌≤◌, ◌==◌, List, [], length, Bool, true, false, not, refl, sym, ap, ◌∙◌, arith, ⊎_elim, ◌⊎◌, inl, inr, Option, Some, None}
+use Rattle.std.proofs.Common.{◌≡◌, ◌≢◌, ℕ, ◌<◌, ◌≤◌, ◌==◌, List, [], length, true, false, not, sym, ap, ◌∙◌, arith, ⊎_elim, ◌⊎◌, inl, inr, Option, Some, None}
 use Rattle.std.specs.Prelude.{slice_index, slice_index_or, slice_get}
 use Rattle.std.specs.List.{position_or_len}
 use Rattle.std.proofs.lemmas.Bool.{cases_lt}
@@ -25,15 +25,17 @@ module _ (candidates : ℕ) (order ranks table : List ℕ) (t : AreRanksTo candi
   looked-up =
       let place = position_or_len (λ other. other == c) order in
       ⊎_elim
-          (λ (inside : place < length order).
-              let here : slice_index order place ≡ c = stops-same _ c (prefix_len_stops (λ other. not (other == c)) order 0 inside) in
-              let rank : slice_index table c ≡ slice_index ranks place = ap (slice_index table) (sym here) ∙ t.given place inside in
-              let one : 1 ≤ slice_index ranks place = low place (omega arith) in
-              inl (omega arith, slice_get-get_or ranks place 0 (omega arith) ∙ ap (λ n. Some n) (sym rank)))
-          (λ (past : length order ≤ place).
-              inr (t.none c within (λ k lt. passes-other _ c (prefix_len_passes (λ other. not (other == c)) order k 0 (omega arith))),
-                   slice_get_past ranks place (omega arith)))
-          (cases_lt place (length order))
+      (λ (inside : place < length order).
+      let here : slice_index order place ≡ c = stops-same _ c (prefix_len_stops (λ other. not (other == c)) order 0 inside) in
+      let rank : slice_index table c ≡ slice_index ranks place = ap (slice_index table) (sym here) ∙ t.given place inside in
+      let one : 1 ≤ slice_index ranks place = low place (omega arith) in
+      inl (omega arith, slice_get-get_or ranks place 0 (omega arith) ∙ ap (λ n. Some n) (sym rank)))
+      (λ (past : length order ≤ place).
+      inr (
+        t.none c within (λ k lt. passes-other _ c (prefix_len_passes (λ other. not (other == c)) order k 0 (omega arith))),
+        slice_get_past ranks place (omega arith),
+      ))
+      (cases_lt place (length order))
 
   pub rank-none : slice_index table c ≡ 0 → None ≡ found
   rank-none zero_there = ⊎_elim

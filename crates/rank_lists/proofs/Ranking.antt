@@ -1,9 +1,9 @@
 -- Rows that repeat neither a candidate nor a rank in a type give standings with distinct candidates and
 -- distinct ranks in each type.
-use Rattle.std.proofs.Common.{◌≡◌, ◌≢◌, ℕ, zero, suc, ◌+◌, ◌*◌, ◌<◌, ◌≤◌, ◌==◌, List, [], ◌∷◌, Bool, true, false, length, map, refl, sym, ap, ◌∙◌, arith, subst, ⊎_elim, ◌⊎◌, Option, Some, None, nat_eq, bytes_eq, position}
-use Rattle.std.specs.Prelude.{slice_index, slice_index_or, filter}
-use Rattle.std.specs.List.{filter_map, cons_option}
-use Rattle.std.proofs.lemmas.Bool.{cond_both, cases_Bool}
+use Rattle.std.proofs.Common.{◌≡◌, ◌≢◌, ℕ, suc, ◌<◌, ◌≤◌, ◌==◌, List, [], ◌∷◌, true, length, map, refl, sym, ap, ◌∙◌, arith, ⊎_elim, Option, Some, None, nat_eq, bytes_eq, position}
+use Rattle.std.specs.Prelude.{slice_index, slice_index_or}
+use Rattle.std.specs.List.{cons_option}
+use Rattle.std.proofs.lemmas.Bool.{cond_both}
 use Rattle.std.proofs.lemmas.Bool.Decides.{nat_tests}
 use Rattle.std.proofs.lemmas.List.{get_or-map}
 use Rattle.std.proofs.lemmas.List.Quantifiers.{position-Some}
@@ -60,14 +60,14 @@ module _ (names : List (List ℕ)) (numbers : List ℕ) where
   candidate-group : (row other : Row) (s t : Standing) → Comes row s → Comes other t → s.kind ≡ t.kind → s.candidate ≡ t.candidate → candidate_group row ≡ candidate_group other
   candidate-group row other s t g h kinds same =
       let name : name_number (type_in row) ≡ name_number (type_in other) =
-          ap name_number (same-name row other t.kind (g.kind ∙ ap (λ k. Some k) kinds) h.kind) in
+      ap name_number (same-name row other t.kind (g.kind ∙ ap (λ k. Some k) kinds) h.kind) in
       let number : candidate_in row ≡ candidate_in other = same-number row other t.candidate (g.candidate ∙ ap (λ k. Some k) same) h.candidate in
       omega arith
 
   rank-group : (row other : Row) (s t : Standing) → Comes row s → Comes other t → s.kind ≡ t.kind → s.rank ≡ t.rank → rank_group row ≡ rank_group other
   rank-group row other s t g h kinds same =
       let name : name_number (type_in row) ≡ name_number (type_in other) =
-          ap name_number (same-name row other t.kind (g.kind ∙ ap (λ k. Some k) kinds) h.kind) in
+      ap name_number (same-name row other t.kind (g.kind ∙ ap (λ k. Some k) kinds) h.kind) in
       let rank : rank_in row ≡ rank_in other = sym g.rank ∙ same ∙ h.rank in
       omega arith
 
@@ -96,8 +96,8 @@ module _ (names : List (List ℕ)) (numbers : List ℕ) where
         front (Some s) e rest = cond_both (s.kind == kind) (s ∷ in_type kind (standings names numbers rows)) (in_type kind (standings names numbers rows))
             (λ ss. copies x (map f ss) ≡ 0)
             (λ yes.
-                let other : one_if x (f s) ≡ 0 = one_if-other x (f s) (λ same. h 0 s (omega arith) (Comes-from row s e) (is-kind s.kind kind yes) (sym same)) in
-                omega arith)
+            let other : one_if x (f s) ≡ 0 = one_if-other x (f s) (λ same. h 0 s (omega arith) (Comes-from row s e) (is-kind s.kind kind yes) (sym same)) in
+            omega arith)
             (λ no. rest)
 
     -- no number stands twice where no group does
@@ -117,12 +117,12 @@ module _ (names : List (List ℕ)) (numbers : List ℕ) where
         front (Some s) e rest = cond_both (s.kind == kind) (s ∷ in_type kind (standings names numbers rows)) (in_type kind (standings names numbers rows))
             (λ ss. copies x (map f ss) ≤ 1)
             (λ yes. ⊎_elim
-                (λ (other : one_if x (f s) ≡ 0). omega arith)
-                (λ (same : x ≡ f s).
-                    let none : copies x (of_rows rows) ≡ 0 = apart s e (is-kind s.kind kind yes) same in
-                    let one : one_if x (f s) ≡ 1 = one_if-same x (f s) same in
-                    omega arith)
-                (one_if-cases x (f s)))
+            (λ (other : one_if x (f s) ≡ 0). omega arith)
+            (λ (same : x ≡ f s).
+            let none : copies x (of_rows rows) ≡ 0 = apart s e (is-kind s.kind kind yes) same in
+            let one : one_if x (f s) ≡ 1 = one_if-same x (f s) same in
+            omega arith)
+            (one_if-cases x (f s)))
             (λ no. rest)
 
   -- no candidate stands twice in a type

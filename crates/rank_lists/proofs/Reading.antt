@@ -1,8 +1,7 @@
 -- What reading a ranks file comes to: the duplicates among the rows that have no fault of their own
 -- come first, then the row at which the gathering stopped; where there is neither, the file has no
 -- fault, and the sorted ranks are its table.
-use Rattle.std.proofs.Common.{◌≡◌, ℕ, ◌+◌, ◌<◌, ◌≤◌, List, [], ◌∷◌, length, map, take, refl, sym, ap, ◌∙◌, arith, subst, Option, Some, None, take_all, length-take-le}
-use Rattle.std.specs.Prelude.{slice_index_or}
+use Rattle.std.proofs.Common.{◌≡◌, ℕ, ◌+◌, ◌<◌, ◌≤◌, List, length, map, take, refl, sym, ap, ◌∙◌, arith, subst, Option, Some, None, take_all, length-take-le}
 use Rattle.std.proofs.lemmas.List.{length-map}
 use Rattle.place_base.specs.declared.fault.FileFault.{FileFault}
 use Rattle.place_base.specs.declared.fault.FileKind.TheVariants.{Ranks}
@@ -11,19 +10,18 @@ use Rattle.record_files.specs.ReadTo.{IsReadTo}
 use Rattle.record_files.specs.Rows.{Row}
 use Rattle.record_files.proofs.FirstFaultLemmas.{IsReadTo-stops, IsReadTo-ends}
 use Rattle.rank_lists.specs.Duplicates.{IsFirstDuplicate, duplicate_of}
-use Rattle.rank_lists.specs.Gathered.{GathersRows, StopsAt, HasRows, key_of}
+use Rattle.rank_lists.specs.Gathered.{GathersRows, StopsAt, key_of}
 use Rattle.rank_lists.specs.Groups.{candidate_group, rank_group}
 use Rattle.rank_lists.specs.RankRows.{ranks_form, reading, meaning, ranks_fault}
-use Rattle.rank_lists.specs.RankTables.{RankTable, ranks_table, table_of, standings, in_type}
+use Rattle.rank_lists.specs.RankTables.{RankTable, ranks_table, standings, in_type}
 use Rattle.rank_lists.specs.Repeats.{NoRepeat, IsFirstRepeat}
-use Rattle.rank_lists.specs.RowsRead.{row_at, own_fault}
+use Rattle.rank_lists.specs.RowsRead.{row_at}
 use Rattle.rank_lists.specs.Soundness.{IsSound}
 use Rattle.rank_lists.specs.Turns.{AreAllTurns}
 use Rattle.rank_lists.specs.declared.duplicates.Duplicate.{Duplicate}
 use Rattle.rank_lists.specs.declared.duplicates.Duplicate.TheVariants.{Candidate, Rank}
 use Rattle.rank_lists.specs.declared.gather.Gathered.{Gathered}
 use Rattle.rank_lists.proofs.FirstDuplicates.{clear-all, candidate-first, rank-first, read-fields}
-use Rattle.rank_lists.proofs.RowGroups.{HasFields}
 use Rattle.rank_lists.proofs.TableLemmas.{all-turns, table-is-sound}
 
 first_of-behind : (a b c : Option FileFault) (f : FileFault) → first_of a b ≡ Some f → first_of a (first_of b c) ≡ Some f
@@ -44,12 +42,12 @@ module _ (names : List (List ℕ)) (numbers : List ℕ) (bytes : List ℕ) (gath
       → ranks_fault bytes ≡ Some (duplicate_at Ranks (row_at body (duplicate_of d).0.later).0 (duplicate_of d).1 (row_at body (duplicate_of d).0.earlier).0)
   duplicate-first (Candidate r) h =
       candidate-first bytes g.count g.left g.read r.earlier r.later
-          (subst (λ xs. IsFirstRepeat xs r.earlier r.later) g.rows.candidates h.0)
-          (subst (λ xs. NoRepeat xs r.later) g.rows.ranks h.1)
+      (subst (λ xs. IsFirstRepeat xs r.earlier r.later) g.rows.candidates h.0)
+      (subst (λ xs. NoRepeat xs r.later) g.rows.ranks h.1)
   duplicate-first (Rank r) h =
       rank-first bytes g.count g.left g.read r.earlier r.later
-          (subst (λ xs. IsFirstRepeat xs r.earlier r.later) g.rows.ranks h.0)
-          (subst (λ xs. NoRepeat xs (r.later + 1)) g.rows.candidates h.1)
+      (subst (λ xs. IsFirstRepeat xs r.earlier r.later) g.rows.ranks h.0)
+      (subst (λ xs. NoRepeat xs (r.later + 1)) g.rows.candidates h.1)
 
   -- the rows of a duplicate are rows of the file
   pub duplicate-within : (d : Duplicate) → IsFirstDuplicate gathered.rows.candidates gathered.rows.ranks (Some d)
@@ -83,7 +81,7 @@ module _ (names : List (List ℕ)) (numbers : List ℕ) (bytes : List ℕ) (gath
         let row = s.0 in
         let here = subst (λ rows. IsReadTo ranks_form reading meaning bytes g.count rows) s.2 read in
         IsReadTo-stops ranks_form reading meaning bytes g.count row s.1 f here
-            (first_of-behind (shape_fault ranks_form g.count row) (reading row) (meaning (take g.count body) row) f s.3)
+        (first_of-behind (shape_fault ranks_form g.count row) (reading row) (meaning (take g.count body) row) f s.3)
 
     module _ (s : StopsAt g.count g.left None) where
       ends : (ranks_fault bytes ≡ None) × (g.count ≡ length body)
@@ -109,11 +107,11 @@ module _ (names : List (List ℕ)) (numbers : List ℕ) (bytes : List ℕ) (gath
         table-sound =
             let all = ends.1 in
             table-is-sound names numbers body few
-                (λ k lt. read-fields bytes g.count g.left g.read k (omega arith))
-                (subst (λ rows. NoRepeat (map candidate_group rows) (length rows)) whole
-                    (subst (λ n. NoRepeat (map candidate_group (take g.count body)) n) (length-map (take g.count body) candidate_group) one-candidate))
-                (subst (λ rows. NoRepeat (map rank_group rows) (length rows)) whole
-                    (subst (λ n. NoRepeat (map rank_group (take g.count body)) n) (length-map (take g.count body) rank_group) one-rank))
+            (λ k lt. read-fields bytes g.count g.left g.read k (omega arith))
+            (subst (λ rows. NoRepeat (map candidate_group rows) (length rows)) whole
+            (subst (λ n. NoRepeat (map candidate_group (take g.count body)) n) (length-map (take g.count body) candidate_group) one-candidate))
+            (subst (λ rows. NoRepeat (map rank_group rows) (length rows)) whole
+            (subst (λ n. NoRepeat (map rank_group (take g.count body)) n) (length-map (take g.count body) rank_group) one-rank))
 
 -- a table of its parts
 abbrev pub table_with : ℕ → List (List ℕ) → List (List ℕ) → RankTable

@@ -1,18 +1,18 @@
 -- A row without a fault of its own has a candidate, a type name and a rank within their limits, so
 -- two such rows are in the same group exactly where the tests for duplicates say so.
-use Rattle.std.proofs.Common.{◌≡◌, ◌≢◌, ℕ, ◌+◌, ◌*◌, ◌<◌, ◌≤◌, ◌==◌, ◌&&◌, List, Bool, true, false, nat_le, refl, sym, ap, ◌∙◌, arith, Option, Some, None, Result, Ok, Err, bytes_eq}
+use Rattle.std.proofs.Common.{◌≡◌, ℕ, ◌<◌, ◌≤◌, ◌==◌, ◌&&◌, List, Bool, true, false, nat_le, not, length, refl, ap, arith, Option, Some, None, Result, Ok, Err}
 use Rattle.std.proofs.lemmas.Bool.{cond_both}
 use Rattle.std.proofs.lemmas.Bool.Decides.{nat_tests}
 use Rattle.std.proofs.lemmas.Slice.Eq.{bytes_eq-Decides}
 use Rattle.place_base.specs.TypeName.{is_type_name}
 use Rattle.place_base.specs.declared.fault.FaultKind.{FaultKind}
-use Rattle.place_base.specs.declared.fault.FaultKind.TheVariants.{NotNumber, OutOfRange, BadTypeName, TooManyRows}
+use Rattle.place_base.specs.declared.fault.FaultKind.TheVariants.{NotNumber, OutOfRange, BadTypeName, TooManyRows, FieldCount}
 use Rattle.place_base.specs.declared.fault.FileFault.{FileFault}
 use Rattle.place_base.specs.declared.fault.FileKind.{FileKind}
 use Rattle.place_base.specs.declared.fault.FileKind.TheVariants.{Ranks}
-use Rattle.record_files.specs.FirstFaults.{first_of, fault_at, shape_fault, reading_fault}
+use Rattle.record_files.specs.FirstFaults.{first_of, fault_at, fault_if, long_fault, shape_fault, reading_fault}
 use Rattle.record_files.specs.Numbers.{value, is_number, number_of}
-use Rattle.record_files.specs.Rows.{Row, field_at}
+use Rattle.record_files.specs.Rows.{Row, field_at, fields_of}
 use Rattle.record_files.specs.TypeNames.{type_name_of}
 use Rattle.rank_lists.specs.Groups.{name_number, candidate_group, rank_group}
 use Rattle.rank_lists.specs.RankRows.{ranks_form, candidate_in, type_in, rank_in, reading, same_candidate, same_rank}
@@ -35,10 +35,10 @@ number-read : (file : FileKind) (line field : ℕ) (text : List ℕ) (low high :
 number-read file line field text low high =
     let P : Result ℕ FaultKind → Type 0 = λ r. reading_fault file line field r ≡ None → (low ≤ value text) × (value text ≤ high) in
     cond_both (is_number text) _ (Err NotNumber) P
-        (λ yes. cond_both (nat_le low (value text) && nat_le (value text) high) (Ok (value text)) (Err OutOfRange) P
-            (λ inside none. between low (value text) high inside)
-            (λ outside none. absurd (cc)))
-        (λ no none. absurd (cc))
+    (λ yes. cond_both (nat_le low (value text) && nat_le (value text) high) (Ok (value text)) (Err OutOfRange) P
+    (λ inside none. between low (value text) high inside)
+    (λ outside none. absurd (cc)))
+    (λ no none. absurd (cc))
   where
     between : (low v high : ℕ) → (nat_le low v && nat_le v high) ≡ true → (low ≤ v) × (v ≤ high)
     between low v high h = (grind (arith, nat_tests), grind (arith, nat_tests))
@@ -47,8 +47,8 @@ name-read : (file : FileKind) (line field : ℕ) (text : List ℕ) → reading_f
 name-read file line field text =
     let P : Result (List ℕ) FaultKind → Type 0 = λ r. reading_fault file line field r ≡ None → IsName text in
     cond_both (is_type_name text) (Ok text) (Err BadTypeName) P
-        (λ yes none. IsName-from text yes)
-        (λ no none. absurd (cc))
+    (λ yes none. IsName-from text yes)
+    (λ no none. absurd (cc))
 
 pub HasFields-from : (row : Row) → reading row ≡ None → HasFields row
 HasFields-from row h =
@@ -110,14 +110,21 @@ same_rank-group row other g h e =
 -- a row without a fault of its own is not one too many
 pub few-rows : (index : ℕ) (row : Row) → own_fault index row ≡ None → index < 20000000
 few-rows index row h =
-    let parts = first_of-none _ _ (first_of-none _ _ (first_of-none _ _ h).0).1 in
-    cond_both (nat_le 20000000 index) (Some (fault_at Ranks row.0 0 TooManyRows)) None (λ o. o ≡ None → index < 20000000)
-        (λ yes e. absurd (cc))
-        (λ no e. below index no)
-        parts.0
+    let shape = first_of-none (shape_fault ranks_form index row) (reading row) h in
+    let rows = fault_if (nat_le 20000000 index) (fault_at Ranks row.0 0 TooManyRows) in
+    let behind = first_of-none (long_fault ranks_form row) (first_of rows (count_fault row)) shape.0 in
+    allowed (nat_le 20000000 index) (fault_at Ranks row.0 0 TooManyRows) (below index)
+    (first_of-none rows (count_fault row) behind.1).0
   where
+    count_fault : Row → Option FileFault
+    count_fault row = fault_if (not (length (fields_of row) == 3)) (fault_at Ranks row.0 0 FieldCount)
+
     below : (index : ℕ) → nat_le 20000000 index ≡ false → index < 20000000
     below index h = grind (arith, nat_tests)
+
+    allowed : (test : Bool) (fault : FileFault) → (test ≡ false → index < 20000000) → fault_if test fault ≡ None → index < 20000000
+    allowed true fault h none = absurd (cc)
+    allowed false fault h none = h refl
 
 first_of-nothing : (a : Option FileFault) → first_of a None ≡ a
 first_of-nothing (Some f) = refl

@@ -1,6 +1,6 @@
 -- A list whose numbers have their places behind them, and the same list sorted: equal numbers become
 -- neighbours, and their places tell which of them repeats first.
-use Rattle.std.proofs.Common.{◌≡◌, ◌≢◌, ℕ, ◌+◌, ◌-◌, ◌/◌, ◌%◌, ◌<◌, ◌≤◌, List, length, map, suc, zero, add-one, zero-add, refl, sym, ap, ◌∙◌, arith, ⊎_elim, All, Contains, Option, Some, None, MatchOption}
+use Rattle.std.proofs.Common.{◌≡◌, ℕ, ◌+◌, ◌/◌, ◌%◌, ◌<◌, ◌≤◌, List, length, map, suc, zero, add-one, zero-add, sym, ap, ◌∙◌, arith, ⊎_elim, Option, Some, None, MatchOption}
 use Rattle.std.specs.Prelude.{slice_index, IsPermutation}
 use Rattle.std.proofs.lemmas.Bool.{cases_lt}
 use Rattle.std.proofs.lemmas.List.Sorted.{Contains-permutation, IsPermutation-sym, length_permutation}
@@ -25,13 +25,13 @@ module _ (placed sorted : List ℕ) (is : IsPlaced placed) (p : IsPermutation pl
   strict k lt = ⊎_elim
       (λ (below : slice_index sorted k < slice_index sorted (k + 1)). below)
       (λ (above : slice_index sorted (k + 1) ≤ slice_index sorted k).
-          let x = slice_index sorted (k + 1) in
-          let le : slice_index sorted k ≤ x = up k (k + 1) (omega arith) lt in
-          let equal : slice_index sorted k ≡ x = omega arith in
-          let twice : 2 ≤ copies x sorted = copies-twice sorted k (k + 1) (omega arith) lt equal in
-          let once : copies x placed ≤ 1 = copies-placed 33554432 x 0 placed (λ j in_it. is.places j in_it ∙ sym (zero-add j)) in
-          let same : copies x sorted ≡ copies x placed = copies-permutation x placed sorted p in
-          absurd (omega arith))
+      let x = slice_index sorted (k + 1) in
+      let le : slice_index sorted k ≤ x = up k (k + 1) (omega arith) lt in
+      let equal : slice_index sorted k ≡ x = omega arith in
+      let twice : 2 ≤ copies x sorted = copies-twice sorted k (k + 1) (omega arith) lt equal in
+      let once : copies x placed ≤ 1 = copies-placed 33554432 x 0 placed (λ j in_it. is.places j in_it ∙ sym (zero-add j)) in
+      let same : copies x sorted ≡ copies x placed = copies-permutation x placed sorted p in
+      absurd (omega arith))
       (cases_lt (slice_index sorted k) (slice_index sorted (k + 1)))
 
   -- what stands in the sorted list stood at its own place
@@ -63,15 +63,15 @@ module _ (placed sorted : List ℕ) (is : IsPlaced placed) (p : IsPermutation pl
       let places : slice_index placed i % 33554432 ≡ i = is.places i (omega arith) in
       let places' : slice_index placed j % 33554432 ≡ j = is.places j lt in
       ⊎_elim
-          (λ (before : b < a).
-              let le : slice_index sorted (suc b) ≤ slice_index sorted a = up (suc b) a (omega arith) in_a in
-              absurd (omega arith))
-          (λ (le : a ≤ b).
-              let low : slice_index sorted a ≤ slice_index sorted b = up a b le (omega arith) in
-              let high : slice_index sorted b ≤ slice_index sorted (suc b) = up b (suc b) (omega arith) in_b in
-              let pair : slice_index sorted b / 33554432 ≡ slice_index sorted (suc b) / 33554432 = omega arith in
-              (b, rw add-one in_b, rw add-one pair, rw add-one (ap (λ n. n % 33554432) at_b ∙ places')))
-          (cases_lt b a)
+      (λ (before : b < a).
+      let le : slice_index sorted (suc b) ≤ slice_index sorted a = up (suc b) a (omega arith) in_a in
+      absurd (omega arith))
+      (λ (le : a ≤ b).
+      let low : slice_index sorted a ≤ slice_index sorted b = up a b le (omega arith) in
+      let high : slice_index sorted b ≤ slice_index sorted (suc b) = up b (suc b) (omega arith) in_b in
+      let pair : slice_index sorted b / 33554432 ≡ slice_index sorted (suc b) / 33554432 = omega arith in
+      (b, rw add-one in_b, rw add-one pair, rw add-one (ap (λ n. n % 33554432) at_b ∙ places')))
+      (cases_lt b a)
 
   complete : (i j : ℕ) → i < j → j < length placed → slice_index placed i / 33554432 ≡ slice_index placed j / 33554432
       → (k : ℕ) × (k + 1 < length sorted) × IsPair sorted k × (slice_index sorted (k + 1) % 33554432 ≡ j)
@@ -104,9 +104,9 @@ module _ (placed sorted : List ℕ) (is : IsPlaced placed) (p : IsPermutation pl
       let in_b : b % 33554432 < length placed = back_b.0 in
       let sizes = length-map placed (λ n. n / 33554432) in
       let at_a : slice_index (numbers_of placed) r.earlier ≡ a / 33554432 =
-          rw earlier (number-at (a % 33554432) in_a ∙ ap (λ n. n / 33554432) back_a.1) in
+      rw earlier (number-at (a % 33554432) in_a ∙ ap (λ n. n / 33554432) back_a.1) in
       let at_b : slice_index (numbers_of placed) r.later ≡ b / 33554432 =
-          rw later (number-at (b % 33554432) in_b ∙ ap (λ n. n / 33554432) back_b.1) in
+      rw later (number-at (b % 33554432) in_b ∙ ap (λ n. n / 33554432) back_b.1) in
       record {
         order = order;
         within = omega arith;

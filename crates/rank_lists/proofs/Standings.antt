@@ -1,5 +1,5 @@
 -- Standings by rising rank, and the same as sorted numbers, each a rank with its candidate behind it.
-use Rattle.std.proofs.Common.{◌≡◌, ◌≢◌, ℕ, zero, suc, ◌+◌, ◌-◌, ◌*◌, ◌/◌, ◌%◌, ◌<◌, ◌≤◌, ◌==◌, List, [], ◌∷◌, Bool, true, false, length, map, refl, sym, ap, ◌∙◌, arith, subst, ⊎_elim}
+use Rattle.std.proofs.Common.{◌≡◌, ℕ, zero, suc, ◌+◌, ◌/◌, ◌%◌, ◌<◌, ◌≤◌, List, [], ◌∷◌, true, false, length, map, refl, sym, ap, ◌∙◌, arith}
 use Rattle.std.specs.Prelude.{slice_index, slice_index_or, IsPermutation}
 use Rattle.std.proofs.lemmas.Bool.{cond_both}
 use Rattle.std.proofs.lemmas.Bool.Decides.{nat_tests}
@@ -63,9 +63,9 @@ put_in-Climbs : (s : Standing) (ts : List Standing) → s.candidate < 4294967296
 put_in-Climbs s [] a b h = (tt, tt)
 put_in-Climbs s (t ∷ ts) a b h = cond_both (is_before s t) (s ∷ t ∷ ts) (t ∷ put_in s ts) (λ all. Climbs (map key_of all))
     (λ yes. let le : key_of s ≤ key_of t = before-key s t a b.0 yes in
-        ((le, AtLeast-lower (key_of s) (key_of t) (map key_of ts) le h.0), h))
+    ((le, AtLeast-lower (key_of s) (key_of t) (map key_of ts) le h.0), h))
     (λ no. let le : key_of t ≤ key_of s = behind-key s t a b.0 no in
-        (AtLeast-put_in (key_of t) s ts le h.0, put_in-Climbs s ts a b.1 h.1))
+    (AtLeast-put_in (key_of t) s ts le h.0, put_in-Climbs s ts a b.1 h.1))
 
 module _ (P : Standing → Type 0) where
   put_in-Each : (s : Standing) (ts : List Standing) → P s → Each P ts → Each P (put_in s ts)

@@ -1,8 +1,7 @@
 -- The table of rows that have no fault: its orders hold distinct candidates, and the ranks beside them
 -- rise strictly. Sorted keys give just this table.
-use Rattle.std.proofs.Common.{◌≡◌, ◌≢◌, ℕ, zero, suc, ◌+◌, ◌*◌, ◌/◌, ◌%◌, ◌<◌, ◌≤◌, List, [], ◌∷◌, length, map, refl, sym, ap, ◌∙◌, arith, subst, zero-add, ⊎_elim}
+use Rattle.std.proofs.Common.{◌≡◌, ℕ, ◌/◌, ◌%◌, ◌<◌, ◌≤◌, List, [], length, map, sym, ap, ◌∙◌, arith, subst, zero-add, ⊎_elim}
 use Rattle.std.specs.Prelude.{slice_index, slice_index_or, IsPermutation}
-use Rattle.std.specs.List.{range_with_len}
 use Rattle.std.proofs.lemmas.Bool.{cases_lt}
 use Rattle.std.proofs.lemmas.List.{get_or-map, length-map, same_lists, get_or_default}
 use Rattle.std.proofs.lemmas.List.FromFn.{get_or-map-range_with_len, length-map-range_with_len}
@@ -15,8 +14,8 @@ use Rattle.rank_lists.specs.Repeats.{NoRepeat}
 use Rattle.rank_lists.specs.RowsRead.{row_at}
 use Rattle.rank_lists.specs.Soundness.{IsSound}
 use Rattle.rank_lists.specs.Turns.{AreTurns, AreAllTurns}
-use Rattle.rank_lists.proofs.Counts.{copies, copies-twice, Rises}
-use Rattle.rank_lists.proofs.Ranking.{Comes, Comes-candidate, candidates-once, ranks-once, standings-Each}
+use Rattle.rank_lists.proofs.Counts.{copies, copies-twice}
+use Rattle.rank_lists.proofs.Ranking.{Comes-candidate, candidates-once, ranks-once, standings-Each}
 use Rattle.rank_lists.proofs.RowGroups.{HasFields}
 use Rattle.rank_lists.proofs.Standings.{Each, Each-at, AreSmall, by_rank-Each, by_rank-AreSmall, by_rank-Rises, copies-by_rank, sorted-keys, keys-candidates, keys-ranks}
 
@@ -52,9 +51,10 @@ module _ (names : List (List ℕ)) (numbers : List ℕ) (rows : List Row) (few :
   turns-are kind keys order ranks e t =
       let perm = subst (λ xs. IsPermutation xs t.sorted) e t.permutation in
       let sorted : t.sorted ≡ map key_of (sorted_in kind) = sorted-keys (in_type kind all) t.sorted (small kind) perm t.rises in
-      let fits = by_rank-AreSmall (in_type kind all) (small kind) in
-      (t.order_is ∙ ap (map (λ key. key % 4294967296)) sorted ∙ keys-candidates (sorted_in kind) fits,
-       t.ranks_are ∙ ap (map (λ key. key / 4294967296)) sorted ∙ keys-ranks (sorted_in kind) fits)
+      let fits = by_rank-AreSmall (in_type kind all) (small kind) in (
+        t.order_is ∙ ap (map (λ key. key % 4294967296)) sorted ∙ keys-candidates (sorted_in kind) fits,
+        t.ranks_are ∙ ap (map (λ key. key / 4294967296)) sorted ∙ keys-ranks (sorted_in kind) fits,
+      )
 
   -- the turns of all types are the table
   pub all-turns : (given orders ranks : List (List ℕ)) → length given ≡ length names
@@ -64,15 +64,16 @@ module _ (names : List (List ℕ)) (numbers : List ℕ) (rows : List Row) (few :
       let orders_size = t.orders_size in
       let ranks_size = t.ranks_size in
       let whole = orders-size in
-      let whole' = ranks-size in
-      (same_lists orders table.orders (omega arith) (λ kind d lt.
-           get_or_default orders kind d [] lt
-           ∙ (turns-are kind (slice_index_or given kind []) (slice_index_or orders kind []) (slice_index_or ranks kind []) (keys kind (omega arith)) (t.turns kind (omega arith))).0
-           ∙ sym (order-at kind (omega arith)) ∙ get_or_default table.orders kind [] d (omega arith)),
-       same_lists ranks table.ranks (omega arith) (λ kind d lt.
-           get_or_default ranks kind d [] lt
-           ∙ (turns-are kind (slice_index_or given kind []) (slice_index_or orders kind []) (slice_index_or ranks kind []) (keys kind (omega arith)) (t.turns kind (omega arith))).1
-           ∙ sym (ranks-at kind (omega arith)) ∙ get_or_default table.ranks kind [] d (omega arith)))
+      let whole' = ranks-size in (
+        same_lists orders table.orders (omega arith) (λ kind d lt.
+            get_or_default orders kind d [] lt
+            ∙ (turns-are kind (slice_index_or given kind []) (slice_index_or orders kind []) (slice_index_or ranks kind []) (keys kind (omega arith)) (t.turns kind (omega arith))).0
+            ∙ sym (order-at kind (omega arith)) ∙ get_or_default table.orders kind [] d (omega arith)),
+        same_lists ranks table.ranks (omega arith) (λ kind d lt.
+            get_or_default ranks kind d [] lt
+            ∙ (turns-are kind (slice_index_or given kind []) (slice_index_or orders kind []) (slice_index_or ranks kind []) (keys kind (omega arith)) (t.turns kind (omega arith))).1
+            ∙ sym (ranks-at kind (omega arith)) ∙ get_or_default table.ranks kind [] d (omega arith)),
+      )
 
   module _ (fields : (k : ℕ) → k < length rows → HasFields (row_at rows k)) (one_candidate : NoRepeat (map candidate_group rows) (length rows)) (one_rank : NoRepeat (map rank_group rows) (length rows)) where
     -- a standing within the limits
@@ -131,16 +132,16 @@ module _ (names : List (List ℕ)) (numbers : List ℕ) (rows : List Row) (few :
         let low = (good-at kind j (omega arith)).candidate in
         let high = (good-at kind k (omega arith)).candidate in
         let keys : slice_index (map key_of (sorted_in kind)) j ≤ slice_index (map key_of (sorted_in kind)) k =
-            by_rank-Rises (in_type kind all) (small kind) j k (omega arith) (omega arith) in
+        by_rank-Rises (in_type kind all) (small kind) j k (omega arith) (omega arith) in
         let key_j = key-at kind j (omega arith) in
         let key_k = key-at kind k (omega arith) in
         let rank_j = rank-at kind j (omega arith) in
         let rank_k = rank-at kind k (omega arith) in
         ⊎_elim
-            (λ (less : slice_index (ranks_of all kind) j < slice_index (ranks_of all kind) k). less)
-            (λ (more : slice_index (ranks_of all kind) k ≤ slice_index (ranks_of all kind) j).
-                absurd (distinct-ranks kind j k below lt (omega arith)))
-            (cases_lt (slice_index (ranks_of all kind) j) (slice_index (ranks_of all kind) k))
+        (λ (less : slice_index (ranks_of all kind) j < slice_index (ranks_of all kind) k). less)
+        (λ (more : slice_index (ranks_of all kind) k ≤ slice_index (ranks_of all kind) j).
+        absurd (distinct-ranks kind j k below lt (omega arith)))
+        (cases_lt (slice_index (ranks_of all kind) j) (slice_index (ranks_of all kind) k))
 
     -- the table meets what a market asks
     pub table-is-sound : IsSound table

@@ -1,5 +1,5 @@
 -- The rows of a ranks file, and what is wrong with them.
-use Rattle.std.specs.Prelude.{ℕ, ◌+◌, ◌*◌, List, [], ◌∷◌, Bool, ◌&&◌, ◌==◌, bytes_eq, codes, Option, None}
+use Rattle.std.specs.Prelude.{ℕ, List, Bool, ◌&&◌, ◌==◌, bytes_eq, codes, Option}
 use Rattle.place_base.specs.declared.fault.FileFault.{FileFault}
 use Rattle.place_base.specs.declared.fault.FileKind.TheVariants.{Ranks}
 use Rattle.record_files.specs.FirstFaults.{first_of, reading_fault, repeat_fault, first_fault}
@@ -30,7 +30,7 @@ abbrev pub reading : Row → Option FileFault
 reading row =
     first_of (reading_fault Ranks row.0 1 (number_of (field_at row 0) 1 99999999999))
     (first_of (reading_fault Ranks row.0 2 (type_name_of (field_at row 1)))
-        (reading_fault Ranks row.0 3 (number_of (field_at row 2) 1 99999999)))
+    (reading_fault Ranks row.0 3 (number_of (field_at row 2) 1 99999999)))
 
 -- two rows rank the same candidate in the same type
 abbrev pub same_candidate : Row → Row → Bool
@@ -46,7 +46,7 @@ same_rank row other = (rank_in row == rank_in other) && bytes_eq (type_in row) (
 abbrev pub meaning : List Row → Row → Option FileFault
 meaning earlier row =
     first_of (repeat_fault Ranks row.0 2 (same_candidate row) earlier)
-        (repeat_fault Ranks row.0 3 (same_rank row) earlier)
+    (repeat_fault Ranks row.0 3 (same_rank row) earlier)
 
 -- the first fault of a ranks file
 abbrev pub ranks_fault : List ℕ → Option FileFault

@@ -1,5 +1,5 @@
 -- The turn orders and ranks that the rows of a ranks file give.
-use Rattle.std.specs.Prelude.{◌≡◌, ◌≢◌, ℕ, ◌+◌, ◌<◌, ◌≤◌, List, [], ◌∷◌, Bool, ◌&&◌, ◌||◌, ◌==◌, nat_lt, nat_le, nat_eq, bytes_eq, length, map, filter, position, slice_get, slice_index, slice_index_or, if◌then◌else◌, Option, Some, None}
+use Rattle.std.specs.Prelude.{ℕ, List, [], ◌∷◌, Bool, ◌&&◌, ◌||◌, ◌==◌, nat_lt, nat_le, nat_eq, bytes_eq, length, map, filter, position, slice_get, slice_index_or, if◌then◌else◌, Option, Some, None}
 use Rattle.std.specs.List.{filter_map, range_with_len, position_or_len}
 use Rattle.record_files.specs.FirstFaults.{data_rows}
 use Rattle.record_files.specs.Rows.{Row}
@@ -22,7 +22,7 @@ standing_of (Some kind) (Some candidate) rank =
 abbrev pub standing_in : List (List ℕ) → List ℕ → Row → Option Standing
 standing_in names numbers row =
     standing_of (position (bytes_eq (type_in row)) names) (position (nat_eq (candidate_in row)) numbers)
-        (rank_in row)
+    (rank_in row)
 
 -- the standings that the rows give
 abbrev pub standings : List (List ℕ) → List ℕ → List Row → List Standing
@@ -65,7 +65,7 @@ abbrev pub table_of : ℕ → ℕ → List Standing → RankTable
 table_of types candidates all = record {
   candidates = candidates;
   orders = map (turns_of all) (range_with_len 0 types);
-  ranks = map (ranks_of all) (range_with_len 0 types)
+  ranks = map (ranks_of all) (range_with_len 0 types);
 }
 
 -- the table of a ranks file beside the names of the types and the numbers of the candidates

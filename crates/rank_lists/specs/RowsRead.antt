@@ -1,7 +1,7 @@
 -- What was read of the rows of a ranks file.
-use Rattle.std.specs.Prelude.{◌≡◌, ℕ, ◌<◌, List, [], ◌∷◌, length, map, take, slice_index_or, Option, Some, None, Result, Ok, Err, ⊤}
+use Rattle.std.specs.Prelude.{◌≡◌, ℕ, List, [], slice_index_or, Option, Some, None, Result, Ok, Err}
 use Rattle.place_base.specs.declared.fault.FileFault.{FileFault}
-use Rattle.record_files.specs.FirstFaults.{first_of, shape_fault, data_rows}
+use Rattle.record_files.specs.FirstFaults.{first_of, shape_fault}
 use Rattle.record_files.specs.Rows.{Row}
 use Rattle.rank_lists.specs.RankRows.{ranks_form, candidate_in, type_in, rank_in, reading}
 use Rattle.rank_lists.specs.declared.row.RankRow.{RankRow}

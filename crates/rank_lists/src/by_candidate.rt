@@ -18,9 +18,7 @@ fn ranks_by_candidate(
     requires beside { length ranks.now ≡ length order.now }
     requires entries { (k : ℕ) → k < length order.now → slice_index order.now k < candidates }
     requires distinct { IsDistinct order.now }
-    ensures {
-        IfOk result (λ table. AreRanksTo candidates order.now ranks.now (length order.now) table.items)
-    }
+    ensures { IfOk result (λ table. AreRanksTo candidates order.now ranks.now (length order.now) table.items) }
 {
     let mut table = vec![in alloc; 0; candidates as usize]?;
     for (turn, candidate) in order.iter().enumerate() {
@@ -37,10 +35,8 @@ pub(crate) fn tables_by_candidate(
     ranks: &[List],
 ) -> Result<Vec<List>, AllocError>
     requires { IsSound (record { candidates = candidates; orders = orders.now; ranks = ranks.now }) }
-    ensures {
-        IfOk result (λ tables.
-            HasTables (record { candidates = candidates; orders = orders.now; ranks = ranks.now }) tables.items)
-    }
+    ensures { IfOk result (λ tables.
+        HasTables (record { candidates = candidates; orders = orders.now; ranks = ranks.now }) tables.items) }
 {
     let mut tables = Vec::with_capacity(alloc, orders.len())?;
     for (kind, order) in orders.iter().enumerate() {

@@ -50,11 +50,9 @@ impl Duplicate {
         requires size { length bytes.now ≤ 2 ^ 30 }
         requires earlier { (duplicate_of self).0.earlier < length (data_rows bytes.now) }
         requires later { (duplicate_of self).0.later < length (data_rows bytes.now) }
-        ensures {
-            let rows = data_rows bytes.now in let found = duplicate_of self in
+        ensures { let rows = data_rows bytes.now in let found = duplicate_of self in
             result ≡ duplicate_at FileKind.Ranks (row_at rows found.0.later).0 found.1
-                (row_at rows found.0.earlier).0
-        }
+            (row_at rows found.0.earlier).0 }
     {
         let (repeat, field) = match self {
             Duplicate::Candidate(repeat) => (repeat, 2),

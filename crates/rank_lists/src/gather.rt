@@ -33,15 +33,14 @@ pub(crate) struct Gathered {
 
 // The numbers of candidates are below this, and so are ranks below the other.
 const CANDIDATES: u128 = 1 << 37;
+
 const RANKS: u128 = 1 << 27;
 
 impl RankRows {
     // No rows, beside so many types.
     fn new(alloc: Global, types: u32) -> Result<RankRows, AllocError>
-        ensures {
-            IfOk result (λ rows. (names : List (List ℕ)) (numbers : List ℕ)
-                → length names ≡ types → HasRows names numbers [] rows)
-        }
+        ensures { IfOk result (λ rows. (names : List (List ℕ)) (numbers : List ℕ)
+            → length names ≡ types → HasRows names numbers [] rows) }
     {
         let mut given = Vec::with_capacity(alloc, types as usize)?;
         for _ in 0..types {
@@ -63,15 +62,14 @@ impl RankRows {
     ) -> Result<(), AllocError>
         requires few_candidates { length self.old.candidates < 33554432 }
         requires few_ranks { length self.old.ranks < 33554432 }
-        ensures {
-            OnOk result ((earlier : List Row) (here : Row)
-                → HasRows (T.names types.now) (C.numbers candidates.now) earlier self.old
-                → SaysRow here row.now
-                → HasRows (T.names types.now) (C.numbers candidates.now) (earlier ++ here ∷ []) self.new)
-        }
+        ensures { OnOk result ((earlier : List Row) (here : Row)
+            → HasRows (T.names types.now) (C.numbers candidates.now) earlier self.old
+            → SaysRow here row.now
+            → HasRows (T.names types.now) (C.numbers candidates.now) (earlier ++ here ∷ []) self.new) }
     {
         let name = name_number(row.name.bytes());
-        self.candidates.push(candidate_in_type(name, row.candidate))?;
+        self.candidates
+            .push(candidate_in_type(name, row.candidate))?;
         self.ranks.push(rank_in_type(name, row.rank))?;
         let kind = types.find_type(row.name);
         let candidate = candidates.find(row.candidate);

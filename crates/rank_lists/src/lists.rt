@@ -36,15 +36,11 @@ impl Model for RankLists {
 
     ghost Value = { RankTable };
 
-    ghost view = {
-        λ l. record { candidates = l.candidates; orders = l.orders.items; ranks = l.ranks.items }
-    };
+    ghost view = { λ l. record { candidates = l.candidates; orders = l.orders.items; ranks = l.ranks.items } };
 
-    ghost invariant = {
-        λ l. HasTables
-            (record { candidates = l.candidates; orders = l.orders.items; ranks = l.ranks.items })
-            l.by_candidate.items
-    };
+    ghost invariant = { λ l. HasTables
+        (record { candidates = l.candidates; orders = l.orders.items; ranks = l.ranks.items })
+        l.by_candidate.items };
 }
 
 /// The turn order of each type and the ranks in it, as a market takes them.
@@ -70,10 +66,8 @@ impl RankLists {
     ) -> Result<RankLists, TableStop>
         requires size { length bytes.now ≤ 2 ^ 30 }
         requires pieces { (1 ≤ _pieces) × (_pieces ≤ 64) }
-        ensures {
-            IsTableRead (ranks_fault bytes.now)
-                (ranks_table (T.names types.now) (C.numbers candidates.now) bytes.now) result
-        }
+        ensures { IsTableRead (ranks_fault bytes.now)
+            (ranks_table (T.names types.now) (C.numbers candidates.now) bytes.now) result }
     {
         let Gathered { rows, stop } = match gather(alloc, bytes, types, candidates) {
             Ok(gathered) => gathered,
@@ -101,13 +95,9 @@ impl RankLists {
 
     // The lists of turn orders of so many candidates.
     fn of_turns(alloc: Global, candidates: u32, turns: AllTurns) -> Result<RankLists, AllocError>
-        requires {
-            IsSound (record { candidates = candidates; orders = turns.orders.items; ranks = turns.ranks.items })
-        }
-        ensures {
-            IfOk result (λ lists. lists
-                ≡ record { candidates = candidates; orders = turns.orders.items; ranks = turns.ranks.items })
-        }
+        requires { IsSound (record { candidates = candidates; orders = turns.orders.items; ranks = turns.ranks.items }) }
+        ensures { IfOk result (λ lists. lists
+            ≡ record { candidates = candidates; orders = turns.orders.items; ranks = turns.ranks.items }) }
     {
         let by_candidate = tables_by_candidate(alloc, candidates, &turns.orders, &turns.ranks)?;
         Ok(RankLists {

@@ -64,10 +64,8 @@ impl Repeats {
 
     /// The first place at which a number stands that stands earlier too, with that earlier place.
     pub(crate) fn first_repeat(self) -> Option<Repeat>
-        ensures {
-            MatchOption result (NoRepeat self (length self))
-                (λ r. IsFirstRepeat self r.earlier r.later)
-        }
+        ensures { MatchOption result (NoRepeat self (length self))
+            (λ r. IsFirstRepeat self r.earlier r.later) }
     {
         let mut placed = self.placed;
         placed.sort_unstable();
@@ -77,18 +75,19 @@ impl Repeats {
 
 // The neighbours with the same number whose later place is least.
 fn least_pair(sorted: &[u128]) -> Option<Repeat>
-    ensures {
-        IsLeastPair sorted.now (length sorted.now) result
-    }
+    ensures { IsLeastPair sorted.now (length sorted.now) result }
 {
     let mut least = None;
     for index in 1..sorted.len() {
         let (before, here) = (sorted[index - 1], sorted[index]);
         if before / PLACES == here / PLACES {
-            least = earlier_of(least, Repeat {
-                earlier: (before % PLACES) as u32,
-                later: (here % PLACES) as u32,
-            });
+            least = earlier_of(
+                least,
+                Repeat {
+                    earlier: (before % PLACES) as u32,
+                    later: (here % PLACES) as u32,
+                },
+            );
         }
     }
     least

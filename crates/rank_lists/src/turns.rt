@@ -45,7 +45,8 @@ impl GivenRanks {
     pub(crate) fn push(&mut self, candidate: u32, rank: u32) -> Result<(), AllocError>
         ensures { OnOk result (self.new ≡ self.old ++ (rank * 2 ^ 32 + candidate) ∷ []) }
     {
-        self.keys.push(u64::from(rank) * CANDIDATES + u64::from(candidate))?;
+        self.keys
+            .push(u64::from(rank) * CANDIDATES + u64::from(candidate))?;
         Ok(())
     }
 
@@ -86,12 +87,16 @@ pub(crate) fn all_turns(alloc: Global, given: Vec<GivenRanks>) -> Result<AllTurn
 fn candidates_of(alloc: Global, keys: &[u64]) -> Result<Vec<u32>, AllocError>
     ensures { IfOk result (λ order. order.items ≡ map (λ key. key % 4294967296) keys.now) }
 {
-    keys.iter().map(|key| (*key % CANDIDATES) as u32).collect(alloc)
+    keys.iter()
+        .map(|key| (*key % CANDIDATES) as u32)
+        .collect(alloc)
 }
 
 // The ranks of keys.
 fn ranks_of(alloc: Global, keys: &[u64]) -> Result<Vec<u32>, AllocError>
     ensures { IfOk result (λ ranks. ranks.items ≡ map (λ key. key / 4294967296) keys.now) }
 {
-    keys.iter().map(|key| (*key / CANDIDATES) as u32).collect(alloc)
+    keys.iter()
+        .map(|key| (*key / CANDIDATES) as u32)
+        .collect(alloc)
 }

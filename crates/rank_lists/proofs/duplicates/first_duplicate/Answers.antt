@@ -1,5 +1,3 @@
-use Rattle.std.proofs.Common.{sym, subst}
-use Rattle.rank_lists.specs.Duplicates.{IsFirstDuplicate}
 use Rattle.rank_lists.proofs.EarlierDuplicates.{earlier-first}
 use Rattle.rank_lists.proofs.duplicates.first_duplicate.Goals as goal
 

@@ -1,4 +1,4 @@
-use Rattle.std.proofs.Common.{◌≡◌, ◌∙◌, ◌+◌, ◌-◌, ℕ, List, [], ◌∷◌, length, drop, refl, sym, ap, arith, Option, Some, None, MatchOption, length-drop}
+use Rattle.std.proofs.Common.{◌≡◌, ◌∙◌, ◌-◌, List, [], ◌∷◌, length, drop, sym, ap, arith, Option, Some, None, MatchOption, length-drop}
 use Rattle.std.proofs.lemmas.List.{drop-drop}
 use Rattle.record_files.specs.FirstFaults.{data_rows}
 use Rattle.record_files.specs.Rows.{Row}
@@ -17,6 +17,6 @@ loop-preserved c =
 pub unreachable-requires : goal.unreachable-requires
 unreachable-requires c =
     let none : 0 ≡ length (data_rows c.args.bytes.now) - c.loop.counter =
-        sym (ap length c.in-None.ensures.0) ∙ ap length c.loop.invariant ∙ length-drop c.loop.counter (data_rows c.args.bytes.now) in
+    sym (ap length c.in-None.ensures.0) ∙ ap length c.loop.invariant ∙ length-drop c.loop.counter (data_rows c.args.bytes.now) in
     let within = c.requires.within in
     omega arith

@@ -1,4 +1,4 @@
-use Rattle.std.proofs.Common.{◌≡◌, ◌∙◌, ◌+◌, ◌<◌, ap, sym, subst, arith, drop}
+use Rattle.std.proofs.Common.{◌∙◌, ap, sym, subst, arith, drop}
 use Rattle.record_files.proofs.FirstFaultLemmas.{IsReadTo-begin, IsReadTo-next, IsReadTo-take}
 use Rattle.record_files.specs.ReadTo.{IsReadTo}
 use Rattle.rank_lists.specs.Gathered.{HasRows}

@@ -13,6 +13,6 @@ pub returns : goal.returns
 returns c = ⊎_elim
     (λ (empty : length c.args.sorted.now < 1). no-neighbours c.args.sorted.now c.loop-index.index _ c.loop-index.least (omega arith) c.loop-index.invariant.least (omega arith))
     (λ (full : 1 ≤ length c.args.sorted.now).
-        let all : c.loop-index.index ≡ length c.args.sorted.now = omega (arith, c.loop-index.auto.index-end full) in
-        subst (λ n. IsLeastPair c.args.sorted.now n c.loop-index.least) all c.loop-index.invariant.least)
+    let all : c.loop-index.index ≡ length c.args.sorted.now = omega (arith, c.loop-index.auto.index-end full) in
+    subst (λ n. IsLeastPair c.args.sorted.now n c.loop-index.least) all c.loop-index.invariant.least)
     (cases_lt (length c.args.sorted.now) 1)

@@ -1,6 +1,5 @@
-use Rattle.std.proofs.Common.{◌≡◌, ◌+◌, ◌-◌, ◌*◌, ◌^◌, ◌<◌, ◌≤◌, ℕ, suc, length, drop, get_or, arith, ap, ◌∙◌, ◌∷◌}
+use Rattle.std.proofs.Common.{◌≡◌, ◌+◌, ◌-◌, ◌*◌, ◌^◌, ◌<◌, ◌≤◌, suc, length, drop, get_or, arith, ap, ◌∙◌, ◌∷◌}
 use Rattle.std.proofs.Math.Seq.{drop-cons}
-use Rattle.rank_lists.specs.Groups.{name_number as number_of_name}
 use Rattle.rank_lists.proofs.Names.{name-fits, short-name}
 use Rattle.rank_lists.proofs.row.name_number.Goals as goal
 
@@ -30,7 +29,7 @@ bytes-preserved c =
     let more : length bytes - place ≡ taken + 1 = omega arith in
     let next : suc place ≡ c.bytes.left = omega arith in
     let whole : drop place bytes ≡ get_or bytes place 0 ∷ drop c.bytes.left bytes =
-        drop-cons bytes place 0 (omega arith) ∙ ap (λ n. get_or bytes place 0 ∷ drop n bytes) next in
+    drop-cons bytes place 0 (omega arith) ∙ ap (λ n. get_or bytes place 0 ∷ drop n bytes) next in
     record {
       within = omega arith;
       small = rw more (name-fits taken c.bytes.number c.from.result c.bytes.invariant.small byte);

@@ -1,5 +1,4 @@
-use Rattle.std.proofs.Common.{◌≡◌, ◌∙◌, ℕ, ◌+◌, ◌<◌, ◌≤◌, List, [], ◌∷◌, ◌++◌, length, sym, arith, subst, ⊎_elim}
-use Rattle.std.specs.Prelude.{slice_index_or}
+use Rattle.std.proofs.Common.{ℕ, ◌<◌, ◌≤◌, List, [], ◌∷◌, ◌++◌, length, arith, ⊎_elim}
 use Rattle.std.proofs.lemmas.Bool.{cases_lt}
 use Rattle.std.proofs.lemmas.List.{get_or_append_left, get_or_push, length_push}
 use Rattle.rank_lists.specs.Turns.{AreTurns, AreAllTurns}
@@ -19,14 +18,14 @@ AreAllTurns-next given orders ranks keys order of_order t last =
       ranks_size = omega arith;
       turns = λ kind lt. ⊎_elim
           (λ (below : kind < length given). rw (get_or_append_left given (keys ∷ []) [] kind below, get_or_append_left orders (order ∷ []) [] kind (omega arith), get_or_append_left ranks (of_order ∷ []) [] kind (omega arith))
-              (t.turns kind below))
+          (t.turns kind below))
           (λ (above : length given ≤ kind). rw (get_or_push given keys [] kind (omega arith), get_or_push orders order [] kind (omega arith), get_or_push ranks of_order [] kind (omega arith))
-              last)
+          last)
           (cases_lt kind (length given));
     }
 
 pub loop-of_type-preserved : goal.loop-of_type-preserved
 loop-of_type-preserved c =
     rw (c.in_ok-push.ensures.items, c.in_ok-push-2.ensures.items)
-        (AreAllTurns-next c.loop-of_type.yielded c.loop-of_type.orders.items c.loop-of_type.ranks.items c.in-Some.of_type c.in_ok-turns.turns.order c.in_ok-turns.turns.ranks
-            c.loop-of_type.invariant c.in_ok-turns.ensures)
+    (AreAllTurns-next c.loop-of_type.yielded c.loop-of_type.orders.items c.loop-of_type.ranks.items c.in-Some.of_type c.in_ok-turns.turns.order c.in_ok-turns.turns.ranks
+    c.loop-of_type.invariant c.in_ok-turns.ensures)

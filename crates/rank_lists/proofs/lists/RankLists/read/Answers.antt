@@ -1,6 +1,5 @@
-use Rattle.std.proofs.Common.{◌≡◌, ◌∙◌, ◌≤◌, ℕ, length, sym, ap, arith, subst, Some, None}
+use Rattle.std.proofs.Common.{◌≡◌, ◌∙◌, ◌≤◌, length, sym, ap, arith, subst, Some}
 use Rattle.rank_lists.specs.Gathered.{StopsAt}
-use Rattle.rank_lists.specs.RankTables.{RankTable, ranks_table}
 use Rattle.rank_lists.specs.Soundness.{IsSound}
 use Rattle.rank_lists.proofs.Reading.{duplicate-first, stop-first, no-fault, table-sound, table-read}
 use Rattle.rank_lists.proofs.lists.RankLists.read.Goals as goal
@@ -42,6 +41,7 @@ returns-in-Ok-of_turns g c =
     let size : c.count.result ≡ length numbers = c.count.ensures.length in
     let low = c.count.type_inv in
     let few : length numbers ≤ 4294967296 = omega (arith, size, low) in
-    let stop = subst (λ o. StopsAt gathers.count gathers.left o) c.in_default-stop.is gathers.stop in
-    (no-fault names numbers bytes c.in-Ok.gathered gathers c.in_default.ensures stop,
-     c.in-Ok-of_turns.ensures ∙ table-read names numbers bytes c.in-Ok.gathered gathers c.in_default.ensures stop few c.count.result _ _ size c.in-Ok-all_turns.ensures)
+    let stop = subst (λ o. StopsAt gathers.count gathers.left o) c.in_default-stop.is gathers.stop in (
+      no-fault names numbers bytes c.in-Ok.gathered gathers c.in_default.ensures stop,
+      c.in-Ok-of_turns.ensures ∙ table-read names numbers bytes c.in-Ok.gathered gathers c.in_default.ensures stop few c.count.result _ _ size c.in-Ok-all_turns.ensures,
+    )

@@ -1,4 +1,4 @@
-use Rattle.std.proofs.Common.{◌≡◌, ℕ, ◌≤◌, List, length, subst, MatchOption}
+use Rattle.std.proofs.Common.{ℕ, List, length, subst, MatchOption}
 use Rattle.std.proofs.lemmas.List.Sorted.{IsNonDecreasingBy-from_sort}
 use Rattle.rank_lists.specs.Repeats.{NoRepeat, IsFirstRepeat}
 use Rattle.rank_lists.proofs.Counts.{Rises}
