@@ -1,0 +1,151 @@
+// The rows of a ranks file, gathered up to the first that has a fault of its own.
+
+ghost use Rattle.std.specs.Prelude.{◌≡◌, ◌+◌, ◌*◌, ◌^◌, ◌≤◌, ◌<◌, ℕ, List, [], ◌∷◌, ◌++◌, length, IfOk, OnOk};
+ghost use Rattle.record_files.specs.Rows.{Row};
+ghost use Rattle.rank_lists.specs.Gathered.{HasRows, IsGathered, with_standing};
+ghost use Rattle.rank_lists.specs.RankTables.{standing_of};
+ghost use Rattle.rank_lists.specs.RowsRead.{SaysRow};
+
+use crate::repeats::Repeats;
+use crate::row::{RankRow, name_number, ranks_form, read_row};
+use crate::turns::GivenRanks;
+use place_base::{FileFault, Finder, TypeFinder};
+use record_files::{Records, TableStop};
+use std::alloc::{AllocError, Global};
+
+/// What rows of a ranks file say.
+#[derive(Drop)]
+pub(crate) struct RankRows {
+    // For each row its candidate and its type, as one number.
+    pub(crate) candidates: Repeats,
+    // For each row its rank and its type, as one number.
+    pub(crate) ranks: Repeats,
+    // For each known type the ranks of known candidates.
+    pub(crate) given: Vec<GivenRanks>,
+}
+
+/// The rows before the first that has a fault of its own, and that fault.
+#[derive(Drop)]
+pub(crate) struct Gathered {
+    pub(crate) rows: RankRows,
+    pub(crate) stop: Option<FileFault>,
+}
+
+// The numbers of candidates are below this, and so are ranks below the other.
+const CANDIDATES: u128 = 1 << 37;
+
+const RANKS: u128 = 1 << 27;
+
+impl RankRows {
+    // No rows, beside so many types.
+    fn new(alloc: Global, types: u32) -> Result<RankRows, AllocError>
+        ensures { IfOk result (λ rows. (names : List (List ℕ)) (numbers : List ℕ)
+            → length names ≡ types → HasRows names numbers [] rows) }
+    {
+        let mut given = Vec::with_capacity(alloc, types as usize)?;
+        for _ in 0..types {
+            given.push(GivenRanks::new(alloc))?;
+        }
+        Ok(RankRows {
+            candidates: Repeats::new(alloc),
+            ranks: Repeats::new(alloc),
+            given,
+        })
+    }
+
+    // Adds a row.
+    fn add<T: TypeFinder, C: Finder>(
+        &mut self,
+        row: &RankRow,
+        types: &T,
+        candidates: &C,
+    ) -> Result<(), AllocError>
+        requires few_candidates { length self.old.candidates < 33554432 }
+        requires few_ranks { length self.old.ranks < 33554432 }
+        ensures { OnOk result ((earlier : List Row) (here : Row)
+            → HasRows (T.names types.now) (C.numbers candidates.now) earlier self.old
+            → SaysRow here row.now
+            → HasRows (T.names types.now) (C.numbers candidates.now) (earlier ++ here ∷ []) self.new) }
+    {
+        let name = name_number(row.name.bytes());
+        self.candidates
+            .push(candidate_in_type(name, row.candidate))?;
+        self.ranks.push(rank_in_type(name, row.rank))?;
+        let kind = types.find_type(row.name);
+        let candidate = candidates.find(row.candidate);
+        give(&mut self.given, kind, candidate, row.rank)?;
+        Ok(())
+    }
+}
+
+// A candidate and a type as one number.
+fn candidate_in_type(name: u64, candidate: u64) -> u128
+    ensures value { result ≡ name * 137438953472 + candidate }
+    ensures small { result < 2 ^ 102 }
+{
+    u128::from(name) * CANDIDATES + u128::from(candidate)
+}
+
+// A rank and a type as one number.
+fn rank_in_type(name: u64, rank: u32) -> u128
+    ensures value { result ≡ name * 134217728 + rank }
+    ensures small { result < 2 ^ 102 }
+{
+    u128::from(name) * RANKS + u128::from(rank)
+}
+
+// Adds the rank of a known candidate in a known type to those of the type.
+fn give(
+    given: &mut Vec<GivenRanks>,
+    kind: Option<u32>,
+    candidate: Option<u32>,
+    rank: u32,
+) -> Result<(), AllocError>
+    ensures { OnOk result (given.new.items ≡ with_standing given.old.items (standing_of kind candidate rank)) }
+{
+    let (Some(kind), Some(candidate)) = (kind, candidate) else {
+        return Ok(());
+    };
+    let Some(ranks) = given.get_mut(kind as usize) else {
+        return Ok(());
+    };
+    ranks.push(candidate, rank)
+}
+
+/// Gathers the rows of a ranks file, or says what is wrong with its first row.
+pub(crate) fn gather<T: TypeFinder, C: Finder>(
+    alloc: Global,
+    bytes: &[u8],
+    types: &T,
+    candidates: &C,
+) -> Result<Gathered, TableStop>
+    requires { length bytes.now ≤ 2 ^ 30 }
+    ensures { IsGathered (T.names types.now) (C.numbers candidates.now) bytes.now result }
+{
+    let form = ranks_form();
+    let mut records = Records::of_bytes(bytes);
+    if let Err(fault) = form.read_header(&mut records) {
+        return Err(TableStop::Fault(fault));
+    }
+    let Ok(mut rows) = RankRows::new(alloc, types.type_count()) else {
+        return Err(TableStop::Memory);
+    };
+    let mut count = 0;
+    'rows: while let Some(record) = records.next() {
+        match read_row(&form, count, &record) {
+            Ok(row) => {
+                let Ok(()) = rows.add(&row, types, candidates) else {
+                    return Err(TableStop::Memory);
+                };
+            }
+            Err(fault) => {
+                return Ok(Gathered {
+                    rows,
+                    stop: Some(fault),
+                });
+            }
+        }
+        count += 1;
+    }
+    Ok(Gathered { rows, stop: None })
+}
