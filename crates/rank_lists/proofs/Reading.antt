@@ -10,18 +10,20 @@ use Rattle.record_files.specs.ReadTo.{IsReadTo}
 use Rattle.record_files.specs.Rows.{Row}
 use Rattle.record_files.proofs.FirstFaultLemmas.{IsReadTo-stops, IsReadTo-ends}
 use Rattle.rank_lists.specs.Duplicates.{IsFirstDuplicate, duplicate_of}
-use Rattle.rank_lists.specs.Gathered.{GathersRows, StopsAt, key_of}
+use Rattle.rank_lists.specs.Gathered.{GathersRows, StopsAt, given_in}
 use Rattle.rank_lists.specs.Groups.{candidate_group, rank_group}
 use Rattle.rank_lists.specs.RankRows.{ranks_form, reading, meaning, ranks_fault}
 use Rattle.rank_lists.specs.RankTables.{RankTable, ranks_table, standings, in_type}
 use Rattle.rank_lists.specs.Repeats.{NoRepeat, IsFirstRepeat}
 use Rattle.rank_lists.specs.RowsRead.{row_at}
 use Rattle.rank_lists.specs.Soundness.{IsSound}
-use Rattle.rank_lists.specs.Turns.{AreAllTurns}
+use Rattle.rank_lists.specs.Turns.{AreAllTurns, known_keys}
 use Rattle.rank_lists.specs.declared.duplicates.Duplicate.{Duplicate}
 use Rattle.rank_lists.specs.declared.duplicates.Duplicate.TheVariants.{Candidate, Rank}
 use Rattle.rank_lists.specs.declared.gather.Gathered.{Gathered}
 use Rattle.rank_lists.proofs.FirstDuplicates.{clear-all, candidate-first, rank-first, read-fields}
+use Rattle.rank_lists.proofs.Gathering.{known-given}
+use Rattle.rank_lists.proofs.RowGroups.{HasFields}
 use Rattle.rank_lists.proofs.TableLemmas.{all-turns, table-is-sound}
 
 first_of-behind : (a b c : Option FileFault) (f : FileFault) → first_of a b ≡ Some f → first_of a (first_of b c) ≡ Some f
@@ -29,7 +31,7 @@ first_of-behind (Some x) b c f h = h
 first_of-behind None (Some x) c f h = h
 first_of-behind None None c f h = absurd (cc)
 
-module _ (names : List (List ℕ)) (numbers : List ℕ) (bytes : List ℕ) (gathered : Gathered) (g : GathersRows names numbers bytes gathered) where
+module _ (names : List (List ℕ)) (numbers : List ℕ) (bytes : List ℕ) (gathered : Gathered) (g : GathersRows names bytes gathered) where
   abbrev body : List Row
   body = data_rows bytes
 
@@ -95,12 +97,16 @@ module _ (names : List (List ℕ)) (numbers : List ℕ) (bytes : List ℕ) (gath
       whole : take g.count body ≡ body
       whole = take_all g.count body (let all = ends.1 in omega arith)
 
+      fields : (k : ℕ) → k < length body → HasFields (row_at body k)
+      fields k lt = let all = ends.1 in read-fields bytes g.count g.left g.read k (omega arith)
+
       module _ (few : length numbers ≤ 4294967296) where
         -- the sorted ranks are the table
-        pub table-is : (orders ranks : List (List ℕ)) → AreAllTurns gathered.rows.given.items orders ranks
+        pub table-is : (orders ranks : List (List ℕ)) → AreAllTurns numbers gathered.rows.given.items orders ranks
             → (orders ≡ (ranks_table names numbers bytes).orders) × (ranks ≡ (ranks_table names numbers bytes).ranks)
         table-is orders ranks t = all-turns names numbers body few gathered.rows.given.items orders ranks g.rows.types
-            (λ kind lt. g.rows.given kind lt ∙ ap (λ rows. map key_of (in_type kind (standings names numbers rows))) whole) t
+            (λ kind lt. ap (known_keys numbers) (g.rows.given kind lt ∙ ap (given_in names kind) whole)
+                ∙ known-given names numbers kind body fields) t
 
         -- and it is sound
         pub table-sound : IsSound (ranks_table names numbers bytes)
@@ -122,9 +128,9 @@ pub same-table : (a b : ℕ) (orders orders' ranks ranks' : List (List ℕ)) →
 same-table a b orders orders' ranks ranks' e f h = rw (e, f, h) refl
 
 -- the sorted ranks beside the number of candidates are the table
-pub table-read : (names : List (List ℕ)) (numbers : List ℕ) (bytes : List ℕ) (gathered : Gathered) (g : GathersRows names numbers bytes gathered)
+pub table-read : (names : List (List ℕ)) (numbers : List ℕ) (bytes : List ℕ) (gathered : Gathered) (g : GathersRows names bytes gathered)
     → IsFirstDuplicate gathered.rows.candidates gathered.rows.ranks None → StopsAt g.count g.left None → length numbers ≤ 4294967296
-    → (count : ℕ) (orders ranks : List (List ℕ)) → count ≡ length numbers → AreAllTurns gathered.rows.given.items orders ranks
+    → (count : ℕ) (orders ranks : List (List ℕ)) → count ≡ length numbers → AreAllTurns numbers gathered.rows.given.items orders ranks
     → table_with count orders ranks ≡ ranks_table names numbers bytes
 table-read names numbers bytes gathered g h s few count orders ranks e t =
     let parts = table-is names numbers bytes gathered g h s few orders ranks t in

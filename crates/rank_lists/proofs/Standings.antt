@@ -3,8 +3,7 @@ use Rattle.std.proofs.Common.{◌≡◌, ℕ, zero, suc, ◌+◌, ◌/◌, ◌%�
 use Rattle.std.specs.Prelude.{slice_index, slice_index_or, IsPermutation}
 use Rattle.std.proofs.lemmas.Bool.{cond_both}
 use Rattle.std.proofs.lemmas.Bool.Decides.{nat_tests}
-use Rattle.rank_lists.specs.Gathered.{key_of}
-use Rattle.rank_lists.specs.RankTables.{Standing, is_before, put_in, by_rank}
+use Rattle.rank_lists.specs.RankTables.{Standing, key_of, is_before, put_in, by_rank}
 use Rattle.rank_lists.proofs.Counts.{copies, one_if, copies-permutation, Rises, Rises-unique}
 
 -- a fact of each standing

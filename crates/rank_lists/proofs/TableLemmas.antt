@@ -7,13 +7,12 @@ use Rattle.std.proofs.lemmas.List.{get_or-map, length-map, same_lists, get_or_de
 use Rattle.std.proofs.lemmas.List.FromFn.{get_or-map-range_with_len, length-map-range_with_len}
 use Rattle.market.specs.Problems.{IsDistinct}
 use Rattle.record_files.specs.Rows.{Row}
-use Rattle.rank_lists.specs.Gathered.{key_of}
 use Rattle.rank_lists.specs.Groups.{candidate_group, rank_group}
-use Rattle.rank_lists.specs.RankTables.{Standing, standings, in_type, by_rank, turns_of, ranks_of, RankTable, table_of, order_at, ranks_at}
+use Rattle.rank_lists.specs.RankTables.{Standing, key_of, standings, in_type, by_rank, turns_of, ranks_of, RankTable, table_of, order_at, ranks_at}
 use Rattle.rank_lists.specs.Repeats.{NoRepeat}
 use Rattle.rank_lists.specs.RowsRead.{row_at}
 use Rattle.rank_lists.specs.Soundness.{IsSound}
-use Rattle.rank_lists.specs.Turns.{AreTurns, AreAllTurns}
+use Rattle.rank_lists.specs.Turns.{AreTurns, AreAllTurns, known_keys}
 use Rattle.rank_lists.proofs.Counts.{copies, copies-twice}
 use Rattle.rank_lists.proofs.Ranking.{Comes-candidate, candidates-once, ranks-once, standings-Each}
 use Rattle.rank_lists.proofs.RowGroups.{HasFields}
@@ -58,8 +57,8 @@ module _ (names : List (List ℕ)) (numbers : List ℕ) (rows : List Row) (few :
 
   -- the turns of all types are the table
   pub all-turns : (given orders ranks : List (List ℕ)) → length given ≡ length names
-      → ((kind : ℕ) → kind < length names → slice_index_or given kind [] ≡ map key_of (in_type kind all))
-      → AreAllTurns given orders ranks → (orders ≡ table.orders) × (ranks ≡ table.ranks)
+      → ((kind : ℕ) → kind < length names → known_keys numbers (slice_index_or given kind []) ≡ map key_of (in_type kind all))
+      → AreAllTurns numbers given orders ranks → (orders ≡ table.orders) × (ranks ≡ table.ranks)
   all-turns given orders ranks size keys t =
       let orders_size = t.orders_size in
       let ranks_size = t.ranks_size in
@@ -67,11 +66,11 @@ module _ (names : List (List ℕ)) (numbers : List ℕ) (rows : List Row) (few :
       let whole' = ranks-size in (
         same_lists orders table.orders (omega arith) (λ kind d lt.
             get_or_default orders kind d [] lt
-            ∙ (turns-are kind (slice_index_or given kind []) (slice_index_or orders kind []) (slice_index_or ranks kind []) (keys kind (omega arith)) (t.turns kind (omega arith))).0
+            ∙ (turns-are kind (known_keys numbers (slice_index_or given kind [])) (slice_index_or orders kind []) (slice_index_or ranks kind []) (keys kind (omega arith)) (t.turns kind (omega arith))).0
             ∙ sym (order-at kind (omega arith)) ∙ get_or_default table.orders kind [] d (omega arith)),
         same_lists ranks table.ranks (omega arith) (λ kind d lt.
             get_or_default ranks kind d [] lt
-            ∙ (turns-are kind (slice_index_or given kind []) (slice_index_or orders kind []) (slice_index_or ranks kind []) (keys kind (omega arith)) (t.turns kind (omega arith))).1
+            ∙ (turns-are kind (known_keys numbers (slice_index_or given kind [])) (slice_index_or orders kind []) (slice_index_or ranks kind []) (keys kind (omega arith)) (t.turns kind (omega arith))).1
             ∙ sym (ranks-at kind (omega arith)) ∙ get_or_default table.ranks kind [] d (omega arith)),
       )
 

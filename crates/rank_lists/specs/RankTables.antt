@@ -1,5 +1,5 @@
 -- The turn orders and ranks that the rows of a ranks file give.
-use Rattle.std.specs.Prelude.{ℕ, List, [], ◌∷◌, Bool, ◌&&◌, ◌||◌, ◌==◌, nat_lt, nat_le, nat_eq, bytes_eq, length, map, filter, position, slice_get, slice_index_or, if◌then◌else◌, Option, Some, None}
+use Rattle.std.specs.Prelude.{ℕ, ◌+◌, ◌*◌, List, [], ◌∷◌, Bool, ◌&&◌, ◌||◌, ◌==◌, nat_lt, nat_le, nat_eq, bytes_eq, length, map, filter, position, slice_get, slice_index_or, if◌then◌else◌, Option, Some, None}
 use Rattle.std.specs.List.{filter_map, range_with_len, position_or_len}
 use Rattle.record_files.specs.FirstFaults.{data_rows}
 use Rattle.record_files.specs.Rows.{Row}
@@ -27,6 +27,10 @@ standing_in names numbers row =
 -- the standings that the rows give
 abbrev pub standings : List (List ℕ) → List ℕ → List Row → List Standing
 standings names numbers rows = filter_map (standing_in names numbers) rows
+
+-- a rank with its candidate behind it
+abbrev pub key_of : Standing → ℕ
+key_of s = s.rank * 4294967296 + s.candidate
 
 -- those of one type
 abbrev pub in_type : ℕ → List Standing → List Standing

@@ -5,8 +5,9 @@
 mod lists;
 // The rows of a file, gathered up to the first that has a fault of its own.
 mod gather;
-// A row by itself.
+// A row by itself, and what it says.
 mod row;
+mod rank_row;
 // The first row that repeats what an earlier row says.
 mod duplicates;
 // Numbers in order, and the first of them that stands twice.

@@ -69,7 +69,7 @@ impl RankLists {
         ensures { IsTableRead (ranks_fault bytes.now)
             (ranks_table (T.names types.now) (C.numbers candidates.now) bytes.now) result }
     {
-        let Gathered { rows, stop } = match gather(alloc, bytes, types, candidates) {
+        let Gathered { rows, stop } = match gather(alloc, bytes, types) {
             Ok(gathered) => gathered,
             Err(stop) => return Err(stop),
         };
@@ -84,7 +84,7 @@ impl RankLists {
         if let Some(fault) = stop {
             return Err(TableStop::Fault(fault));
         }
-        let Ok(turns) = all_turns(alloc, given) else {
+        let Ok(turns) = all_turns(alloc, given, candidates) else {
             return Err(TableStop::Memory);
         };
         match RankLists::of_turns(alloc, candidates.count(), turns) {

@@ -13,13 +13,12 @@ rows-init g c =
     record {
       few = omega arith;
       read = IsReadTo-begin ranks_form reading unrelated c.args.bytes.now c.read_header.new.records header (c.read_header.ensures.passed ∙ ap (drop 1) c.of_bytes-records.ensures);
-      rows = c.in-Ok.ensures (g.T.TypeFinder.names c.args.types.now) (g.C.Finder.numbers c.args.candidates.now) (sym c.type_count.ensures.length);
+      rows = c.in-Ok.ensures (g.T.TypeFinder.names c.args.types.now) (sym c.type_count.ensures.length);
     }
 
 pub rows-preserved : goal.rows-preserved
 rows-preserved g c =
     let names = g.T.TypeFinder.names c.args.types.now in
-    let numbers = g.C.Finder.numbers c.args.candidates.now in
     let bytes = c.args.bytes.now in
     let count = c.rows.count in
     let row = c.in-Some.record in
@@ -30,6 +29,6 @@ rows-preserved g c =
     record {
       few = omega arith;
       read = IsReadTo-next ranks_form reading unrelated bytes count row left read (own_fault-unrelated count row ∙ own.0);
-      rows = subst (λ rows. HasRows names numbers rows c.add.new.self) (sym (IsReadTo-take ranks_form reading unrelated bytes count row left read))
+      rows = subst (λ rows. HasRows names rows c.add.new.self) (sym (IsReadTo-take ranks_form reading unrelated bytes count row left read))
           (c.in-Ok-add.ensures _ row c.rows.invariant.rows own.1);
     }
