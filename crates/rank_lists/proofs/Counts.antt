@@ -119,3 +119,24 @@ Rises-unique (x ∷ xs) (y ∷ ys) r s h =
     omega arith in
     let rest : xs ≡ ys = Rises-unique xs ys (Rises-tail x xs r) (Rises-tail y ys s) tail in
     cc
+
+-- in a rising list whose neighbours differ no number stands twice
+pub copies-differ : (x : ℕ) (xs : List ℕ) → Rises xs → ((k : ℕ) → k + 1 < length xs → slice_index xs k ≢ slice_index xs (k + 1)) → copies x xs ≤ 1
+copies-differ x [] r h = omega arith
+copies-differ x (y ∷ ys) r h =
+    let rest : copies x ys ≤ 1 = copies-differ x ys (Rises-tail y ys r) (λ k lt. differ-tail y ys h k lt) in
+    ⊎_elim
+    (λ (other : one_if x y ≡ 0). omega arith)
+    (λ (same : x ≡ y).
+    let none : copies x ys ≡ 0 = copies-none x ys (λ k lt e.
+    let low : y ≤ slice_index ys 0 = r 0 1 (omega arith) (omega arith) in
+    let high : slice_index ys 0 ≤ slice_index ys k = r 1 (suc k) (omega arith) (omega arith) in
+    let first : y ≢ slice_index ys 0 = λ equal. h 0 (omega arith) equal in
+    first (omega arith)) in
+    let here : one_if x y ≡ 1 = one_if-same x y same in
+    omega arith)
+    (one_if-cases x y)
+  where
+    differ-tail : (y : ℕ) (ys : List ℕ) → ((k : ℕ) → k + 1 < suc (length ys) → slice_index (y ∷ ys) k ≢ slice_index (y ∷ ys) (k + 1))
+        → (k : ℕ) → k + 1 < length ys → slice_index ys k ≢ slice_index ys (k + 1)
+    differ-tail y ys h k lt e = h (suc k) (omega arith) (e ∙ (let n : suc (k + 1) ≡ suc k + 1 = omega arith in ap (slice_index (y ∷ ys)) n))

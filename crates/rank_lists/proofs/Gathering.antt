@@ -1,8 +1,8 @@
 -- One more row adds its two numbers, and its rank to those of its type. The ranks of known candidates
 -- among them are the standings of the type.
-use Rattle.std.proofs.Common.{◌≡◌, ◌≢◌, ℕ, zero, suc, ◌+◌, ◌*◌, ◌/◌, ◌%◌, ◌<◌, ◌≤◌, ◌==◌, List, [], ◌∷◌, ◌++◌, Bool, true, false, length, map, refl, sym, ap, ◌∙◌, arith, subst, ⊎_elim, Option, Some, None, bytes_eq, nat_eq, position, cond}
+use Rattle.std.proofs.Common.{◌≡◌, ◌≢◌, ℕ, suc, ◌+◌, ◌*◌, ◌/◌, ◌%◌, ◌<◌, ◌≤◌, ◌==◌, List, [], ◌∷◌, ◌++◌, Bool, true, false, length, map, refl, sym, ap, ◌∙◌, arith, subst, ⊎_elim, Option, Some, None, bytes_eq, nat_eq, position, cond}
 use Rattle.std.specs.Prelude.{slice_index_or, slice_set, filter, option_map}
-use Rattle.std.specs.List.{filter_map, cons_option}
+use Rattle.std.specs.List.{cons_option}
 use Rattle.std.proofs.Math.ListN.{length-set}
 use Rattle.std.proofs.lemmas.Bool.{cases_Bool, cond_both}
 use Rattle.std.proofs.lemmas.Bool.Decides.{nat_tests}
@@ -39,15 +39,15 @@ keys-next : (given : List (List ℕ)) (o : Option ℕ) (row : Row) (keys : List 
 keys-next given None row keys kind lt h = h ∙ sym (append-nothing keys)
 keys-next given (Some k) row keys kind lt h = ⊎_elim
     (λ (yes : (k == kind) ≡ true).
-        let same : kind ≡ k = sym (is-same k kind yes) in
-        let more : listed (k == kind) row ≡ row ∷ [] = rw yes refl in
-        let here = get_or-set_same given kind (slice_index_or given kind [] ++ row_key row ∷ []) [] lt in
-        subst (λ j. slice_index_or (slice_set given j (slice_index_or given j [] ++ row_key row ∷ [])) kind [] ≡ slice_index_or given kind [] ++ row_key row ∷ []) same here
-        ∙ ap (λ ks. ks ++ row_key row ∷ []) h ∙ ap (λ rows. keys ++ map row_key rows) (sym more))
+    let same : kind ≡ k = sym (is-same k kind yes) in
+    let more : listed (k == kind) row ≡ row ∷ [] = rw yes refl in
+    let here = get_or-set_same given kind (slice_index_or given kind [] ++ row_key row ∷ []) [] lt in
+    subst (λ j. slice_index_or (slice_set given j (slice_index_or given j [] ++ row_key row ∷ [])) kind [] ≡ slice_index_or given kind [] ++ row_key row ∷ []) same here
+    ∙ ap (λ ks. ks ++ row_key row ∷ []) h ∙ ap (λ rows. keys ++ map row_key rows) (sym more))
     (λ (no : (k == kind) ≡ false).
-        let more : listed (k == kind) row ≡ [] = rw no refl in
-        get_or-set_other given k kind (slice_index_or given k [] ++ row_key row ∷ []) [] (is-other k kind no) ∙ h
-        ∙ sym (append-nothing keys) ∙ ap (λ rows. keys ++ map row_key rows) (sym more))
+    let more : listed (k == kind) row ≡ [] = rw no refl in
+    get_or-set_other given k kind (slice_index_or given k [] ++ row_key row ∷ []) [] (is-other k kind no) ∙ h
+    ∙ sym (append-nothing keys) ∙ ap (λ rows. keys ++ map row_key rows) (sym more))
     (cases_Bool (k == kind))
 
 filter-one : (p : Row → Bool) (row : Row) → filter p (row ∷ []) ≡ listed (p row) row
@@ -96,17 +96,17 @@ module _ (names : List (List ℕ)) (numbers : List ℕ) (kind : ℕ) where
       (λ no. rest)
   front (Some k) (Some index) row rows ss known rest = ⊎_elim
       (λ (yes : (k == kind) ≡ true).
-          let s : Standing = record { kind = k; candidate = index; rank = rank_in row } in
-          let left : cond (k == kind) (row ∷ rows) rows ≡ row ∷ rows = rw yes refl in
-          let right : in_type kind (s ∷ ss) ≡ s ∷ in_type kind ss = rw yes refl in
-          ap (λ all. known_keys numbers (map row_key all)) left
-          ∙ ap (λ o. cons_option o (known_keys numbers (map row_key rows))) known
-          ∙ ap (λ keys. key_of s ∷ keys) rest ∙ sym (ap (map key_of) right))
+      let s : Standing = record { kind = k; candidate = index; rank = rank_in row } in
+      let left : cond (k == kind) (row ∷ rows) rows ≡ row ∷ rows = rw yes refl in
+      let right : in_type kind (s ∷ ss) ≡ s ∷ in_type kind ss = rw yes refl in
+      ap (λ all. known_keys numbers (map row_key all)) left
+      ∙ ap (λ o. cons_option o (known_keys numbers (map row_key rows))) known
+      ∙ ap (λ keys. key_of s ∷ keys) rest ∙ sym (ap (map key_of) right))
       (λ (no : (k == kind) ≡ false).
-          let s : Standing = record { kind = k; candidate = index; rank = rank_in row } in
-          let left : cond (k == kind) (row ∷ rows) rows ≡ rows = rw no refl in
-          let right : in_type kind (s ∷ ss) ≡ in_type kind ss = rw no refl in
-          ap (λ all. known_keys numbers (map row_key all)) left ∙ rest ∙ sym (ap (map key_of) right))
+      let s : Standing = record { kind = k; candidate = index; rank = rank_in row } in
+      let left : cond (k == kind) (row ∷ rows) rows ≡ rows = rw no refl in
+      let right : in_type kind (s ∷ ss) ≡ in_type kind ss = rw no refl in
+      ap (λ all. known_keys numbers (map row_key all)) left ∙ rest ∙ sym (ap (map key_of) right))
       (cases_Bool (k == kind))
 
   -- the key of a row within the limits
@@ -123,5 +123,5 @@ module _ (names : List (List ℕ)) (numbers : List ℕ) (kind : ℕ) where
   known-given [] h = refl
   known-given (row ∷ rows) h =
       front (position (bytes_eq (type_in row)) names) (position (nat_eq (candidate_in row)) numbers) row (filter (in_kind names kind) rows) (standings names numbers rows)
-          (known-row row (h 0 (omega arith)))
-          (known-given rows (λ k lt. h (suc k) (omega arith)))
+      (known-row row (h 0 (omega arith)))
+      (known-given rows (λ k lt. h (suc k) (omega arith)))

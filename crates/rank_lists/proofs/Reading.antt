@@ -13,7 +13,7 @@ use Rattle.rank_lists.specs.Duplicates.{IsFirstDuplicate, duplicate_of}
 use Rattle.rank_lists.specs.Gathered.{GathersRows, StopsAt, given_in}
 use Rattle.rank_lists.specs.Groups.{candidate_group, rank_group}
 use Rattle.rank_lists.specs.RankRows.{ranks_form, reading, meaning, ranks_fault}
-use Rattle.rank_lists.specs.RankTables.{RankTable, ranks_table, standings, in_type}
+use Rattle.rank_lists.specs.RankTables.{table_with, ranks_table}
 use Rattle.rank_lists.specs.Repeats.{NoRepeat, IsFirstRepeat}
 use Rattle.rank_lists.specs.RowsRead.{row_at}
 use Rattle.rank_lists.specs.Soundness.{IsSound}
@@ -106,7 +106,7 @@ module _ (names : List (List ℕ)) (numbers : List ℕ) (bytes : List ℕ) (gath
             → (orders ≡ (ranks_table names numbers bytes).orders) × (ranks ≡ (ranks_table names numbers bytes).ranks)
         table-is orders ranks t = all-turns names numbers body few gathered.rows.given.items orders ranks g.rows.types
             (λ kind lt. ap (known_keys numbers) (g.rows.given kind lt ∙ ap (given_in names kind) whole)
-                ∙ known-given names numbers kind body fields) t
+            ∙ known-given names numbers kind body fields) t
 
         -- and it is sound
         pub table-sound : IsSound (ranks_table names numbers bytes)
@@ -118,10 +118,6 @@ module _ (names : List (List ℕ)) (numbers : List ℕ) (bytes : List ℕ) (gath
             (subst (λ n. NoRepeat (map candidate_group (take g.count body)) n) (length-map (take g.count body) candidate_group) one-candidate))
             (subst (λ rows. NoRepeat (map rank_group rows) (length rows)) whole
             (subst (λ n. NoRepeat (map rank_group (take g.count body)) n) (length-map (take g.count body) rank_group) one-rank))
-
--- a table of its parts
-abbrev pub table_with : ℕ → List (List ℕ) → List (List ℕ) → RankTable
-table_with candidates orders ranks = record { candidates = candidates; orders = orders; ranks = ranks }
 
 -- tables of the same parts
 pub same-table : (a b : ℕ) (orders orders' ranks ranks' : List (List ℕ)) → a ≡ b → orders ≡ orders' → ranks ≡ ranks' → table_with a orders ranks ≡ table_with b orders' ranks'

@@ -45,7 +45,8 @@ pub record HasRows (names : List (List ℕ)) (all : List Row) (gathered : RankRo
 -- the rows left begin with one that has this fault of its own, or there is none left
 abbrev pub StopsAt : ℕ → List Row → Option FileFault → Type 0
 StopsAt count left None = left ≡ []
-StopsAt count left (Some fault) = (row : Row) × (more : List Row) × (left ≡ row ∷ more) × (own_fault count row ≡ Some fault)
+StopsAt count left (Some fault) =
+    (row : Row) × (more : List Row) × (left ≡ row ∷ more) × (own_fault count row ≡ Some fault)
 
 -- the rows before the first that has a fault of its own were gathered
 pub record GathersRows (names : List (List ℕ)) (bytes : List ℕ) (gathered : Gathered) : Type 0 where

@@ -6,7 +6,7 @@ use Rattle.std.specs.List.{filter_map}
 abbrev pub known_key : List ℕ → ℕ → Option ℕ
 known_key numbers key =
     option_map (λ index. key / 137438953472 * 4294967296 + index)
-        (position (nat_eq (key % 137438953472)) numbers)
+    (position (nat_eq (key % 137438953472)) numbers)
 
 -- the keys of known candidates
 abbrev pub known_keys : List ℕ → List ℕ → List ℕ
@@ -25,4 +25,5 @@ pub record AreAllTurns (numbers : List ℕ) (given orders ranks : List (List ℕ
   pub orders_size : length orders ≡ length given
   pub ranks_size : length ranks ≡ length given
   pub turns : (kind : ℕ) → kind < length given
-      → AreTurns (known_keys numbers (slice_index_or given kind [])) (slice_index_or orders kind []) (slice_index_or ranks kind [])
+      → AreTurns (known_keys numbers (slice_index_or given kind []))
+      (slice_index_or orders kind []) (slice_index_or ranks kind [])

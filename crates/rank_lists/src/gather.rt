@@ -5,8 +5,8 @@ ghost use Rattle.record_files.specs.Rows.{Row};
 ghost use Rattle.rank_lists.specs.Gathered.{HasRows, IsGathered, with_rank};
 ghost use Rattle.rank_lists.specs.RowsRead.{SaysRow};
 
-use crate::repeats::Repeats;
 use crate::rank_row::RankRow;
+use crate::repeats::Repeats;
 use crate::row::{name_number, ranks_form, read_row};
 use crate::turns::GivenRanks;
 use place_base::{FileFault, TypeFinder};
@@ -39,7 +39,8 @@ const RANKS: u128 = 1 << 27;
 impl RankRows {
     // No rows, beside so many types.
     fn new(alloc: Global, types: u32) -> Result<RankRows, AllocError>
-        ensures { IfOk result (λ rows. (names : List (List ℕ)) → length names ≡ types → HasRows names [] rows) }
+        ensures { IfOk result (λ rows. (names : List (List ℕ))
+            → length names ≡ types → HasRows names [] rows) }
     {
         let mut given = Vec::with_capacity(alloc, types as usize)?;
         for _ in 0..types {
@@ -87,11 +88,7 @@ fn rank_in_type(name: u64, rank: u32) -> u128
 }
 
 // Adds the rank in a known type to those of the type.
-fn give(
-    given: &mut Vec<GivenRanks>,
-    kind: Option<u32>,
-    row: &RankRow,
-) -> Result<(), AllocError>
+fn give(given: &mut Vec<GivenRanks>, kind: Option<u32>, row: &RankRow) -> Result<(), AllocError>
     ensures { OnOk result (given.new.items
         ≡ with_rank given.old.items kind (row.now.rank * 2 ^ 37 + row.now.candidate)) }
 {

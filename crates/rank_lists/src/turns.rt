@@ -47,9 +47,11 @@ impl GivenRanks {
 
     /// Adds the rank of a row.
     pub(crate) fn push(&mut self, row: &RankRow) -> Result<(), AllocError>
-        ensures { OnOk result (self.new ≡ self.old ++ (row.now.rank * 2 ^ 37 + row.now.candidate) ∷ []) }
+        ensures { OnOk result (self.new
+            ≡ self.old ++ (row.now.rank * 2 ^ 37 + row.now.candidate) ∷ []) }
     {
-        self.keys.push(u64::from(row.rank) * NUMBERS + row.candidate)?;
+        self.keys
+            .push(u64::from(row.rank) * NUMBERS + row.candidate)?;
         Ok(())
     }
 

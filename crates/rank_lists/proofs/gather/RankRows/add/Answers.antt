@@ -1,4 +1,4 @@
-use Rattle.std.proofs.Common.{◌≡◌, ◌∙◌, ◌+◌, ◌*◌, ◌++◌, ◌∷◌, [], List, ℕ, ap, refl, arith, bytes_eq, position}
+use Rattle.std.proofs.Common.{◌≡◌, ◌∙◌, ◌+◌, ◌*◌, ◌++◌, ◌∷◌, [], ap, arith, bytes_eq, position}
 use Rattle.rank_lists.specs.Gathered.{with_rank, row_key}
 use Rattle.rank_lists.specs.Groups.{name_number, candidate_group, rank_group}
 use Rattle.rank_lists.specs.RankRows.{candidate_in, type_in, rank_in}
@@ -18,9 +18,9 @@ returns g c = λ earlier row h says.
     let rank : c.rank_in_type.result ≡ rank_group row = omega arith in
     let key : c.args.row.now.rank * 137438953472 + c.args.row.now.candidate ≡ row_key row = omega arith in
     let kind_found : c.find_type.result ≡ position (bytes_eq (type_in row)) names =
-        c.find_type.ensures ∙ ap (λ text. position (bytes_eq text) names) says.name in
+    c.find_type.ensures ∙ ap (λ text. position (bytes_eq text) names) says.name in
     HasRows-next names earlier row old _ h
-        (c.in_ok-push.ensures ∙ ap (λ x. old.candidates ++ x ∷ []) candidate)
-        (c.in_ok-push-2.ensures ∙ ap (λ x. old.ranks ++ x ∷ []) rank)
-        (c.in_ok-give.ensures ∙ ap (λ kind. with_rank old.given.items kind (c.args.row.now.rank * 137438953472 + c.args.row.now.candidate)) kind_found
-            ∙ ap (with_rank old.given.items (position (bytes_eq (type_in row)) names)) key)
+    (c.in_ok-push.ensures ∙ ap (λ x. old.candidates ++ x ∷ []) candidate)
+    (c.in_ok-push-2.ensures ∙ ap (λ x. old.ranks ++ x ∷ []) rank)
+    (c.in_ok-give.ensures ∙ ap (λ kind. with_rank old.given.items kind (c.args.row.now.rank * 137438953472 + c.args.row.now.candidate)) kind_found
+    ∙ ap (with_rank old.given.items (position (bytes_eq (type_in row)) names)) key)

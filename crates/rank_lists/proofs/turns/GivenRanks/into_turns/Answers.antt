@@ -1,4 +1,4 @@
-use Rattle.std.proofs.Common.{◌≡◌, ◌∙◌, ◌%◌, ◌/◌, ℕ, List, map, ap, subst, IsPermutation}
+use Rattle.std.proofs.Common.{◌∙◌, ◌%◌, ◌/◌, ℕ, List, map, ap, subst, IsPermutation}
 use Rattle.std.proofs.lemmas.List.Sorted.{IsNonDecreasingBy-from_sort}
 use Rattle.rank_lists.specs.Turns.{known_keys}
 use Rattle.rank_lists.proofs.turns.GivenRanks.into_turns.Goals as goal
