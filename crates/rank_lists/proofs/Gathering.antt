@@ -1,5 +1,5 @@
--- One more row adds its two numbers, and its rank to those of its type. The ranks of known candidates
--- among them are the standings of the type.
+-- One more row adds its two numbers, and its rank to those of its type. The ranks of known
+-- candidates among them are the standings of the type.
 use Rattle.std.proofs.Common.{◌≡◌, ◌≢◌, ℕ, suc, ◌+◌, ◌*◌, ◌/◌, ◌%◌, ◌<◌, ◌≤◌, ◌==◌, List, [], ◌∷◌, ◌++◌, Bool, true, false, length, map, refl, sym, ap, ◌∙◌, arith, subst, ⊎_elim, Option, Some, None, bytes_eq, nat_eq, position, cond}
 use Rattle.std.specs.Prelude.{slice_index_or, slice_set, filter, option_map}
 use Rattle.std.specs.List.{cons_option}

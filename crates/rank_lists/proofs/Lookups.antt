@@ -1,4 +1,5 @@
--- Looking a rank up by the candidate finds the rank that stands beside the candidate in the order.
+-- Looking a rank up by the candidate finds the rank that stands beside the candidate in the
+-- order.
 use Rattle.std.proofs.Common.{◌≡◌, ◌≢◌, ℕ, ◌<◌, ◌≤◌, ◌==◌, List, [], length, true, false, not, sym, ap, ◌∙◌, arith, ⊎_elim, ◌⊎◌, inl, inr, Option, Some, None}
 use Rattle.std.specs.Prelude.{slice_index, slice_index_or, slice_get}
 use Rattle.std.specs.List.{position_or_len}

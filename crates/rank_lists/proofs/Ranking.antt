@@ -1,5 +1,5 @@
--- Rows that repeat neither a candidate nor a rank in a type give standings with distinct candidates and
--- distinct ranks in each type.
+-- Rows that repeat neither a candidate nor a rank in a type give standings with distinct
+-- candidates and distinct ranks in each type.
 use Rattle.std.proofs.Common.{◌≡◌, ◌≢◌, ℕ, suc, ◌<◌, ◌≤◌, ◌==◌, List, [], ◌∷◌, true, length, map, refl, sym, ap, ◌∙◌, arith, ⊎_elim, Option, Some, None, nat_eq, bytes_eq, position}
 use Rattle.std.specs.Prelude.{slice_index, slice_index_or}
 use Rattle.std.specs.List.{cons_option}

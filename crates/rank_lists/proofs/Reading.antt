@@ -1,6 +1,6 @@
--- What reading a ranks file comes to: the duplicates among the rows that have no fault of their own
--- come first, then the row at which the gathering stopped; where there is neither, the file has no
--- fault, and the sorted ranks are its table.
+-- What reading a ranks file comes to: the duplicates among the rows that have no fault of their
+-- own come first, then the row at which the gathering stopped; where there is neither, the file
+-- has no fault, and the sorted ranks are its table.
 use Rattle.std.proofs.Common.{◌≡◌, ℕ, ◌+◌, ◌<◌, ◌≤◌, List, length, map, take, refl, sym, ap, ◌∙◌, arith, subst, Option, Some, None, take_all, length-take-le}
 use Rattle.std.proofs.lemmas.List.{length-map}
 use Rattle.place_base.specs.declared.fault.FileFault.{FileFault}

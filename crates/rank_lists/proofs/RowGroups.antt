@@ -1,5 +1,5 @@
--- A row without a fault of its own has a candidate, a type name and a rank within their limits, so
--- two such rows are in the same group exactly where the tests for duplicates say so.
+-- A row without a fault of its own has a candidate, a type name and a rank within their limits,
+-- so two such rows are in the same group exactly where the tests for duplicates say so.
 use Rattle.std.proofs.Common.{◌≡◌, ℕ, ◌<◌, ◌≤◌, ◌==◌, ◌&&◌, List, Bool, true, false, nat_le, not, length, refl, ap, arith, Option, Some, None, Result, Ok, Err}
 use Rattle.std.proofs.lemmas.Bool.{cond_both}
 use Rattle.std.proofs.lemmas.Bool.Decides.{nat_tests}

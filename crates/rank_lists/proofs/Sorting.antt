@@ -1,5 +1,5 @@
--- A list whose numbers have their places behind them, and the same list sorted: equal numbers become
--- neighbours, and their places tell which of them repeats first.
+-- A list whose numbers have their places behind them, and the same list sorted: equal numbers
+-- become neighbours, and their places tell which of them repeats first.
 use Rattle.std.proofs.Common.{◌≡◌, ℕ, ◌+◌, ◌/◌, ◌%◌, ◌<◌, ◌≤◌, List, length, map, suc, zero, add-one, zero-add, sym, ap, ◌∙◌, arith, ⊎_elim, Option, Some, None, MatchOption}
 use Rattle.std.specs.Prelude.{slice_index, IsPermutation}
 use Rattle.std.proofs.lemmas.Bool.{cases_lt}

@@ -1,4 +1,5 @@
--- Standings by rising rank, and the same as sorted numbers, each a rank with its candidate behind it.
+-- Standings by rising rank, and the same as sorted numbers, each a rank with its candidate behind
+-- it.
 use Rattle.std.proofs.Common.{◌≡◌, ℕ, zero, suc, ◌+◌, ◌/◌, ◌%◌, ◌<◌, ◌≤◌, List, [], ◌∷◌, true, false, length, map, refl, sym, ap, ◌∙◌, arith}
 use Rattle.std.specs.Prelude.{slice_index, slice_index_or, IsPermutation}
 use Rattle.std.proofs.lemmas.Bool.{cond_both}

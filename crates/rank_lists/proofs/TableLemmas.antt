@@ -1,5 +1,5 @@
--- The table of rows that have no fault: its orders hold distinct candidates, and the ranks beside them
--- rise strictly. Sorted keys give just this table.
+-- The table of rows that have no fault: its orders hold distinct candidates, and the ranks beside
+-- them rise strictly. Sorted keys give just this table.
 use Rattle.std.proofs.Common.{◌≡◌, ℕ, ◌/◌, ◌%◌, ◌<◌, ◌≤◌, List, [], length, map, sym, ap, ◌∙◌, arith, subst, zero-add, ⊎_elim}
 use Rattle.std.specs.Prelude.{slice_index, slice_index_or, IsPermutation}
 use Rattle.std.proofs.lemmas.Bool.{cases_lt}
