@@ -10,3 +10,4 @@ pub mod Ranking
 pub mod TableLemmas
 pub mod Reading
 pub mod Lookups
+pub mod ShortForms

@@ -13,7 +13,8 @@ duplicate_of (Rank repeat) = (repeat, 3)
 -- the first row that repeats the candidate or the rank of an earlier one in the same type, the
 -- candidate first, if there is one
 abbrev pub IsFirstDuplicate : List ℕ → List ℕ → Option Duplicate → Type 0
-IsFirstDuplicate candidates ranks None = NoRepeat candidates (length candidates) × NoRepeat ranks (length ranks)
+IsFirstDuplicate candidates ranks None =
+    NoRepeat candidates (length candidates) × NoRepeat ranks (length ranks)
 IsFirstDuplicate candidates ranks (Some (Candidate repeat)) =
     IsFirstRepeat candidates repeat.earlier repeat.later × NoRepeat ranks repeat.later
 IsFirstDuplicate candidates ranks (Some (Rank repeat)) =

@@ -1,4 +1,4 @@
--- What a row ranks, and the rank that it gives, each as one number together with the name of the type.
+-- What a row ranks, and the rank that it gives, each as one number together with the type's name.
 use Rattle.std.specs.Prelude.{ℕ, ◌+◌, ◌*◌, List, [], ◌∷◌}
 use Rattle.record_files.specs.Rows.{Row}
 use Rattle.rank_lists.specs.RankRows.{candidate_in, type_in, rank_in}

@@ -1,5 +1,5 @@
 -- The turn orders and ranks that the rows of a ranks file give.
-use Rattle.std.specs.Prelude.{ℕ, List, [], ◌∷◌, Bool, ◌&&◌, ◌||◌, ◌==◌, nat_lt, nat_le, nat_eq, bytes_eq, length, map, filter, position, slice_get, slice_index_or, if◌then◌else◌, Option, Some, None}
+use Rattle.std.specs.Prelude.{ℕ, ◌+◌, ◌*◌, List, [], ◌∷◌, Bool, ◌&&◌, ◌||◌, ◌==◌, nat_lt, nat_le, nat_eq, bytes_eq, length, map, filter, position, slice_get, slice_index_or, if◌then◌else◌, Option, Some, None}
 use Rattle.std.specs.List.{filter_map, range_with_len, position_or_len}
 use Rattle.record_files.specs.FirstFaults.{data_rows}
 use Rattle.record_files.specs.Rows.{Row}
@@ -21,12 +21,17 @@ standing_of (Some kind) (Some candidate) rank =
 -- the standing that a row gives, where its type and its candidate are known
 abbrev pub standing_in : List (List ℕ) → List ℕ → Row → Option Standing
 standing_in names numbers row =
-    standing_of (position (bytes_eq (type_in row)) names) (position (nat_eq (candidate_in row)) numbers)
+    standing_of (position (bytes_eq (type_in row)) names)
+    (position (nat_eq (candidate_in row)) numbers)
     (rank_in row)
 
 -- the standings that the rows give
 abbrev pub standings : List (List ℕ) → List ℕ → List Row → List Standing
 standings names numbers rows = filter_map (standing_in names numbers) rows
+
+-- a rank with its candidate behind it
+abbrev pub key_of : Standing → ℕ
+key_of s = s.rank * 4294967296 + s.candidate
 
 -- those of one type
 abbrev pub in_type : ℕ → List Standing → List Standing
@@ -46,11 +51,17 @@ abbrev pub by_rank : List Standing → List Standing
 by_rank [] = []
 by_rank (s ∷ ss) = put_in s (by_rank ss)
 
--- the turn order of each type, best rank first, the ranks beside it, and how many candidates there are
+-- the turn order of each type, best rank first, with the ranks beside it, and how many candidates
+-- there are
 pub record RankTable : Type 0 where
   pub candidates : ℕ
   pub orders : List (List ℕ)
   pub ranks : List (List ℕ)
+
+-- a table of its parts
+abbrev pub table_with : ℕ → List (List ℕ) → List (List ℕ) → RankTable
+table_with candidates orders ranks =
+    record { candidates = candidates; orders = orders; ranks = ranks }
 
 -- the candidates with a rank in a type, by rising rank
 abbrev pub turns_of : List Standing → ℕ → List ℕ
@@ -84,4 +95,5 @@ ranks_at table kind = slice_index_or table.ranks kind []
 -- the rank of a candidate in a type, or none
 abbrev pub rank_at : RankTable → ℕ → ℕ → Option ℕ
 rank_at table kind candidate =
-    slice_get (ranks_at table kind) (position_or_len (λ other. other == candidate) (order_at table kind))
+    slice_get (ranks_at table kind)
+    (position_or_len (λ other. other == candidate) (order_at table kind))

@@ -1,5 +1,5 @@
 -- Numbers that stand twice in a list.
-use Rattle.std.specs.Prelude.{◌≡◌, ◌≢◌, ℕ, ◌+◌, ◌/◌, ◌%◌, ◌<◌, ◌≤◌, List, length, slice_index, nat_le, if◌then◌else◌, Option, Some, None}
+use Rattle.std.specs.Prelude.{◌≡◌, ◌≢◌, ℕ, ◌+◌, ◌*◌, ◌^◌, ◌/◌, ◌%◌, ◌<◌, ◌≤◌, List, length, slice_index, nat_le, if◌then◌else◌, Option, Some, None}
 use Rattle.rank_lists.specs.declared.repeats.Repeat.{Repeat}
 
 -- no number among the first ones repeats an earlier one
@@ -24,7 +24,8 @@ pub record IsLeastOfPairs (sorted : List ℕ) (n : ℕ) (r : Repeat) : Type 0 wh
   pub pair : IsPair sorted at
   pub earlier : r.earlier ≡ slice_index sorted at % 33554432
   pub later : r.later ≡ slice_index sorted (at + 1) % 33554432
-  pub least : (k : ℕ) → k + 1 < n → IsPair sorted k → r.later ≤ slice_index sorted (k + 1) % 33554432
+  pub least : (k : ℕ) → k + 1 < n → IsPair sorted k
+      → r.later ≤ slice_index sorted (k + 1) % 33554432
 
 -- the pair whose later place is least, if there is a pair among the first ones
 abbrev pub IsLeastPair : List ℕ → ℕ → Option Repeat → Type 0
@@ -35,3 +36,12 @@ IsLeastPair sorted n (Some r) = IsLeastOfPairs sorted n r
 abbrev pub earlier_repeat : Option Repeat → Repeat → Repeat
 earlier_repeat None other = other
 earlier_repeat (Some least) other = if nat_le least.later other.later then least else other
+
+-- no two neighbours among the first numbers are equal
+abbrev pub NeighboursDiffer : List ℕ → ℕ → Type 0
+NeighboursDiffer sorted n = (k : ℕ) → k + 1 < n → slice_index sorted k ≢ slice_index sorted (k + 1)
+
+-- a number as one word
+abbrev pub short_of : ℕ → ℕ
+short_of number =
+    (number % 2 ^ 64 + (number / 2 ^ 64) * 11400714819323198485 % 2 ^ 64) % 2 ^ 64

@@ -4,7 +4,7 @@ use Rattle.place_base.specs.declared.fault.FileFault.{FileFault}
 use Rattle.record_files.specs.FirstFaults.{first_of, shape_fault}
 use Rattle.record_files.specs.Rows.{Row}
 use Rattle.rank_lists.specs.RankRows.{ranks_form, candidate_in, type_in, rank_in, reading}
-use Rattle.rank_lists.specs.declared.row.RankRow.{RankRow}
+use Rattle.rank_lists.specs.declared.rank_row.RankRow.{RankRow}
 
 -- what a row says
 pub record SaysRow (row : Row) (said : RankRow) : Type 0 where

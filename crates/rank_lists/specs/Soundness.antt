@@ -6,7 +6,8 @@ use Rattle.rank_lists.specs.RankTables.{RankTable, order_at, ranks_at}
 -- the orders hold distinct candidates, and the ranks beside them rise strictly within their limits
 pub record IsSound (table : RankTable) : Type 0 where
   pub types : length table.ranks ≡ length table.orders
-  pub beside : (kind : ℕ) → kind < length table.orders → length (ranks_at table kind) ≡ length (order_at table kind)
+  pub beside : (kind : ℕ) → kind < length table.orders
+      → length (ranks_at table kind) ≡ length (order_at table kind)
   pub entries : (kind k : ℕ) → kind < length table.orders → k < length (order_at table kind)
       → slice_index (order_at table kind) k < table.candidates
   pub distinct : (kind : ℕ) → kind < length table.orders → IsDistinct (order_at table kind)

@@ -3,6 +3,7 @@
 ghost use Rattle.std.specs.Prelude.{◌≡◌, ℕ, ◌<◌, [], length, slice_index, slice_index_or, IfOk};
 ghost use Rattle.market.specs.Problems.{IsDistinct};
 ghost use Rattle.rank_lists.specs.ByCandidate.{AreRanksTo, HasTables};
+ghost use Rattle.rank_lists.specs.RankTables.{table_with};
 ghost use Rattle.rank_lists.specs.Soundness.{IsSound};
 
 use market::List;
@@ -18,7 +19,8 @@ fn ranks_by_candidate(
     requires beside { length ranks.now ≡ length order.now }
     requires entries { (k : ℕ) → k < length order.now → slice_index order.now k < candidates }
     requires distinct { IsDistinct order.now }
-    ensures { IfOk result (λ table. AreRanksTo candidates order.now ranks.now (length order.now) table.items) }
+    ensures { IfOk result (λ table.
+        AreRanksTo candidates order.now ranks.now (length order.now) table.items) }
 {
     let mut table = vec![in alloc; 0; candidates as usize]?;
     for (turn, candidate) in order.iter().enumerate() {
@@ -34,9 +36,9 @@ pub(crate) fn tables_by_candidate(
     orders: &[List],
     ranks: &[List],
 ) -> Result<Vec<List>, AllocError>
-    requires { IsSound (record { candidates = candidates; orders = orders.now; ranks = ranks.now }) }
+    requires { IsSound (table_with candidates orders.now ranks.now) }
     ensures { IfOk result (λ tables.
-        HasTables (record { candidates = candidates; orders = orders.now; ranks = ranks.now }) tables.items) }
+        HasTables (table_with candidates orders.now ranks.now) tables.items) }
 {
     let mut tables = Vec::with_capacity(alloc, orders.len())?;
     for (kind, order) in orders.iter().enumerate() {

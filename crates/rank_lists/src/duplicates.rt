@@ -1,6 +1,6 @@
 // The first row that repeats what an earlier row says.
 
-ghost use Rattle.std.specs.Prelude.{◌≡◌, ◌^◌, ◌≤◌, ◌<◌, ◌+◌, length};
+ghost use Rattle.std.specs.Prelude.{◌≡◌, ◌^◌, ◌≤◌, ◌<◌, ◌+◌, length, IfOk};
 ghost use Rattle.record_files.specs.FirstFaults.{data_rows, duplicate_at};
 ghost use Rattle.rank_lists.specs.Duplicates.{IsFirstDuplicate, duplicate_of, earlier_duplicate};
 ghost use Rattle.rank_lists.specs.RowsRead.{row_at};
@@ -8,6 +8,7 @@ ghost use Rattle.rank_lists.specs.RowsRead.{row_at};
 use crate::repeats::{Repeat, Repeats};
 use place_base::{FaultKind, FileFault, FileKind};
 use record_files::Records;
+use std::alloc::{AllocError, Global};
 
 /// What a row repeats.
 #[derive(Clone, Copy)]
@@ -19,11 +20,17 @@ pub(crate) enum Duplicate {
 }
 
 /// The first row that repeats an earlier one; in one row the candidate comes first.
-pub(crate) fn first_duplicate(candidates: Repeats, ranks: Repeats) -> Option<Duplicate>
+pub(crate) fn first_duplicate(
+    alloc: Global,
+    candidates: Repeats,
+    ranks: Repeats,
+) -> Result<Option<Duplicate>, AllocError>
     requires { length candidates ≡ length ranks }
-    ensures { IsFirstDuplicate candidates ranks result }
+    ensures { IfOk result (IsFirstDuplicate candidates ranks) }
 {
-    earlier_of(candidates.first_repeat(), ranks.first_repeat())
+    let candidate = candidates.first_repeat(alloc)?;
+    let rank = ranks.first_repeat(alloc)?;
+    Ok(earlier_of(candidate, rank))
 }
 
 // The one in the earlier row; in one row the candidate comes first.

@@ -2,14 +2,14 @@
 
 ghost use Rattle.std.specs.Prelude.{◌≡◌, ◌+◌, ◌*◌, ◌^◌, ◌≤◌, ◌<◌, ℕ, List, [], ◌∷◌, ◌++◌, length, IfOk, OnOk};
 ghost use Rattle.record_files.specs.Rows.{Row};
-ghost use Rattle.rank_lists.specs.Gathered.{HasRows, IsGathered, with_standing};
-ghost use Rattle.rank_lists.specs.RankTables.{standing_of};
+ghost use Rattle.rank_lists.specs.Gathered.{HasRows, IsGathered, with_rank};
 ghost use Rattle.rank_lists.specs.RowsRead.{SaysRow};
 
+use crate::rank_row::RankRow;
 use crate::repeats::Repeats;
-use crate::row::{RankRow, name_number, ranks_form, read_row};
+use crate::row::{name_number, ranks_form, read_row};
 use crate::turns::GivenRanks;
-use place_base::{FileFault, Finder, TypeFinder};
+use place_base::{FileFault, TypeFinder};
 use record_files::{Records, TableStop};
 use std::alloc::{AllocError, Global};
 
@@ -20,7 +20,7 @@ pub(crate) struct RankRows {
     pub(crate) candidates: Repeats,
     // For each row its rank and its type, as one number.
     pub(crate) ranks: Repeats,
-    // For each known type the ranks of known candidates.
+    // For each known type its ranks, each with the number of the candidate.
     pub(crate) given: Vec<GivenRanks>,
 }
 
@@ -31,16 +31,17 @@ pub(crate) struct Gathered {
     pub(crate) stop: Option<FileFault>,
 }
 
-// The numbers of candidates are below this, and so are ranks below the other.
+// More than the number of any candidate.
 const CANDIDATES: u128 = 1 << 37;
 
+// More than any rank.
 const RANKS: u128 = 1 << 27;
 
 impl RankRows {
     // No rows, beside so many types.
     fn new(alloc: Global, types: u32) -> Result<RankRows, AllocError>
-        ensures { IfOk result (λ rows. (names : List (List ℕ)) (numbers : List ℕ)
-            → length names ≡ types → HasRows names numbers [] rows) }
+        ensures { IfOk result (λ rows. (names : List (List ℕ))
+            → length names ≡ types → HasRows names [] rows) }
     {
         let mut given = Vec::with_capacity(alloc, types as usize)?;
         for _ in 0..types {
@@ -54,26 +55,19 @@ impl RankRows {
     }
 
     // Adds a row.
-    fn add<T: TypeFinder, C: Finder>(
-        &mut self,
-        row: &RankRow,
-        types: &T,
-        candidates: &C,
-    ) -> Result<(), AllocError>
+    fn add<T: TypeFinder>(&mut self, row: &RankRow, types: &T) -> Result<(), AllocError>
         requires few_candidates { length self.old.candidates < 33554432 }
         requires few_ranks { length self.old.ranks < 33554432 }
         ensures { OnOk result ((earlier : List Row) (here : Row)
-            → HasRows (T.names types.now) (C.numbers candidates.now) earlier self.old
+            → HasRows (T.names types.now) earlier self.old
             → SaysRow here row.now
-            → HasRows (T.names types.now) (C.numbers candidates.now) (earlier ++ here ∷ []) self.new) }
+            → HasRows (T.names types.now) (earlier ++ here ∷ []) self.new) }
     {
         let name = name_number(row.name.bytes());
         self.candidates
             .push(candidate_in_type(name, row.candidate))?;
         self.ranks.push(rank_in_type(name, row.rank))?;
-        let kind = types.find_type(row.name);
-        let candidate = candidates.find(row.candidate);
-        give(&mut self.given, kind, candidate, row.rank)?;
+        give(&mut self.given, types.find_type(row.name), row)?;
         Ok(())
     }
 }
@@ -94,33 +88,28 @@ fn rank_in_type(name: u64, rank: u32) -> u128
     u128::from(name) * RANKS + u128::from(rank)
 }
 
-// Adds the rank of a known candidate in a known type to those of the type.
-fn give(
-    given: &mut Vec<GivenRanks>,
-    kind: Option<u32>,
-    candidate: Option<u32>,
-    rank: u32,
-) -> Result<(), AllocError>
-    ensures { OnOk result (given.new.items ≡ with_standing given.old.items (standing_of kind candidate rank)) }
+// Adds the rank in a known type to those of the type.
+fn give(given: &mut Vec<GivenRanks>, kind: Option<u32>, row: &RankRow) -> Result<(), AllocError>
+    ensures { OnOk result (given.new.items
+        ≡ with_rank given.old.items kind (row.now.rank * 2 ^ 37 + row.now.candidate)) }
 {
-    let (Some(kind), Some(candidate)) = (kind, candidate) else {
+    let Some(kind) = kind else {
         return Ok(());
     };
     let Some(ranks) = given.get_mut(kind as usize) else {
         return Ok(());
     };
-    ranks.push(candidate, rank)
+    ranks.push(row)
 }
 
 /// Gathers the rows of a ranks file, or says what is wrong with its first row.
-pub(crate) fn gather<T: TypeFinder, C: Finder>(
+pub(crate) fn gather<T: TypeFinder>(
     alloc: Global,
     bytes: &[u8],
     types: &T,
-    candidates: &C,
 ) -> Result<Gathered, TableStop>
     requires { length bytes.now ≤ 2 ^ 30 }
-    ensures { IsGathered (T.names types.now) (C.numbers candidates.now) bytes.now result }
+    ensures { IsGathered (T.names types.now) bytes.now result }
 {
     let form = ranks_form();
     let mut records = Records::of_bytes(bytes);
@@ -134,7 +123,7 @@ pub(crate) fn gather<T: TypeFinder, C: Finder>(
     'rows: while let Some(record) = records.next() {
         match read_row(&form, count, &record) {
             Ok(row) => {
-                let Ok(()) = rows.add(&row, types, candidates) else {
+                let Ok(()) = rows.add(&row, types) else {
                     return Err(TableStop::Memory);
                 };
             }

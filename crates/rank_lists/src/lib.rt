@@ -1,11 +1,12 @@
-//! The ranks file: the turn order of each score type and the ranks in it, or the file's first fault.
+//! The ranks file: the turn order of each score type and its ranks, or the file's first fault.
 #![tactic(auto)]
 
 // The turn orders and ranks of a file, and their look-ups.
 mod lists;
 // The rows of a file, gathered up to the first that has a fault of its own.
 mod gather;
-// A row by itself.
+// A row by itself, and what it says.
+mod rank_row;
 mod row;
 // The first row that repeats what an earlier row says.
 mod duplicates;

@@ -3,7 +3,7 @@
 ghost use Rattle.std.specs.Prelude.{◌≡◌, ◌^◌, ◌<◌, ◌≤◌, length, IfOk};
 ghost use Rattle.record_files.specs.FirstFaults.{IsTableRead};
 ghost use Rattle.rank_lists.specs.RankRows.{ranks_fault};
-ghost use Rattle.rank_lists.specs.RankTables.{ranks_table, order_at, rank_at};
+ghost use Rattle.rank_lists.specs.RankTables.{ranks_table, table_with, order_at, rank_at};
 ghost use Rattle.rank_lists.specs.Soundness.{IsSound};
 
 use crate::by_candidate::tables_by_candidate;
@@ -31,16 +31,14 @@ pub struct RankLists {
 }
 
 impl Model for RankLists {
-    ghost use Rattle.rank_lists.specs.RankTables.{RankTable};
+    ghost use Rattle.rank_lists.specs.RankTables.{RankTable, table_with};
     ghost use Rattle.rank_lists.specs.ByCandidate.{HasTables};
 
     ghost Value = { RankTable };
 
-    ghost view = { λ l. record { candidates = l.candidates; orders = l.orders.items; ranks = l.ranks.items } };
+    ghost view = { λ l. table_with l.candidates l.orders.items l.ranks.items };
 
-    ghost invariant = { λ l. HasTables
-        (record { candidates = l.candidates; orders = l.orders.items; ranks = l.ranks.items })
-        l.by_candidate.items };
+    ghost invariant = { λ l. HasTables (table_with l.candidates l.orders.items l.ranks.items) l.by_candidate.items };
 }
 
 /// The turn order of each type and the ranks in it, as a market takes them.
@@ -54,8 +52,8 @@ impl RankLists {
     /// The turn orders and ranks of a file beside the names of the types and the numbers of the
     /// candidates, or the file's first fault.
     ///
-    /// The file is read in at most so many pieces, 1 to 64; the result does not depend on it. Rows of
-    /// unknown types and candidates only take part in the checks for duplicates.
+    /// The file is read in at most so many pieces, 1 to 64; the result does not depend on it. Rows
+    /// of unknown types and candidates only take part in the checks for duplicates.
     pub fn read<R: Threads, T: TypeFinder, C: Finder>(
         _rt: &R,
         alloc: Global,
@@ -69,22 +67,22 @@ impl RankLists {
         ensures { IsTableRead (ranks_fault bytes.now)
             (ranks_table (T.names types.now) (C.numbers candidates.now) bytes.now) result }
     {
-        let Gathered { rows, stop } = match gather(alloc, bytes, types, candidates) {
-            Ok(gathered) => gathered,
-            Err(stop) => return Err(stop),
-        };
+        let Gathered { rows, stop } = gather(alloc, bytes, types)?;
         let RankRows {
             candidates: by_candidate,
             ranks: by_rank,
             given,
         } = rows;
-        if let Some(duplicate) = first_duplicate(by_candidate, by_rank) {
+        let Ok(duplicate) = first_duplicate(alloc, by_candidate, by_rank) else {
+            return Err(TableStop::Memory);
+        };
+        if let Some(duplicate) = duplicate {
             return Err(TableStop::Fault(duplicate.fault(bytes)));
         }
         if let Some(fault) = stop {
             return Err(TableStop::Fault(fault));
         }
-        let Ok(turns) = all_turns(alloc, given) else {
+        let Ok(turns) = all_turns(alloc, given, candidates) else {
             return Err(TableStop::Memory);
         };
         match RankLists::of_turns(alloc, candidates.count(), turns) {
@@ -95,9 +93,9 @@ impl RankLists {
 
     // The lists of turn orders of so many candidates.
     fn of_turns(alloc: Global, candidates: u32, turns: AllTurns) -> Result<RankLists, AllocError>
-        requires { IsSound (record { candidates = candidates; orders = turns.orders.items; ranks = turns.ranks.items }) }
+        requires { IsSound (table_with candidates turns.orders.items turns.ranks.items) }
         ensures { IfOk result (λ lists. lists
-            ≡ record { candidates = candidates; orders = turns.orders.items; ranks = turns.ranks.items }) }
+            ≡ table_with candidates turns.orders.items turns.ranks.items) }
     {
         let by_candidate = tables_by_candidate(alloc, candidates, &turns.orders, &turns.ranks)?;
         Ok(RankLists {

@@ -1,13 +1,18 @@
 // Numbers in order, and the first of them that stands twice.
 
-ghost use Rattle.std.specs.Prelude.{◌≡◌, ℕ, ◌+◌, ◌*◌, ◌/◌, ◌%◌, ◌<◌, ◌≤◌, ◌++◌, ◌∷◌, [], length, slice_index, map, ◌^◌, Some, OnOk, MatchOption};
-ghost use Rattle.rank_lists.specs.Repeats.{IsFirstRepeat, NoRepeat, IsLeastPair, earlier_repeat};
+ghost use Rattle.std.specs.Prelude.{◌≡◌, ℕ, ◌+◌, ◌*◌, ◌/◌, ◌%◌, ◌<◌, ◌≤◌, ◌++◌, ◌∷◌, [], length, slice_index, map, ◌^◌, Some, IsTrue, OnOk, IfOk, MatchOption};
+ghost use Rattle.rank_lists.specs.Repeats.{IsFirstRepeat, NoRepeat, IsLeastPair, NeighboursDiffer, earlier_repeat, short_of};
 
 use std::alloc::{AllocError, Global};
 use std::marker::Model;
 
 /// How many numbers there may be.
 pub(crate) const PLACES: u128 = 1 << 25;
+
+// Words of 64 bits, and an odd number that spreads what stands above the first word.
+const WORDS: u128 = 1 << 64;
+
+const SPREAD: u64 = 0x9e37_79b9_7f4a_7c15;
 
 /// Two places of a list at which the same number stands.
 #[derive(Clone, Copy)]
@@ -44,13 +49,6 @@ impl Repeats {
         }
     }
 
-    /// How many numbers there are.
-    pub(crate) fn len(&self) -> usize
-        ensures { result ≡ length self.now }
-    {
-        self.placed.len()
-    }
-
     /// Adds a number.
     pub(crate) fn push(&mut self, number: u128) -> Result<(), AllocError>
         requires room { length self.old < 33554432 }
@@ -63,14 +61,59 @@ impl Repeats {
     }
 
     /// The first place at which a number stands that stands earlier too, with that earlier place.
-    pub(crate) fn first_repeat(self) -> Option<Repeat>
-        ensures { MatchOption result (NoRepeat self (length self))
-            (λ r. IsFirstRepeat self r.earlier r.later) }
+    pub(crate) fn first_repeat(self, alloc: Global) -> Result<Option<Repeat>, AllocError>
+        ensures { IfOk result (λ first. MatchOption first (NoRepeat self (length self))
+            (λ r. IsFirstRepeat self r.earlier r.later)) }
     {
+        // Mostly all numbers differ, which their short forms tell sooner.
+        if are_distinct(alloc, &self.placed)? {
+            return Ok(None);
+        }
         let mut placed = self.placed;
         placed.sort_unstable();
-        least_pair(&placed)
+        Ok(least_pair(&placed))
     }
+}
+
+// Whether the short forms of all numbers differ, and so the numbers themselves.
+fn are_distinct(alloc: Global, placed: &[u128]) -> Result<bool, AllocError>
+    ensures { IfOk result (λ distinct. IsTrue distinct
+        → NoRepeat (map (λ p. p / 33554432) placed.now) (length placed.now)) }
+{
+    let mut short = short_forms(alloc, placed)?;
+    short.sort_unstable();
+    Ok(neighbours_differ(&short))
+}
+
+// The short forms of the numbers.
+fn short_forms(alloc: Global, placed: &[u128]) -> Result<Vec<u64>, AllocError>
+    ensures { IfOk result (λ short. short.items ≡ map (λ p. short_of (p / 33554432)) placed.now) }
+{
+    placed
+        .iter()
+        .map(|number| short_form(*number / PLACES))
+        .collect(alloc)
+}
+
+// A number as one word: numbers of one word are themselves, and few others share a form.
+fn short_form(number: u128) -> u64
+    ensures { result ≡ short_of number }
+{
+    let low = (number % WORDS) as u64;
+    let high = (number / WORDS) as u64;
+    low.wrapping_add(high.wrapping_mul(SPREAD))
+}
+
+// Whether no two neighbours are equal.
+fn neighbours_differ(sorted: &[u64]) -> bool
+    ensures { IsTrue result → NeighboursDiffer sorted.now (length sorted.now) }
+{
+    for index in 1..sorted.len() {
+        if sorted[index - 1] == sorted[index] {
+            return false;
+        }
+    }
+    true
 }
 
 // The neighbours with the same number whose later place is least.

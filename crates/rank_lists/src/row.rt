@@ -6,16 +6,9 @@ ghost use Rattle.rank_lists.specs.Groups.{name_number as number_of_name};
 ghost use Rattle.rank_lists.specs.RankRows.{ranks_form as form_of_ranks};
 ghost use Rattle.rank_lists.specs.RowsRead.{IsRowRead};
 
-use place_base::{FaultKind, FileFault, FileKind, TypeName};
+use crate::rank_row::RankRow;
+use place_base::{FaultKind, FileFault, FileKind};
 use record_files::{FileForm, RecordRow, number, type_name};
-
-/// What a row of a ranks file says.
-#[derive(Clone, Copy)]
-pub(crate) struct RankRow {
-    pub(crate) candidate: u64,
-    pub(crate) name: TypeName,
-    pub(crate) rank: u32,
-}
 
 /// The form of a ranks file.
 pub(crate) fn ranks_form() -> FileForm

@@ -53,8 +53,7 @@ impl TypeFinder for OneType {
 #[test]
 fn turn_orders_rise_by_rank(rt: HostRuntime) -> Result<(), Fail> {
     let say = OneType(TypeName::new(b"SAY").ok_or("a name")?);
-    let bytes =
-        b"candidate,type,rank\r\n2,SAY,9\n3,SAY,0004\n9,SAY,1\n1,TYT,4\n3,EA,9\n\n10000000146,TYT,9";
+    let bytes = b"candidate,type,rank\r\n2,SAY,9\n3,SAY,0004\n9,SAY,1\n1,TYT,4\n3,EA,9\n\n99,TYT,9";
     let lists = RankLists::read(&rt, rt.alloc(), bytes, 64, &say, &Candidates)?;
     assert_eq!(rt; lists.turn_order(0), [2, 1].as_slice());
     assert_eq!(rt; lists.rank_of(0, 0), None);

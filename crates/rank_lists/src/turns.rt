@@ -1,16 +1,21 @@
 // The turn order of one type, sorted from the ranks given in it.
 
 ghost use Rattle.std.specs.Prelude.{◌≡◌, ◌+◌, ◌*◌, ◌^◌, ◌<◌, ◌/◌, ◌%◌, ◌++◌, ◌∷◌, [], map, OnOk, IfOk};
-ghost use Rattle.rank_lists.specs.Turns.{AreTurns, AreAllTurns};
+ghost use Rattle.rank_lists.specs.Turns.{AreTurns, AreAllTurns, known_keys};
 
+use crate::rank_row::RankRow;
 use market::List;
+use place_base::Finder;
 use std::alloc::{AllocError, Global};
 use std::marker::Model;
 
-// A rank stands above the candidate in a key.
-const CANDIDATES: u64 = 1 << 32;
+// More than the number of any candidate, behind which a rank stands in the keys of the file.
+const NUMBERS: u64 = 1 << 37;
 
-/// The ranks given in one type, each with its candidate behind it, in the order of the file.
+// More than any index, behind which a rank stands in the keys that are sorted.
+const INDEXES: u64 = 1 << 32;
+
+/// The ranks given in one type, each with the number of its candidate behind it, in file order.
 #[derive(Drop)]
 pub(crate) struct GivenRanks {
     keys: Vec<u64>,
@@ -41,25 +46,45 @@ impl GivenRanks {
         }
     }
 
-    /// Adds the rank of a candidate.
-    pub(crate) fn push(&mut self, candidate: u32, rank: u32) -> Result<(), AllocError>
-        ensures { OnOk result (self.new ≡ self.old ++ (rank * 2 ^ 32 + candidate) ∷ []) }
+    /// Adds the rank of a row.
+    pub(crate) fn push(&mut self, row: &RankRow) -> Result<(), AllocError>
+        ensures { OnOk result (self.new
+            ≡ self.old ++ (row.now.rank * 2 ^ 37 + row.now.candidate) ∷ []) }
     {
         self.keys
-            .push(u64::from(rank) * CANDIDATES + u64::from(candidate))?;
+            .push(u64::from(row.rank) * NUMBERS + row.candidate)?;
         Ok(())
     }
 
-    /// The turn order: rising ranks.
-    pub(crate) fn into_turns(self, alloc: Global) -> Result<Turns, AllocError>
-        ensures { IfOk result (λ turns. AreTurns self turns.order turns.ranks) }
+    /// The turn order of the known candidates: rising ranks.
+    pub(crate) fn into_turns<C: Finder>(
+        self,
+        alloc: Global,
+        candidates: &C,
+    ) -> Result<Turns, AllocError>
+        ensures { IfOk result (λ turns.
+            AreTurns (known_keys (C.numbers candidates.now) self) turns.order turns.ranks) }
     {
-        let mut keys = self.keys;
+        let mut keys = known(alloc, &self.keys, candidates)?;
         keys.sort_unstable();
         let order = List::from_vec(candidates_of(alloc, &keys)?);
         let ranks = List::from_vec(ranks_of(alloc, &keys)?);
         Ok(Turns { order, ranks })
     }
+}
+
+// The ranks of known candidates, each with the candidate's index behind it.
+fn known<C: Finder>(alloc: Global, keys: &[u64], candidates: &C) -> Result<Vec<u64>, AllocError>
+    ensures { IfOk result (λ known. known.items ≡ known_keys (C.numbers candidates.now) keys.now) }
+{
+    let mut known = Vec::with_capacity(alloc, keys.len())?;
+    for key in keys {
+        let Some(index) = candidates.find(*key % NUMBERS) else {
+            continue;
+        };
+        known.push(*key / NUMBERS * INDEXES + u64::from(index))?;
+    }
+    Ok(known)
 }
 
 /// The turn orders of all types, and the ranks in them.
@@ -70,13 +95,18 @@ pub(crate) struct AllTurns {
 }
 
 /// The turn order of each type.
-pub(crate) fn all_turns(alloc: Global, given: Vec<GivenRanks>) -> Result<AllTurns, AllocError>
-    ensures { IfOk result (λ all. AreAllTurns given.items all.orders.items all.ranks.items) }
+pub(crate) fn all_turns<C: Finder>(
+    alloc: Global,
+    given: Vec<GivenRanks>,
+    candidates: &C,
+) -> Result<AllTurns, AllocError>
+    ensures { IfOk result (λ all.
+        AreAllTurns (C.numbers candidates.now) given.items all.orders.items all.ranks.items) }
 {
     let mut orders = Vec::with_capacity(alloc, given.len())?;
     let mut ranks = Vec::with_capacity(alloc, given.len())?;
     for of_type in given {
-        let turns = of_type.into_turns(alloc)?;
+        let turns = of_type.into_turns(alloc, candidates)?;
         orders.push(turns.order)?;
         ranks.push(turns.ranks)?;
     }
@@ -88,7 +118,7 @@ fn candidates_of(alloc: Global, keys: &[u64]) -> Result<Vec<u32>, AllocError>
     ensures { IfOk result (λ order. order.items ≡ map (λ key. key % 4294967296) keys.now) }
 {
     keys.iter()
-        .map(|key| (*key % CANDIDATES) as u32)
+        .map(|key| (*key % INDEXES) as u32)
         .collect(alloc)
 }
 
@@ -97,6 +127,6 @@ fn ranks_of(alloc: Global, keys: &[u64]) -> Result<Vec<u32>, AllocError>
     ensures { IfOk result (λ ranks. ranks.items ≡ map (λ key. key / 4294967296) keys.now) }
 {
     keys.iter()
-        .map(|key| (*key / CANDIDATES) as u32)
+        .map(|key| (*key / INDEXES) as u32)
         .collect(alloc)
 }

@@ -11,7 +11,7 @@ abbrev pub invariant-rows : goal.invariant-rows
 invariant-rows g l = record {
   few : l.count ≤ 20000000;
   read : IsReadTo ranks_form reading unrelated l.bytes l.count l.records;
-  rows : HasRows (g.T.TypeFinder.names l.types) (g.C.Finder.numbers l.candidates) (take l.count (data_rows l.bytes)) l.rows;
+  rows : HasRows (g.T.TypeFinder.names l.types) (take l.count (data_rows l.bytes)) l.rows;
 }
 
 abbrev pub decreases-rows : goal.decreases-rows
