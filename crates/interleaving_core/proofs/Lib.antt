@@ -3,3 +3,5 @@ pub mod Choices
 pub mod OwnTurns
 pub mod Keeps
 pub mod Prefix
+pub mod Machines
+pub mod MachineEvents

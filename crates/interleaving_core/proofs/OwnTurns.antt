@@ -1,5 +1,5 @@
 -- The own turns of a view: how they still fit once a turn is drawn, read or posted.
-use Rattle.std.proofs.Common.{◌≡◌, ℕ, zero, suc, ◌+◌, ◌<◌, ◌≤◌, ◌≢◌, ◌⊎◌, Bool, false, List, [], ◌∷◌, ◌++◌, length, Option, Some, None, sym, refl, ap, inl, inr, ⊎_elim, subst, ◌∙◌, arith}
+use Rattle.std.proofs.Common.{◌≡◌, ℕ, zero, suc, ◌+◌, ◌<◌, ◌≤◌, ◌≢◌, ◌⊎◌, Bool, false, List, [], ◌∷◌, ◌++◌, length, get_or, set, Option, Some, None, sym, refl, ap, inl, inr, ⊎_elim, subst, ◌∙◌, arith}
 use Rattle.std.specs.Prelude.{slice_get}
 use Rattle.std.proofs.lemmas.Option.{slice_get_within}
 use Rattle.market.specs.Dictatorships.{Dictatorship}
@@ -82,3 +82,12 @@ own_posted d c e own k j met inside drawn more here cells f =
       rise = rise_snoc before new (λ i n x y ex ey. f.rise i n x y (in_own i x ex) (in_own n y ey)) below;
       last = λ y e. absurd (cc (e));
     }
+
+-- writing the last own turn's place, where the own turns are kept in a vector
+pub placed_at : (own : List OwnTurn) (i : ℕ) (x : OwnTurn) (j : ℕ) → i + 1 ≡ length own → x ≡ get_or own i x
+    → set own i record { turn = x.turn; place = Some j } ≡ placed own j
+placed_at [] i x j end at = absurd (omega arith)
+placed_at (y ∷ []) zero x j end at = ap (λ (z : OwnTurn). record { turn = z.turn; place = Some j } ∷ []) at
+placed_at (y ∷ []) (suc i) x j end at = absurd (omega arith)
+placed_at (y ∷ z ∷ zs) zero x j end at = absurd (omega arith)
+placed_at (y ∷ z ∷ zs) (suc i) x j end at = ap (λ l. y ∷ l) (placed_at (z ∷ zs) i x j (omega arith) at)

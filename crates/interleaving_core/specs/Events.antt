@@ -65,6 +65,10 @@ Allowed d v (Seals c j phase) =
     (v.hold ≡ hold_at c phase) × CanSeal (length (list_at d c)) j phase
 Allowed d v (Releases c phase) = (v.hold ≡ hold_at c phase) × CanRelease (turn_count d) c phase
 
+-- no action of this event is allowed
+abbrev pub Refuses : Dictatorship → View → CoreEvent → Type 0
+Refuses d v event = (a : Action) → event_of a ≡ event → ¬ (Allowed d v a)
+
 -- the view with another claim
 abbrev pub with_claim : View → Option Claiming → View
 with_claim v claim = record v { claim = claim }
