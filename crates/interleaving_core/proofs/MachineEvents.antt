@@ -1,20 +1,19 @@
 -- What the machine does at each event is what the event leads to, outcome by outcome.
-use Rattle.std.proofs.Common.{◌≡◌, ℕ, List, ◌+◌, ◌<◌, ◌≤◌, ◌⊎◌, Bool, true, false, Some, None, length, nat_lt, nat_le, set, get_or, refl, sym, ap, ◌∙◌, subst, arith, vec_capacity}
+use Rattle.std.proofs.Common.{◌≡◌, ℕ, List, ◌+◌, ◌<◌, ◌≤◌, Bool, true, false, None, length, nat_lt, nat_le, get_or, refl, sym, ap, ◌∙◌, subst, arith, vec_capacity}
 use Rattle.std.specs.Vec.{with_item}
 use Rattle.std.proofs.lemmas.Bool.{lt-ltb, le-ltb}
 use Rattle.std.proofs.lemmas.Option.{slice_get_read, get_or_from_slice_get}
-use Rattle.market.specs.Dictatorships.{list_at}
 use Rattle.interleaving_core.specs.declared.parts.Cell.{Cell}
 use Rattle.interleaving_core.specs.declared.parts.Cell.TheVariants.{Empty, Posted, Committed}
 use Rattle.interleaving_core.specs.declared.parts.Phase.{Phase}
-use Rattle.interleaving_core.specs.declared.parts.Phase.TheVariants.{Idle, Halted, Scan, Ready, Seated}
+use Rattle.interleaving_core.specs.declared.parts.Phase.TheVariants.{Idle, Halted, Scan, Seated}
 use Rattle.interleaving_core.specs.declared.events.CoreEvent.TheVariants.{Claim, Read, Post, Take, Look, Weigh, Seat, Seal, Release}
 use Rattle.interleaving_core.specs.declared.events.Told.{Told}
 use Rattle.interleaving_core.specs.declared.events.Told.TheVariants as tells
 use Rattle.interleaving_core.specs.declared.worker.Worker.{Worker}
 use Rattle.interleaving_core.specs.declared.state.CoreState.TheInside.{Inside}
-use Rattle.interleaving_core.specs.Core.{turn_count, entry, quota_of, seats_of, is_open, cell_at, claim_at, hold_at}
-use Rattle.interleaving_core.specs.Events.{Claims, Reads, Posts, Takes, Looks, Weighs, Seats, Seals, Releases, with_claim, with_hold, claimed, claimed_if, read_if, posted, took, looked, weighed_if, fills, told_of_claim, told_of_read, told_of_take, told_of_look, told_of_weigh}
+use Rattle.interleaving_core.specs.Core.{turn_count, entry, quota_of, seats_of, is_open, cell_at, hold_at}
+use Rattle.interleaving_core.specs.Events.{Claims, Reads, Posts, Takes, Looks, Weighs, Seats, Seals, Releases, with_hold, claimed, claimed_if, read_if, posted, took, looked, weighed_if, fills, told_of_claim, told_of_read, told_of_take, told_of_look, told_of_weigh}
 use Rattle.interleaving_core.specs.Machines.{view_of, machine_of, IsKept}
 use Rattle.interleaving_core.proofs.Machines.{IsAllowed, Acted, acted}
 

@@ -1,14 +1,12 @@
 -- A machine that makes an event: the worker that makes it is the only one to change, so the state after
 -- is the event's, and the machine stays sound with room for every turn.
-use Rattle.std.proofs.Common.{◌≡◌, ℕ, zero, suc, ◌+◌, ◌*◌, ◌<◌, ◌≤◌, ◌≢◌, Bool, true, false, List, [], ◌∷◌, ◌++◌, Option, Some, None, length, length-append, eqb, map, set, get_or, replicate, ⊎_elim, refl, sym, ap, ◌∙◌, subst, arith, vec_len, vec_capacity, length-set}
+use Rattle.std.proofs.Common.{◌≡◌, ℕ, suc, ◌+◌, ◌<◌, ◌≤◌, Bool, true, false, List, [], ◌∷◌, ◌++◌, Option, Some, None, length, length-append, eqb, map, set, get_or, replicate, ⊎_elim, refl, sym, ap, ◌∙◌, subst, arith, vec_capacity, length-set}
 use Rattle.std.specs.Prelude.{slice_get, option_map}
-use Rattle.std.specs.List.{sum_by}
 use Rattle.std.proofs.lemmas.List.{map-set, length-map, map-append, length-replicate, replicate_more}
 use Rattle.std.proofs.lemmas.List.Sums.{sum_by-le}
-use Rattle.std.proofs.lemmas.Option.{slice_get_within, slice_get_read, slice_get-map, get_or_from_slice_get}
+use Rattle.std.proofs.lemmas.Option.{slice_get_read, slice_get-map, get_or_from_slice_get}
 use Rattle.market.specs.Dictatorships.{Dictatorship, IsValidDictatorship, list_at}
 use Rattle.market.proofs.Turns.{taken-le-quota}
-use Rattle.interleaving_core.specs.declared.parts.Cell.{Cell}
 use Rattle.interleaving_core.specs.declared.parts.Claiming.{Claiming}
 use Rattle.interleaving_core.specs.declared.parts.OwnTurn.{OwnTurn}
 use Rattle.interleaving_core.specs.declared.parts.Phase.{Phase}

@@ -1,8 +1,8 @@
 -- A core state: what the shared words hold and what each worker knows.
-use Rattle.std.specs.Prelude.{ℕ, ◌∷◌, Bool, true, false, List, [], length, replicate, nat_lt, slice_index, slice_index_or, Option, Some, None}
+use Rattle.std.specs.Prelude.{ℕ, Bool, true, false, List, [], length, replicate, nat_lt, slice_index, slice_index_or, Option, Some, None}
 use Rattle.market.specs.Dictatorships.{Dictatorship, list_at}
 use Rattle.interleaving_core.specs.declared.parts.Cell.{Cell}
-use Rattle.interleaving_core.specs.declared.parts.Cell.TheVariants.{Empty, Posted, Committed}
+use Rattle.interleaving_core.specs.declared.parts.Cell.TheVariants.{Empty, Committed}
 use Rattle.interleaving_core.specs.declared.parts.Claiming.{Claiming}
 use Rattle.interleaving_core.specs.declared.parts.OwnTurn.{OwnTurn}
 use Rattle.interleaving_core.specs.declared.parts.Phase.{Phase}

@@ -1,8 +1,8 @@
 -- The nine events: when each is allowed, what it leads to and what it tells.
-use Rattle.std.specs.Prelude.{◌≡◌, ℕ, ◌+◌, ◌<◌, ◌⊎◌, ◌++◌, Bool, true, false, nat_lt, nat_le, List, [], ◌∷◌, length, slice_set, slice_get, Option, Some, None}
+use Rattle.std.specs.Prelude.{◌≡◌, ℕ, ◌+◌, ◌<◌, ◌⊎◌, ◌++◌, Bool, true, false, nat_lt, nat_le, List, [], ◌∷◌, length, slice_set, Option, Some, None}
 use Rattle.market.specs.Dictatorships.{Dictatorship, list_at}
 use Rattle.interleaving_core.specs.declared.parts.Cell.{Cell}
-use Rattle.interleaving_core.specs.declared.parts.Cell.TheVariants.{Empty, Posted, Committed}
+use Rattle.interleaving_core.specs.declared.parts.Cell.TheVariants.{Posted, Committed}
 use Rattle.interleaving_core.specs.declared.parts.Claiming.{Claiming}
 use Rattle.interleaving_core.specs.declared.parts.OwnTurn.{OwnTurn}
 use Rattle.interleaving_core.specs.declared.parts.Phase.{Phase}

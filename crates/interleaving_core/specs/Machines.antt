@@ -1,7 +1,6 @@
 -- What the machine keeps in memory: the view of each worker, and room for its own turns.
-use Rattle.std.specs.Prelude.{◌≡◌, ℕ, ◌<◌, ◌≤◌, Bool, List, length, map, replicate, slice_get, Option, Some, vec_capacity}
+use Rattle.std.specs.Prelude.{◌≡◌, ℕ, ◌<◌, ◌≤◌, List, length, map, replicate, slice_get, Some, vec_capacity}
 use Rattle.market.specs.Dictatorships.{Dictatorship, IsValidDictatorship}
-use Rattle.interleaving_core.specs.declared.parts.Cell.{Cell}
 use Rattle.interleaving_core.specs.declared.parts.Claiming.{Claiming}
 use Rattle.interleaving_core.specs.declared.parts.Phase.TheVariants.{Scan}
 use Rattle.interleaving_core.specs.declared.parts.Holding.{Holding}

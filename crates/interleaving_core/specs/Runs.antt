@@ -1,5 +1,5 @@
 -- One event after another.
-use Rattle.std.specs.Prelude.{◌≡◌, ℕ, List, [], ◌∷◌, slice_get, Option, Some, Result, MatchResult}
+use Rattle.std.specs.Prelude.{◌≡◌, ℕ, List, [], ◌∷◌, slice_get, Some, Result, MatchResult}
 use Rattle.market.specs.Dictatorships.{Dictatorship}
 use Rattle.interleaving_core.specs.declared.events.CoreEvent.{CoreEvent}
 use Rattle.interleaving_core.specs.declared.events.Told.{Told}

@@ -7,7 +7,7 @@ use Rattle.interleaving_core.specs.declared.parts.Cell.TheVariants.{Empty, Poste
 use Rattle.interleaving_core.specs.declared.parts.Claiming.{Claiming}
 use Rattle.interleaving_core.specs.declared.parts.OwnTurn.{OwnTurn}
 use Rattle.interleaving_core.specs.declared.parts.Phase.{Phase}
-use Rattle.interleaving_core.specs.declared.parts.Phase.TheVariants.{Idle, Halted, Scan, Ready, Seated}
+use Rattle.interleaving_core.specs.declared.parts.Phase.TheVariants.{Scan, Ready, Seated}
 use Rattle.interleaving_core.specs.declared.parts.Holding.{Holding}
 use Rattle.interleaving_core.specs.Core.{View, Core, turn_count, entry, quota_of, seats_of, cell_at, is_committed}
 

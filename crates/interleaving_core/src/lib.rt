@@ -16,6 +16,9 @@ mod opening;
 // The machine, event by event.
 mod state;
 
+#[cfg(test)]
+mod tests;
+
 pub use events::{CoreEvent, NotNow, Told};
 pub use law::any_run;
 pub use parts::{Cell, Claiming, Holding, OwnTurn, Phase};

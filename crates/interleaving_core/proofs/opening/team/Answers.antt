@@ -1,5 +1,3 @@
-use Rattle.std.proofs.Common.{subst}
-use Rattle.interleaving_core.specs.Machines.{IsTeam}
 use Rattle.interleaving_core.proofs.Machines.{team_more}
 use Rattle.interleaving_core.proofs.opening.team.Goals as goal
 

@@ -1,6 +1,6 @@
-use Rattle.std.proofs.Common.{Some, true, false, refl, sym, ◌∙◌, subst, arith}
+use Rattle.std.proofs.Common.{Some, false, refl, arith}
 use Rattle.interleaving_core.specs.Events.{Claims}
-use Rattle.interleaving_core.proofs.Machines.{reads_worker, allowed, claims_small, has_room}
+use Rattle.interleaving_core.proofs.Machines.{allowed, claims_small, has_room}
 use Rattle.interleaving_core.proofs.MachineEvents.{draws_turn, finds_no_turn}
 use Rattle.interleaving_core.proofs.state.CoreState.claim.Goals as goal
 

@@ -1,4 +1,4 @@
-use Rattle.std.proofs.Common.{◌≡◌, ℕ, List, false, replicate, length, subst, arith}
+use Rattle.std.proofs.Common.{◌≡◌, ℕ, false, replicate, length, subst, arith}
 use Rattle.std.proofs.lemmas.Grind.{common_steps}
 use Rattle.interleaving_core.specs.declared.parts.Cell.TheVariants.{Empty}
 use Rattle.interleaving_core.specs.Machines.{IsTeam}

@@ -1,4 +1,4 @@
-use Rattle.std.proofs.Common.{◌-◌, true, Some, None, arith}
+use Rattle.std.proofs.Common.{◌-◌, true, None, arith}
 use Rattle.interleaving_core.proofs.OwnTurns.{placed_at}
 use Rattle.interleaving_core.proofs.worker.Worker.post.Goals as goal
 
