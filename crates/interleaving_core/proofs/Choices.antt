@@ -40,6 +40,7 @@ pub takes_none : (d : Dictatorship) (k p : ℕ) → choice d k ≡ length (list_
 unfolding picked
 takes_none d k p e =
     let next = taken-suc d k p in
-    let is = ap (slice_get (list_at d k)) e ∙ slice_get_past (list_at d k) (length (list_at d k)) (omega arith) in
+    let is = ap (slice_get (list_at d k)) e
+    ∙ slice_get_past (list_at d k) (length (list_at d k)) (omega arith) in
     let none = ap (λ o. cond {A = ℕ} (is_programme p o) 1 0) is in
     omega arith

@@ -17,7 +17,8 @@ use Rattle.interleaving_core.proofs.ClaimantKeeps.{read_keeps, claim_by, post_ke
 use Rattle.interleaving_core.proofs.MarkKeeps.{take_by, look_keeps, weigh_keeps, seat_keeps, seal_keeps, release_keeps}
 
 -- an allowed event keeps a sound state
-pub keeps : (d : Dictatorship) (c : Core) (i : ℕ) (v : View) (e : Action) → IsValidDictatorship d → Sound d c → slice_get c.views i ≡ Some v → Allowed d v e → Sound d (after d c i v e)
+pub keeps : (d : Dictatorship) (c : Core) (i : ℕ) (v : View) (e : Action) → IsValidDictatorship d
+    → Sound d c → slice_get c.views i ≡ Some v → Allowed d v e → Sound d (after d c i v e)
 keeps d c i v Claims valid = claim_by d c i v (nat_lt c.claim_number (turn_count d)) refl
 keeps d c i v (Reads k j) valid = read_keeps d c i v k j
 keeps d c i v (Posts k j met) valid = post_keeps d c i v k j met
@@ -39,30 +40,37 @@ begins d workers valid = record {
   within = omega arith;
   below = λ k l. absurd (omega arith);
   above = λ k l. ap is_committed (get_replicate (length d.lists) k Empty);
-  seats = λ p l. let z = sum_replicate (seated d p) workers fresh_view refl in let t = taken-zero d p in omega arith;
-  posts = λ k j p. absurd (let q : Empty ≡ Posted j = sym (get_replicate (length d.lists) k Empty) ∙ p in cc (q));
+  seats = λ p l. let z = sum_replicate (seated d p) workers fresh_view refl in
+      let t = taken-zero d p in omega arith;
+  posts = λ k j p. absurd
+      (let q : Empty ≡ Posted j = sym (get_replicate (length d.lists) k Empty) ∙ p in cc (q));
   claimed = λ k l m. absurd (omega arith);
   untouched = λ k l. get_replicate (length d.lists) k Empty;
   few = omega arith;
-  each = λ i v at. subst (ViewFits d (opening d workers) 0) (at_replicate workers i fresh_view v at) record {
-    drawn = λ k is. absurd (cc (is));
-    passed = λ k is. absurd (cc (is));
-    met = λ k is m. absurd (cc (is));
-    quiet = λ is. absurd (cc (is));
-    past = λ is. absurd (cc (is));
-    at_count = λ g is. absurd (cc (is));
-    phase = λ g is. absurd (cc (is));
-    own = own_nil d (opening d workers);
-    one_claim = λ g is. absurd (cc (is));
-    one_debt = λ is. absurd (cc (is));
-  };
+  each = λ i v at. subst (ViewFits d (opening d workers) 0)
+      (at_replicate workers i fresh_view v at) record {
+        drawn = λ k is. absurd (cc (is));
+        passed = λ k is. absurd (cc (is));
+        met = λ k is m. absurd (cc (is));
+        quiet = λ is. absurd (cc (is));
+        past = λ is. absurd (cc (is));
+        at_count = λ g is. absurd (cc (is));
+        phase = λ g is. absurd (cc (is));
+        own = own_nil d (opening d workers);
+        one_claim = λ g is. absurd (cc (is));
+        one_debt = λ is. absurd (cc (is));
+      };
 }
 
 -- one step keeps a sound state
-pub step_keeps : (d : Dictatorship) (c e : Core) (i : ℕ) (event : CoreEvent) (told : Told) → IsValidDictatorship d → Sound d c → IsStep d c i event told e → Sound d e
-step_keeps d c e i event told valid s x = subst (Sound d) (sym x.leads) (keeps d c i x.view x.action valid s x.whose x.allowed)
+pub step_keeps : (d : Dictatorship) (c e : Core) (i : ℕ) (event : CoreEvent) (told : Told)
+    → IsValidDictatorship d → Sound d c → IsStep d c i event told e → Sound d e
+step_keeps d c e i event told valid s x =
+    subst (Sound d) (sym x.leads) (keeps d c i x.view x.action valid s x.whose x.allowed)
 
 -- each step of a run keeps a sound state
-pub run_keeps : (d : Dictatorship) (c : Core) (events : List (ℕ × CoreEvent)) (last : Core) → IsValidDictatorship d → Sound d c → IsRun d c events last → Sound d last
+pub run_keeps : (d : Dictatorship) (c : Core) (events : List (ℕ × CoreEvent)) (last : Core)
+    → IsValidDictatorship d → Sound d c → IsRun d c events last → Sound d last
 run_keeps d c [] last valid s l = subst (Sound d) (sym l) s
-run_keeps d c (x ∷ xs) last valid s l = run_keeps d l.1 xs last valid (step_keeps d c l.1 x.0 x.1 l.0 valid s l.2) l.3
+run_keeps d c (x ∷ xs) last valid s l =
+    run_keeps d l.1 xs last valid (step_keeps d c l.1 x.0 x.1 l.0 valid s l.2) l.3

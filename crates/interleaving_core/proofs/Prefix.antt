@@ -32,7 +32,8 @@ front_places f (x ∷ xs) m (suc n) within is others =
     ap (λ o. cons_option o (filter_map committed_place xs)) first
     ∙ ap (λ rest. f m ∷ rest)
     (front_places f xs (m + 1) n (omega arith)
-    (λ k l. let e : m + suc k ≡ m + 1 + k = omega arith in is (suc k) (omega arith) ∙ ap (λ i. Committed (f i)) e)
+    (λ k l. let e : m + suc k ≡ m + 1 + k = omega arith in
+    is (suc k) (omega arith) ∙ ap (λ i. Committed (f i)) e)
     (λ k l. others (suc k) (omega arith)))
 
 -- the choices committed begin the dictatorship's choices
@@ -45,6 +46,10 @@ committed_prefix d c s =
     let within = s.within in
     let cells = s.cells_count in
     let front = front_places (choice d) c.cells 0 s.count (omega arith)
-    (λ k l. let e : 0 + k ≡ k = omega arith in s.below k l ∙ ap (λ i. Committed (choice d i)) (sym e)) s.above in
-    let is = front ∙ sym (take-map-range_with_len (choice d) 0 n s.count within) in
-    (drop s.count all, ap (λ (xs : List ℕ). xs ++ drop s.count all) is ∙ take-append-drop s.count all)
+    (λ k l. let e : 0 + k ≡ k = omega arith in
+    s.below k l ∙ ap (λ i. Committed (choice d i)) (sym e)) s.above in
+    let is = front ∙ sym (take-map-range_with_len (choice d) 0 n s.count within) in (
+      drop s.count all,
+      ap (λ (xs : List ℕ). xs ++ drop s.count all) is
+          ∙ take-append-drop s.count all,
+    )

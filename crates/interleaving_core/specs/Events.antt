@@ -138,7 +138,8 @@ after d c i v (Looks h) =
     record c { views = slice_set c.views i (with_hold v (hold_at h (looked (cell_at c h)))) }
 after d c i v (Weighs h j) =
     record c {
-      views = slice_set c.views i (with_hold v (hold_at h (weighed_if (is_open d c (entry d h j)) j)));
+      views = slice_set c.views i
+          (with_hold v (hold_at h (weighed_if (is_open d c (entry d h j)) j)));
     }
 after d c i v (Seats h j) =
     record c {

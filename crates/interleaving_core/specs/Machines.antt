@@ -11,13 +11,21 @@ use Rattle.interleaving_core.specs.Sound.{Sound}
 
 -- the view of a worker
 abbrev pub view_of : Worker → View
-view_of w = record { claim = w.claim; own = w.own.items; done = w.done; owes = w.owes; hold = w.hold }
+view_of w = record {
+  claim = w.claim;
+  own = w.own.items;
+  done = w.done;
+  owes = w.owes;
+  hold =
+      w.hold;
+}
 
 -- the dictatorship is valid, and a turn that the worker claims or weighs is one of its turns
 pub record IsWithin (d : Dictatorship) (v : View) : Type 0 where
   pub valid : IsValidDictatorship d
   pub claimed : (x : Claiming) → v.claim ≡ Some x → x.turn < turn_count d
-  pub weighed : (h : Holding) (j : ℕ) → v.hold ≡ Some h → h.phase ≡ Scan j → h.committed < turn_count d
+  pub weighed : (h : Holding) (j : ℕ) → v.hold ≡ Some h → h.phase ≡ Scan j
+      → h.committed < turn_count d
 
 -- the core state of a machine, with its dictatorship
 abbrev pub machine_of : Inside → Machine

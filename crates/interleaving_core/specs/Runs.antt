@@ -8,7 +8,8 @@ use Rattle.interleaving_core.specs.Core.{View, Core, Machine}
 use Rattle.interleaving_core.specs.Events.{Action, event_of, Allowed, Refuses, after, told_by}
 
 -- the event is allowed to the worker i, leads from c to e, and tells this
-pub record IsStep (d : Dictatorship) (c : Core) (i : ℕ) (event : CoreEvent) (told : Told) (e : Core) : Type 0 where
+pub record IsStep (d : Dictatorship) (c : Core) (i : ℕ) (event : CoreEvent) (told : Told)
+    (e : Core) : Type 0 where
   pub view : View
   pub whose : slice_get c.views i ≡ Some view
   pub action : Action
@@ -24,7 +25,8 @@ IsNotNow d c i event = (v : View) → slice_get c.views i ≡ Some v → Refuses
 -- these events, each of a worker and each allowed where it stands, lead from c to e
 abbrev pub IsRun : Dictatorship → Core → List (ℕ × CoreEvent) → Core → Type 0
 IsRun d c [] e = e ≡ c
-IsRun d c (x ∷ xs) e = (told : Told) × (next : Core) × IsStep d c x.0 x.1 told next × IsRun d next xs e
+IsRun d c (x ∷ xs) e = (told : Told) × (next : Core) × IsStep d c x.0 x.1 told next
+    × IsRun d next xs e
 
 -- what a machine answers to an event, and what becomes of it: the step where the event is allowed, and
 -- else nothing changes

@@ -93,7 +93,8 @@ OwnTurnFits c claim x =
     ⊎ ((j : ℕ) × (x.place ≡ Some j) × CellFrom (cell_at c x.turn) j)
 
 -- the own turns were drawn, rise strictly, and end with the claimed turn
-pub record OwnTurnsFit (d : Dictatorship) (c : Core) (own : List OwnTurn) (claim : Option Claiming) : Type 0 where
+pub record OwnTurnsFit (d : Dictatorship) (c : Core) (own : List OwnTurn)
+    (claim : Option Claiming) : Type 0 where
   pub each : (i : ℕ) (x : OwnTurn) → slice_get own i ≡ Some x
       → (x.turn < turn_count d) × (x.turn < c.claim_number) × OwnTurnFits c claim x
   pub rise : (i j : ℕ) (x y : OwnTurn) → slice_get own i ≡ Some x → slice_get own j ≡ Some y
@@ -104,7 +105,8 @@ pub record OwnTurnsFit (d : Dictatorship) (c : Core) (own : List OwnTurn) (claim
 -- a view fits a state in which count turns are committed
 pub record ViewFits (d : Dictatorship) (c : Core) (count : ℕ) (v : View) : Type 0 where
   -- a claimed turn was drawn
-  pub drawn : (x : Claiming) → v.claim ≡ Some x → (x.turn < turn_count d) × (x.turn < c.claim_number)
+  pub drawn : (x : Claiming) → v.claim ≡ Some x → (x.turn < turn_count d)
+      × (x.turn < c.claim_number)
   -- what a claim has passed is full
   pub passed : (x : Claiming) → v.claim ≡ Some x
       → (x.passed ≤ length (list_at d x.turn)) × FullBefore d c x.turn x.passed

@@ -15,7 +15,6 @@ mod law;
 mod opening;
 // The machine, event by event.
 mod state;
-
 #[cfg(test)]
 mod tests;
 

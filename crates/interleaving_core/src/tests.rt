@@ -125,7 +125,11 @@ fn a_later_turn_waits_for_the_earlier_one(rt: HostRuntime) -> Result<(), Fail> {
 fn nothing_is_allowed_out_of_turn(rt: HostRuntime) -> Result<(), Fail> {
     let alloc = rt.alloc();
     let mut state = CoreState::open(alloc, two_turns(alloc)?, 2)?;
-    play(&rt, &mut state, &[(1, Seal, None), (0, Look, None), (0, Read, None)]);
+    play(
+        &rt,
+        &mut state,
+        &[(1, Seal, None), (0, Look, None), (0, Read, None)],
+    );
     assert_eq!(rt; (state.cell(0), state.cell(1)), (Cell::Empty, Cell::Empty));
     assert_eq!(rt; state.committed(), 0);
     Ok(())

@@ -5,7 +5,8 @@ use Rattle.market.proofs.Checks.{dictatorship_fits, turn_lists_fit, dictatorship
 use Rattle.interleaving_core.proofs.tests.empty_places.Goals as goal
 
 abbrev empty_places : Dictatorship
-empty_places = record { quota = 0 ∷ 1 ∷ []; fill = 0 ∷ 0 ∷ []; lists = (0 ∷ 1 ∷ []) ∷ [] ∷ (1 ∷ 0 ∷ []) ∷ [] }
+empty_places =
+    record { quota = 0 ∷ 1 ∷ []; fill = 0 ∷ 0 ∷ []; lists = (0 ∷ 1 ∷ []) ∷ [] ∷ (1 ∷ 0 ∷ []) ∷ [] }
 
 valid : IsValidDictatorship empty_places
 unfolding computes dictatorship_fits turn_lists_fit
@@ -16,4 +17,5 @@ from_parts-requires c =
     dictatorship_parts_valid empty_places c.in_ok-quota.quota.items c.in_ok-fill.fill.items
     c.in_ok-lists.lists.items valid
     c.in_ok-quota.ensures.items c.in_ok-fill.ensures.items
-    (three_lists _ _ _ _ _ _ c.in_ok-lists.lists.items c.in_ok-lists.ensures.items c.in_ok-first.ensures c.in_ok-second.ensures c.in_ok-third.ensures)
+    (three_lists _ _ _ _ _ _ c.in_ok-lists.lists.items c.in_ok-lists.ensures.items
+    c.in_ok-first.ensures c.in_ok-second.ensures c.in_ok-third.ensures)

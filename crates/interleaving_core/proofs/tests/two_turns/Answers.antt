@@ -7,4 +7,5 @@ from_parts-requires c =
     dictatorship_parts_valid two_turns c.in_ok-quota.quota.items c.in_ok-fill.fill.items
     c.in_ok-lists.lists.items two_turns_valid
     c.in_ok-quota.ensures.items c.in_ok-fill.ensures.items
-    (two_lists _ _ _ _ c.in_ok-lists.lists.items c.in_ok-lists.ensures.items c.in_ok-first.ensures c.in_ok-second.ensures)
+    (two_lists _ _ _ _ c.in_ok-lists.lists.items c.in_ok-lists.ensures.items c.in_ok-first.ensures
+    c.in_ok-second.ensures)

@@ -14,35 +14,63 @@ may_weigh-requires c =
 pub returns-in_err-committed : goal.returns-in_err-committed
 returns-in_err-committed c =
     let p = err_from_is_err_and c.from_residual.result c.from_residual.ensures.1 in
-    rw p.1 (refl, refused c.self.inside _ _ _ Weigh c.self.view_is c.requires c.index.ensures c.in_err-committed.ensures)
+    rw p.1 (
+      refl,
+      refused c.self.inside _ _ _ Weigh c.self.view_is c.requires c.index.ensures
+          c.in_err-committed.ensures,
+    )
 
 pub has_seat-open-requires-clause-turn : goal.has_seat-open-requires-clause-turn
 has_seat-open-requires-clause-turn c =
-    (within c.self.inside _ _ _ c.self.invariant c.self.view_is c.requires c.index.ensures).weighed record { committed = c.in_ok-committed.committed; phase = Scan c.in_ok-committed.place } c.in_ok-committed.place c.in_ok-committed.ensures.0 refl
+    (within c.self.inside _ _ _ c.self.invariant c.self.view_is c.requires c.index.ensures).weighed
+    record {
+      committed = c.in_ok-committed.committed;
+      phase =
+          Scan c.in_ok-committed.place;
+    } c.in_ok-committed.place c.in_ok-committed.ensures.0 refl
 
 pub invariant_of-self : goal.invariant_of-self
 invariant_of-self c =
-    let x = allowed c.self.inside _ _ _ _ (Weighs c.in_ok-committed.committed c.in_ok-committed.place) c.self.invariant c.self.view_is c.requires c.index.ensures c.index_mut-me.ensures.value c.in_ok-committed.ensures in
-    (weighs_entry c.self.inside _ _ _ refl _ _ true c.has_seat-open.result c.deref.result.now x c.if-open.true c.has_seat-open.ensures c.deref.ensures.value refl).kept
+    let x = allowed c.self.inside _ _ _ _
+    (Weighs c.in_ok-committed.committed c.in_ok-committed.place) c.self.invariant c.self.view_is
+    c.requires c.index.ensures c.index_mut-me.ensures.value c.in_ok-committed.ensures in
+    (weighs_entry c.self.inside _ _ _ refl _ _ true c.has_seat-open.result c.deref.result.now x
+    c.if-open.true c.has_seat-open.ensures c.deref.ensures.value refl).kept
 
 pub returns-then-open : goal.returns-then-open
 returns-then-open c =
-    let x = allowed c.self.inside _ _ _ _ (Weighs c.in_ok-committed.committed c.in_ok-committed.place) c.self.invariant c.self.view_is c.requires c.index.ensures c.index_mut-me.ensures.value c.in_ok-committed.ensures in
-    (weighs_entry c.self.inside _ _ _ refl _ _ true c.has_seat-open.result c.deref.result.now x c.if-open.true c.has_seat-open.ensures c.deref.ensures.value refl).step _ c.self.view_is
+    let x = allowed c.self.inside _ _ _ _
+    (Weighs c.in_ok-committed.committed c.in_ok-committed.place) c.self.invariant c.self.view_is
+    c.requires c.index.ensures c.index_mut-me.ensures.value c.in_ok-committed.ensures in
+    (weighs_entry c.self.inside _ _ _ refl _ _ true c.has_seat-open.result c.deref.result.now x
+    c.if-open.true c.has_seat-open.ensures c.deref.ensures.value refl).step _ c.self.view_is
 
 pub overflow_add-me : goal.overflow_add-me
 overflow_add-me c =
-    let inside = (within c.self.inside _ _ _ c.self.invariant c.self.view_is c.requires c.index.ensures).weighed record { committed = c.in_ok-committed.committed; phase = Scan c.in_ok-committed.place } c.in_ok-committed.place c.in_ok-committed.ensures.0 refl in
-    let short = list_short c.self.inside.dict c.in_ok-committed.committed c.self.invariant.valid inside in
+    let inside =
+    (within c.self.inside _ _ _ c.self.invariant c.self.view_is c.requires
+    c.index.ensures).weighed record {
+      committed = c.in_ok-committed.committed;
+      phase =
+          Scan c.in_ok-committed.place;
+    } c.in_ok-committed.place c.in_ok-committed.ensures.0 refl in
+    let short = list_short c.self.inside.dict c.in_ok-committed.committed c.self.invariant.valid
+    inside in
     let place = c.in_ok-committed.ensures.1 in
     omega arith
 
 pub invariant_of-self-2 : goal.invariant_of-self-2
 invariant_of-self-2 c =
-    let x = allowed c.self.inside _ _ _ _ (Weighs c.in_ok-committed.committed c.in_ok-committed.place) c.self.invariant c.self.view_is c.requires c.index.ensures c.index_mut-me.ensures.value c.in_ok-committed.ensures in
-    (weighs_entry c.self.inside _ _ _ refl _ _ false c.has_seat-open.result c.deref.result.now x c.if-open.false c.has_seat-open.ensures c.deref.ensures.value refl).kept
+    let x = allowed c.self.inside _ _ _ _
+    (Weighs c.in_ok-committed.committed c.in_ok-committed.place) c.self.invariant c.self.view_is
+    c.requires c.index.ensures c.index_mut-me.ensures.value c.in_ok-committed.ensures in
+    (weighs_entry c.self.inside _ _ _ refl _ _ false c.has_seat-open.result c.deref.result.now x
+    c.if-open.false c.has_seat-open.ensures c.deref.ensures.value refl).kept
 
 pub returns : goal.returns
 returns c =
-    let x = allowed c.self.inside _ _ _ _ (Weighs c.in_ok-committed.committed c.in_ok-committed.place) c.self.invariant c.self.view_is c.requires c.index.ensures c.index_mut-me.ensures.value c.in_ok-committed.ensures in
-    (weighs_entry c.self.inside _ _ _ refl _ _ false c.has_seat-open.result c.deref.result.now x c.if-open.false c.has_seat-open.ensures c.deref.ensures.value refl).step _ c.self.view_is
+    let x = allowed c.self.inside _ _ _ _
+    (Weighs c.in_ok-committed.committed c.in_ok-committed.place) c.self.invariant c.self.view_is
+    c.requires c.index.ensures c.index_mut-me.ensures.value c.in_ok-committed.ensures in
+    (weighs_entry c.self.inside _ _ _ refl _ _ false c.has_seat-open.result c.deref.result.now x
+    c.if-open.false c.has_seat-open.ensures c.deref.ensures.value refl).step _ c.self.view_is

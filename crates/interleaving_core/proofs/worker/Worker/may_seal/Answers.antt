@@ -4,10 +4,17 @@ use Rattle.interleaving_core.proofs.worker.Worker.may_seal.Goals as goal
 
 pub returns-in-Seated : goal.returns-in-Seated
 returns-in-Seated c =
-    let now = c.in-Some.holding.committed in
-    (Seated c.in-Seated.place c.in-Seated.field-1, (c.in-Some.is ∙ ap (λ p. Some record { committed = now; phase = p }) c.in-Seated.is, refl))
+    let now = c.in-Some.holding.committed in (
+      Seated c.in-Seated.place c.in-Seated.field-1,
+      (c.in-Some.is ∙ ap (λ p. Some record { committed = now; phase = p }) c.in-Seated.is, refl),
+    )
 
 pub returns-in-Scan : goal.returns-in-Scan
 returns-in-Scan c =
-    let now = c.in-Some.holding.committed in
-    (Scan c.in-Scan.place, (c.in-Some.is ∙ ap (λ p. Some record { committed = now; phase = p }) c.in-Scan.is, (refl, c.if-place-list_length.true ∙ c.list_length.ensures)))
+    let now = c.in-Some.holding.committed in (
+      Scan c.in-Scan.place,
+      (
+        c.in-Some.is ∙ ap (λ p. Some record { committed = now; phase = p }) c.in-Scan.is,
+        (refl, c.if-place-list_length.true ∙ c.list_length.ensures),
+      ),
+    )
