@@ -13,54 +13,72 @@ use Rattle.interleaving_core.specs.Runs.{IsStep, IsRun}
 use Rattle.interleaving_core.specs.Sound.{holds, seated, ViewFits, Sound}
 use Rattle.interleaving_core.proofs.Places.{sum_replicate, at_replicate, get_replicate}
 use Rattle.interleaving_core.proofs.OwnTurns.{own_nil}
-use Rattle.interleaving_core.proofs.ClaimantKeeps.{read_keeps, claim_by, post_keeps}
-use Rattle.interleaving_core.proofs.MarkKeeps.{take_by, look_keeps, weigh_keeps, seat_keeps, seal_keeps, release_keeps}
+use Rattle.interleaving_core.proofs.ClaimantKeeps.{read_keeps, claim_keeps, post_keeps}
+use Rattle.interleaving_core.proofs.MarkKeeps.{take_keeps, look_keeps, weigh_keeps, seat_keeps, seal_keeps, release_keeps}
 
 -- an allowed event keeps a sound state
 pub keeps : (d : Dictatorship) (c : Core) (i : ℕ) (v : View) (e : Action) → IsValidDictatorship d
     → Sound d c → slice_get c.views i ≡ Some v → Allowed d v e → Sound d (after d c i v e)
-keeps d c i v Claims valid = claim_by d c i v (nat_lt c.claim_number (turn_count d)) refl
+keeps d c i v Claims valid = claim_keeps d c i v (nat_lt c.claim_number (turn_count d)) refl
 keeps d c i v (Reads k j) valid = read_keeps d c i v k j
 keeps d c i v (Posts k j met) valid = post_keeps d c i v k j met
-keeps d c i v Takes valid = take_by d c i v c.mark_held refl
+keeps d c i v Takes valid = take_keeps d c i v c.mark_held refl
 keeps d c i v (Looks h) valid = look_keeps d c i v h
 keeps d c i v (Weighs h j) valid = weigh_keeps d c i v h j valid
 keeps d c i v (Seats h j) valid = seat_keeps d c i v h j valid
 keeps d c i v (Seals h j phase) valid = seal_keeps d c i v h j phase valid
 keeps d c i v (Releases h phase) valid = release_keeps d c i v h phase
 
+-- the opening is sound
 pub begins : (d : Dictatorship) (workers : ℕ) → IsValidDictatorship d → Sound d (opening d workers)
-begins d workers valid = record {
-  count = 0;
-  cells_count = length-replicate (length d.lists) Empty;
-  seats_count = valid.fills;
-  holders = sum_replicate holds workers fresh_view refl;
-  free = λ _. refl;
-  behind = omega arith;
-  within = omega arith;
-  below = λ k l. absurd (omega arith);
-  above = λ k l. ap is_committed (get_replicate (length d.lists) k Empty);
-  seats = λ p l. let z = sum_replicate (seated d p) workers fresh_view refl in
-      let t = taken-zero d p in omega arith;
-  posts = λ k j p. absurd
-      (let q : Empty ≡ Posted j = sym (get_replicate (length d.lists) k Empty) ∙ p in cc (q));
-  claimed = λ k l m. absurd (omega arith);
-  untouched = λ k l. get_replicate (length d.lists) k Empty;
-  few = omega arith;
-  each = λ i v at. subst (ViewFits d (opening d workers) 0)
-      (at_replicate workers i fresh_view v at) record {
-        drawn = λ k is. absurd (cc (is));
-        passed = λ k is. absurd (cc (is));
-        met = λ k is m. absurd (cc (is));
-        quiet = λ is. absurd (cc (is));
-        past = λ is. absurd (cc (is));
-        at_count = λ g is. absurd (cc (is));
-        phase = λ g is. absurd (cc (is));
-        own = own_nil d (opening d workers);
-        one_claim = λ g is. absurd (cc (is));
-        one_debt = λ is. absurd (cc (is));
-      };
-}
+begins d workers valid =
+    let n = length d.lists in
+    record {
+      count = 0;
+      mark =
+          record {
+            within = omega arith;
+            behind = omega arith;
+            free = λ _. refl;
+            holders = sum_replicate holds workers fresh_view refl;
+          };
+      cells =
+          record {
+            each_turn = length-replicate n Empty;
+            below = λ k l. absurd (omega arith);
+            above = λ k l. ap is_committed (get_replicate n k Empty);
+          };
+      seats =
+          record {
+            each_programme = valid.fills;
+            counts = λ p l.
+                let nobody = sum_replicate (seated d p) workers fresh_view refl in
+                let none = taken-zero d p in
+                omega arith;
+          };
+      posts = λ k j p.
+          let empty : Empty ≡ Posted j = sym (get_replicate n k Empty) ∙ p in absurd (cc (empty));
+      claims =
+          record {
+            claimed = λ k l m. absurd (omega arith);
+            untouched = λ k l. get_replicate n k Empty;
+            few = omega arith;
+          };
+      views = λ i v at.
+          subst (ViewFits d (opening d workers) 0) (at_replicate workers i fresh_view v at)
+          record {
+            one =
+                record {
+                  holder = λ h is. refl;
+                  debtor = λ is. absurd (cc (is));
+                  leaver = λ is. (refl, refl);
+                };
+            claim = λ k is. absurd (cc (is));
+            hold = λ g is. absurd (cc (is));
+            own = own_nil d (opening d workers);
+            past = λ is. absurd (cc (is));
+          };
+    }
 
 -- one step keeps a sound state
 pub step_keeps : (d : Dictatorship) (c e : Core) (i : ℕ) (event : CoreEvent) (told : Told)

@@ -33,7 +33,7 @@ cell_is : (s : Inside) (c : ℕ) (cell : Cell) → IsKept s → c < turn_count s
     → cell ≡ cell_at (machine_of s).core c
 cell_is s c cell k l at =
     let sound = k.sound in
-    let count = sound.cells_count in
+    let count = sound.cells.each_turn in
     let got = slice_get_read s.cells.items (length s.cells.items) c cell refl (omega arith) at in
     sym (get_or_from_slice_get s.cells.items c cell Empty got)
 

@@ -1,5 +1,5 @@
--- A machine that makes an event: the worker that makes it is the only one to change, so the state after
--- is the event's, and the machine stays sound with room for every turn.
+-- A machine that makes an event. The worker that makes it is the only one to change, so the state
+-- after it is the event's, and the machine stays sound, with room for every turn.
 use Rattle.std.proofs.Common.{◌≡◌, ℕ, suc, ◌+◌, ◌<◌, ◌≤◌, Bool, true, false, List, [], ◌∷◌, ◌++◌, Option, Some, None, length, length-append, eqb, map, set, get_or, replicate, ⊎_elim, refl, sym, ap, ◌∙◌, subst, arith, vec_capacity, length-set}
 use Rattle.std.specs.Prelude.{slice_get, option_map}
 use Rattle.std.proofs.lemmas.List.{map-set, length-map, map-append, length-replicate, replicate_more}
@@ -133,7 +133,7 @@ pub claims_small : (s : Inside) → IsKept s → s.claim_number ≤ 3500064
 claims_small s k =
     let c : Core = (machine_of s).core in
     let sound = k.sound in
-    let few = sound.few in
+    let few = sound.claims.few in
     let turns = k.valid.turns in
     let workers = k.few in
     let all = sum_by-le ends 1 c.views (λ i d l. bit_le (get_or c.views i d).done) in
@@ -160,7 +160,7 @@ pub has_room : (s : Inside) (i : ℕ) (w : Worker) → IsKept s → slice_get s.
     → s.claim_number < turn_count s.dict → length w.own.items < vec_capacity w.own
 has_room s i w k at new =
     let sound = k.sound in
-    let own = (sound.each i (view_of w) (views_at s.workers.items i w at)).own in
+    let own = (sound.views i (view_of w) (views_at s.workers.items i w at)).own in
     let room = k.room i w at in
     let short =
     rise_length w.own.items 0 s.claim_number (omega arith)
@@ -175,12 +175,13 @@ within s now i w k is l e =
     subst (λ (m : Machine). i < length m.core.views) (sym is) l in
     let at = reads_worker s.workers.items i w here e in
     let sound = k.sound in
-    let fits = sound.each i (view_of w) (views_at s.workers.items i w at) in
+    let fits = sound.views i (view_of w) (views_at s.workers.items i w at) in
     record {
       valid = k.valid;
-      claimed = λ x claim. (fits.drawn x claim).0;
+      claimed = λ x claim. (fits.claim x claim).turn;
       weighed = λ h j hold phase.
-          (subst (PhaseFits s.dict (machine_of s).core h.committed) phase (fits.phase h hold)).0.0;
+          (subst (PhaseFits s.dict (machine_of s).core h.committed) phase
+          (fits.hold h hold).phase).0.0;
     }
 
 -- what the state says of a worker's view
@@ -189,7 +190,7 @@ pub view_fits : (s : Inside) (i : ℕ) (w : Worker) → (k : IsKept s)
     → ViewFits s.dict (machine_of s).core (k.sound).count (view_of w)
 view_fits s i w k at =
     let sound = k.sound in
-    sound.each i (view_of w) (views_at s.workers.items i w at)
+    sound.views i (view_of w) (views_at s.workers.items i w at)
 
 -- an event that the worker's view refuses is not allowed
 pub refused : (s : Inside) (now : Machine) (i : ℕ) (w : Worker) (event : CoreEvent)
@@ -210,7 +211,7 @@ refused s now i w event is l e refuses =
 pub claim_within : (s : Inside) (i : ℕ) (w : Worker) (x : Claiming) → IsKept s
     → slice_get s.workers.items i ≡ Some w
     → w.claim ≡ Some x → x.turn < turn_count s.dict
-claim_within s i w x k at claim = ((view_fits s i w k at).drawn x claim).0
+claim_within s i w x k at claim = ((view_fits s i w k at).claim x claim).turn
 
 -- a worker that claims a turn has it among its own
 pub has_own : (s : Inside) (i : ℕ) (w : Worker) (x : Claiming) → IsKept s
@@ -232,7 +233,7 @@ pub ready_within : (s : Inside) (i : ℕ) (w : Worker) (c j : ℕ) → IsKept s
     → slice_get s.workers.items i ≡ Some w
     → w.hold ≡ hold_at c (Ready j) → (c < turn_count s.dict) × (j < length (list_at s.dict c))
 ready_within s i w c j k at hold =
-    let fits = (view_fits s i w k at).phase record { committed = c; phase = Ready j } hold in
+    let fits = ((view_fits s i w k at).hold record { committed = c; phase = Ready j } hold).phase in
     (fits.0.0, fits.1)
 
 -- the turn that is committed
@@ -240,7 +241,7 @@ pub sealed_within : (s : Inside) (i : ℕ) (w : Worker) (c j : ℕ) (phase : Pha
     → slice_get s.workers.items i ≡ Some w → Allowed s.dict (view_of w) (Seals c j phase)
     → c < turn_count s.dict
 sealed_within s i w c j phase k at ok =
-    by phase ok.1 ((view_fits s i w k at).phase record { committed = c; phase = phase } ok.0)
+    by phase ok.1 ((view_fits s i w k at).hold record { committed = c; phase = phase } ok.0).phase
   where
     by : (p : Phase) → CanSeal (length (list_at s.dict c)) j p
         → PhaseFits s.dict (machine_of s).core c p → c < turn_count s.dict
@@ -270,7 +271,7 @@ pub count_is : (s : Inside) (p n : ℕ) → IsKept s → p < length s.dict.quota
     → n ≡ get_or s.seats.items p 0
 count_is s p n k l at =
     let sound = k.sound in
-    let count = sound.seats_count in
+    let count = sound.seats.each_programme in
     let got = slice_get_read s.seats.items (length s.seats.items) p n refl (omega arith) at in
     sym (get_or_from_slice_get s.seats.items p n 0 got)
 
@@ -280,7 +281,7 @@ pub seats_small : (s : Inside) (p : ℕ) → IsKept s → p < length s.dict.quot
 seats_small s p k l =
     let c : Core = (machine_of s).core in
     let sound = k.sound in
-    let count = sound.seats p l in
+    let count = sound.seats.counts p l in
     let taken = taken-le-quota s.dict p (k.valid.filled p l) sound.count in
     let quota = k.valid.quotas p l in
     let all = sum_by-le (seated s.dict p) 1 c.views

@@ -1,130 +1,200 @@
--- What views know stays true where the state grows: claims and seat counts rise, and a cell is posted and
--- then committed, never the other way.
-use Rattle.std.proofs.Common.{◌≡◌, ℕ, ◌≤◌, Bool, false, set, Option, Some, None, nat_le, sym, refl, ap, ◌∙◌, arith}
+-- What views know stays true where the state grows: claims and seat counts rise, and a cell is
+-- posted and then committed, never the other way.
+use Rattle.std.proofs.Common.{◌≡◌, ◌≢◌, ℕ, ◌+◌, ◌≤◌, Bool, false, List, set, Option, Some, None, nat_le, sym, refl, ap, subst, ◌∙◌, arith}
 use Rattle.std.specs.Prelude.{slice_get}
 use Rattle.market.specs.Dictatorships.{Dictatorship}
+use Rattle.interleaving_core.specs.declared.parts.Cell.{Cell}
 use Rattle.interleaving_core.specs.declared.parts.Cell.TheVariants.{Posted}
 use Rattle.interleaving_core.specs.declared.parts.Claiming.{Claiming}
 use Rattle.interleaving_core.specs.declared.parts.Phase.{Phase}
 use Rattle.interleaving_core.specs.declared.parts.Phase.TheVariants.{Idle, Halted, Scan, Ready, Seated}
 use Rattle.interleaving_core.specs.declared.parts.Holding.{Holding}
-use Rattle.interleaving_core.specs.Core.{View, Core, entry, quota_of, seats_of, cell_at}
-use Rattle.interleaving_core.specs.Sound.{holds, ends, claims_turn, seated, PostedUpTo, PhaseFits, CellFrom, ViewFits, Sound}
+use Rattle.interleaving_core.specs.Core.{View, Core, entry, quota_of, seats_of, cell_at, claim_at, hold_at}
+use Rattle.interleaving_core.specs.Events.{with_claim, with_hold}
+use Rattle.interleaving_core.specs.Sound.{holds, ends, claims_turn, seated, PostedUpTo, PhaseFits, CellFrom, ClaimFits, HoldingFits, IsOneThing, ViewFits, MarkFits, SeatsFit, ClaimsFit, Sound}
 use Rattle.interleaving_core.proofs.Places.{each_set, sum_set}
 use Rattle.interleaving_core.proofs.OwnTurns.{own_stays}
 
-abbrev pub turn_in : Option Claiming → ℕ
-turn_in None = 0
-turn_in (Some x) = x.turn
+-- what holds of the value that is there
+pub at_some : {A : Type 0} (P : A → Type 0) (a : A) → P a → (b : A) → Some a ≡ Some b → P b
+at_some P a p b e = let is : a ≡ b = cc (e) in subst P is p
 
-abbrev pub passed_in : Option Claiming → ℕ
-passed_in None = 0
-passed_in (Some x) = x.passed
+-- ---- the state grows
 
-abbrev pub met_in : Option Claiming → Bool
-met_in None = false
-met_in (Some x) = x.met
+pub record Grows (c e : Core) : Type 0 where
+  pub more : c.claim_number ≤ e.claim_number
+  pub seats : (p : ℕ) → seats_of c p ≤ seats_of e p
+  pub cells : (k j : ℕ) → CellFrom (cell_at c k) j → CellFrom (cell_at e k) j
 
-abbrev pub count_in : Option Holding → ℕ
-count_in None = 0
-count_in (Some h) = h.committed
+pub claim_grows : (d : Dictatorship) (c e : Core) (x : Claiming) → Grows c e → ClaimFits d c x
+    → ClaimFits d e x
+claim_grows d c e x g f =
+    record {
+      turn = f.turn;
+      drawn = let more = g.more in let l = f.drawn in omega arith;
+      passed = f.passed;
+      full = λ i l. let full = f.full i l in let rise = g.seats (entry d x.turn i) in omega arith;
+      met = f.met;
+    }
 
-abbrev pub phase_in : Option Holding → Phase
-phase_in None = Idle
-phase_in (Some h) = h.phase
+-- what a view knows, where what it knows as holder is shown apart
+pub view_grows : (d : Dictatorship) (c e : Core) (count now : ℕ) (v : View) → Grows c e
+    → ((h : Holding) → v.hold ≡ Some h → HoldingFits d c count h → HoldingFits d e now h)
+    → ViewFits d c count v → ViewFits d e now v
+view_grows d c e count now v g holds f =
+    record {
+      one = f.one;
+      claim = λ x is. claim_grows d c e x g (f.claim x is);
+      hold = λ h is. holds h is (f.hold h is);
+      own = own_stays d c e v.own v.claim g.more g.cells f.own;
+      past = λ is. let more = g.more in let l = f.past is in omega arith;
+    }
 
-posted_stays : (d : Dictatorship) (c e : Core) (h j : ℕ)
-    → ((i : ℕ) → cell_at c h ≡ Posted i → cell_at e h ≡ Posted i) → PostedUpTo d c h j
+-- ---- what the holder weighs stays
+
+pub record Stays (c e : Core) (h : ℕ) : Type 0 where
+  pub seats : (p : ℕ) → seats_of e p ≡ seats_of c p
+  pub cell : (j : ℕ) → cell_at c h ≡ Posted j → cell_at e h ≡ Posted j
+
+posted_stays : (d : Dictatorship) (c e : Core) (h j : ℕ) → Stays c e h → PostedUpTo d c h j
     → PostedUpTo d e h j
-posted_stays d c e h j cell f = (f.0, (f.1.0, cell f.1.0 f.1.1, f.1.2))
+posted_stays d c e h j s f = (f.0, (f.1.0, s.cell f.1.0 f.1.1, f.1.2))
 
--- what the holder knows stays, where seats and its cell stay
-pub phase_stays : (d : Dictatorship) (c e : Core) (h : ℕ) (x : Phase)
-    → ((p : ℕ) → seats_of e p ≡ seats_of c p)
-    → ((j : ℕ) → cell_at c h ≡ Posted j → cell_at e h ≡ Posted j) → PhaseFits d c h x
+phase_stays : (d : Dictatorship) (c e : Core) (h : ℕ) (x : Phase) → Stays c e h → PhaseFits d c h x
     → PhaseFits d e h x
-phase_stays d c e h Idle seats cell f = tt
-phase_stays d c e h Halted seats cell f = tt
-phase_stays d c e h (Scan j) seats cell f = (
-  posted_stays d c e h j cell f.0,
+phase_stays d c e h Idle s f = tt
+phase_stays d c e h Halted s f = tt
+phase_stays d c e h (Scan j) s f = (
+  posted_stays d c e h j s f.0,
   f.1,
-  λ i l. let a = f.2 i l in let b = seats (entry d h i) in
-      omega arith,
+  λ i l. let full = f.2 i l in let same = s.seats (entry d h i) in omega arith,
 )
-phase_stays d c e h (Ready j) seats cell f = (posted_stays d c e h j cell f.0, f.1, f.2)
-phase_stays d c e h (Seated j b) seats cell f = (
-  posted_stays d c e h j cell f.0,
+phase_stays d c e h (Ready j) s f = (posted_stays d c e h j s f.0, f.1, f.2)
+phase_stays d c e h (Seated j b) s f = (
+  posted_stays d c e h j s f.0,
   f.1,
   f.2,
   f.3
-      ∙ ap (λ (n : ℕ). nat_le (quota_of d (entry d h j)) n) (sym (seats (entry d h j))),
+      ∙ ap (λ (n : ℕ). nat_le (quota_of d (entry d h j)) n) (sym (s.seats (entry d h j))),
 )
 
--- what others know stays, where claims and seats grow and the holder's word stays
-pub others_fit : (d : Dictatorship) (c e : Core) (count now : ℕ) (v : View)
-    → c.claim_number ≤ e.claim_number → ((p : ℕ) → seats_of c p ≤ seats_of e p)
-    → ((k j : ℕ) → CellFrom (cell_at c k) j → CellFrom (cell_at e k) j)
-    → ((h : Holding) → v.hold ≡ Some h → (now ≡ count)
-    × (PhaseFits d c h.committed h.phase → PhaseFits d e h.committed h.phase))
-    → ViewFits d c count v → ViewFits d e now v
-others_fit d c e count now v more grow cells same f = record {
-  drawn = λ x is. let a = f.drawn x is in (a.0, omega arith);
-  passed = λ x is. let a = f.passed x is in
-      (a.0, λ i l. let b = a.1 i l in let g = grow (entry d x.turn i) in omega arith);
-  met = f.met;
-  quiet = f.quiet;
-  past = λ is. let a = f.past is in omega arith;
-  at_count = λ h is. f.at_count h is ∙ sym (same h is).0;
-  phase = λ h is. (same h is).1 (f.phase h is);
-  own = own_stays d c e v.own v.claim more cells f.own;
-  one_claim = f.one_claim;
-  one_debt = f.one_debt;
-}
+pub holding_stays : (d : Dictatorship) (c e : Core) (count : ℕ) (h : Holding)
+    → Stays c e h.committed
+    → HoldingFits d c count h → HoldingFits d e count h
+holding_stays d c e count h s f =
+    record { committed = f.committed; phase = phase_stays d c e h.committed h.phase s f.phase }
 
--- a step that changes one view alone, and claims and holds as before
+-- what a holder of c turns knows in this phase
+pub holding_at : (d : Dictatorship) (e : Core) (count c : ℕ) (x : Phase) → c ≡ count
+    → PhaseFits d e c x
+    → (h : Holding) → hold_at c x ≡ Some h → HoldingFits d e count h
+holding_at d e count c x is f =
+    at_some (HoldingFits d e count) (record { committed = c; phase = x })
+    record { committed = is; phase = f }
+
+-- the holder's view after its event
+pub holder_fits : (d : Dictatorship) (c e : Core) (count now : ℕ) (v : View) (mine : Holding)
+    (hold : Option Holding) → Grows c e → ViewFits d c count v → v.hold ≡ Some mine
+    → ((h : Holding) → hold ≡ Some h → HoldingFits d e now h) → ViewFits d e now (with_hold v hold)
+holder_fits d c e count now v mine hold g f is holds =
+    record {
+      one =
+          record {
+            holder = λ h at. f.one.holder mine is;
+            debtor = λ owes. absurd (let none = (f.one.debtor owes).1 in cc (none, is));
+            leaver = f.one.leaver;
+          };
+      claim = λ x at. absurd (let none = f.one.holder mine is in cc (none, at));
+      hold = holds;
+      own = own_stays d c e v.own v.claim g.more g.cells f.own;
+      past = λ done. let more = g.more in let l = f.past done in omega arith;
+    }
+
+-- a claimant does one thing
+pub claimant_one : (v : View) (x : Claiming) (claim : Option Claiming) → v.claim ≡ Some x
+    → IsOneThing v
+    → IsOneThing (with_claim v claim)
+claimant_one v x claim is f =
+    record {
+      holder = λ h at. absurd (let none = f.holder h at in cc (none, is));
+      debtor = λ owes. absurd (let none = (f.debtor owes).0 in cc (none, is));
+      leaver = λ done. absurd (let none = (f.leaver done).0 in cc (none, is));
+    }
+
+-- ---- one view is replaced
+
+pub mark_stays : (d : Dictatorship) (held : Bool) (number : ℕ) (views : List View) (count i : ℕ)
+    (v w : View)
+    → slice_get views i ≡ Some v → holds w ≡ holds v → MarkFits d held number views count
+    → MarkFits d held number (set views i w) count
+mark_stays d held number views count i v w at same m =
+    record {
+      within = m.within;
+      behind = m.behind;
+      free = m.free;
+      holders = let t = sum_set holds views i v w at in let one = m.holders in omega arith;
+    }
+
+pub seats_stay : (d : Dictatorship) (seats : List ℕ) (views : List View) (count i : ℕ) (v w : View)
+    → slice_get views i ≡ Some v → ((p : ℕ) → seated d p w ≡ seated d p v)
+    → SeatsFit d seats views count → SeatsFit d seats (set views i w) count
+seats_stay d seats views count i v w at same s =
+    record {
+      each_programme = s.each_programme;
+      counts = λ p l.
+          let t = sum_set (seated d p) views i v w at in
+          let n = s.counts p l in
+          let e = same p in
+          omega arith;
+    }
+
+pub claims_stay : (d : Dictatorship) (number : ℕ) (cells : List Cell) (views : List View) (i : ℕ)
+    (v w : View)
+    → slice_get views i ≡ Some v → ((k : ℕ) → claims_turn k w ≡ claims_turn k v) → ends w ≡ ends v
+    → ClaimsFit d number cells views → ClaimsFit d number cells (set views i w)
+claims_stay d number cells views i v w at same same_end f =
+    record {
+      claimed = λ k l drawn.
+          let t = sum_set (claims_turn k) views i v w at in
+          let n = f.claimed k l drawn in
+          let e = same k in
+          omega arith;
+      untouched = f.untouched;
+      few = let t = sum_set ends views i v w at in let n = f.few in omega arith;
+    }
+
+-- all views, where what others know as holders is shown apart
+pub views_fit : (d : Dictatorship) (c e : Core) (count now i : ℕ) (w : View) → Grows c e
+    → ((j : ℕ) (u : View) → slice_get c.views j ≡ Some u → ViewFits d c count u)
+    → ((j : ℕ) (u : View) → j ≢ i → slice_get c.views j ≡ Some u → (h : Holding) → u.hold ≡ Some h
+    → HoldingFits d c count h → HoldingFits d e now h)
+    → ViewFits d e now w → (j : ℕ) (u : View) → slice_get (set c.views i w) j ≡ Some u
+    → ViewFits d e now u
+views_fit d c e count now i w g old others mine =
+    each_set (ViewFits d e now) c.views i w mine
+    (λ j u other at. view_grows d c e count now u g (others j u other at) (old j u at))
+
+-- an event that changes one view alone, and neither what it claims nor that it holds
 pub view_step : (d : Dictatorship) (c : Core) (s : Sound d c) (i : ℕ) (v w : View)
     → slice_get c.views i ≡ Some v → holds w ≡ holds v
-    → ((k : ℕ) → claims_turn k w ≡ claims_turn k v) → ends w ≡ ends v
-    → ((p : ℕ) → seated d p w ≡ seated d p v)
-    → ViewFits d c s.count w → Sound d record c { views = set c.views i w }
+    → ((k : ℕ) → claims_turn k w ≡ claims_turn k v)
+    → ends w ≡ ends v → ((p : ℕ) → seated d p w ≡ seated d p v) → ViewFits d c s.count w
+    → Sound d record c { views = set c.views i w }
 view_step d c s i v w at same_hold same_claim same_end same_seat fits =
     let e : Core = record c { views = set c.views i w } in
+    let g : Grows c e =
+    record { more = omega arith; seats = λ p. omega arith; cells = λ k j p. p } in
+    let stays : (h : ℕ) → Stays c e h = λ h. record { seats = λ p. refl; cell = λ j p. p } in
     record {
       count = s.count;
-      cells_count = s.cells_count;
-      seats_count = s.seats_count;
-      holders = omega (arith, sum_set holds c.views i v w at, s.holders);
-      free = s.free;
-      behind = s.behind;
-      within = s.within;
-      below = s.below;
-      above = s.above;
-      seats = λ p l. let t = sum_set (seated d p) c.views i v w at in let a = s.seats p l in
-          let b = same_seat p in omega arith;
+      mark = mark_stays d c.mark_held c.mark_number c.views s.count i v w at same_hold s.mark;
+      cells = s.cells;
+      seats = seats_stay d c.seats c.views s.count i v w at same_seat s.seats;
       posts = s.posts;
-      claimed = λ k l m. let t = sum_set (claims_turn k) c.views i v w at in
-          let a = s.claimed k l m in let b = same_claim k in omega arith;
-      untouched = s.untouched;
-      few = let t = sum_set ends c.views i v w at in let a = s.few in omega arith;
-      each = each_set (ViewFits d e s.count) c.views i w
-          record {
-            drawn = fits.drawn;
-            passed = fits.passed;
-            met = fits.met;
-            quiet = fits.quiet;
-            past = fits.past;
-            at_count = fits.at_count;
-            phase =
-                λ h is. phase_stays d c e h.committed h.phase (λ p. refl) (λ j p. p)
-                (fits.phase h is);
-            own =
-                own_stays d c e w.own w.claim (omega arith) (λ k j p. p) fits.own;
-            one_claim =
-                fits.one_claim;
-            one_debt = fits.one_debt;
-          }
-          (λ j u other there. others_fit d c e s.count s.count u (omega arith) (λ p. omega arith)
-          (λ k j p. p)
-          (λ h is. (refl, phase_stays d c e h.committed h.phase (λ p. refl) (λ j p. p)))
-          (s.each j u there));
+      claims = claims_stay d c.claim_number c.cells c.views i v w at same_claim same_end s.claims;
+      views =
+          views_fit d c e s.count s.count i w g s.views
+          (λ j u other there h is. holding_stays d c e s.count h (stays h.committed))
+          (view_grows d c e s.count s.count w g
+          (λ h is. holding_stays d c e s.count h (stays h.committed)) fits);
     }

@@ -14,8 +14,9 @@ use Rattle.interleaving_core.specs.declared.events.Told.{Told}
 use Rattle.interleaving_core.specs.declared.events.Told.TheVariants as tells
 use Rattle.interleaving_core.specs.Core.{View, Core, turn_count, entry, quota_of, seats_of, is_open, cell_at, claim_at, hold_at}
 
--- an event with what its condition finds in the worker's view: the turn k or the number c of committed
--- turns, the place j, and where the condition leaves a choice, which part of it holds
+-- an event with what its condition finds in the worker's view: the turn (k, or for a holder the
+-- number of committed turns, c), the place j, and, where the condition has two parts, which one
+-- holds
 pub data Action : Type 0 where
   Claims : Action
   Reads : ℕ → ℕ → Action

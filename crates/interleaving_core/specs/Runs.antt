@@ -28,8 +28,8 @@ IsRun d c [] e = e ≡ c
 IsRun d c (x ∷ xs) e = (told : Told) × (next : Core) × IsStep d c x.0 x.1 told next
     × IsRun d next xs e
 
--- what a machine answers to an event, and what becomes of it: the step where the event is allowed, and
--- else nothing changes
+-- what a machine answers to an event, and what becomes of it: the event's step where it is allowed,
+-- and else nothing changes
 abbrev pub Answers : Machine → ℕ → CoreEvent → Machine → Result Told NotNow → Type 0
 Answers old i event new result =
     MatchResult result

@@ -2,9 +2,9 @@
 
 ghost use Rattle.std.specs.Prelude.{◌≡◌, ℕ, ◌<◌, ◌≤◌, List, length, IfOk, OnErr, All, map, count_by};
 ghost use Rattle.market.specs.Dictatorships.{IsPrefixOf, choices};
-ghost use Rattle.interleaving_core.specs.Core.{opening, fresh_view, seats_of, cell_at, is_committed, turn_count};
+ghost use Rattle.interleaving_core.specs.Core.{opening, fresh_view, seats_of, cell_at, is_committed, committed_choices};
 ghost use Rattle.interleaving_core.specs.Runs.{IsStep, IsNotNow};
-ghost use Rattle.interleaving_core.specs.Sound.{Sound, committed_choices};
+ghost use Rattle.interleaving_core.specs.Sound.{Sound};
 
 // What a claimant does.
 mod claimant;
@@ -45,8 +45,8 @@ impl Model for CoreState {
 }
 
 impl CoreState {
-    /// The opening state of this dictatorship, for 1 to 64 workers. All memory that the machine ever
-    /// needs is taken here: for each worker as much as it needs to draw every turn.
+    /// The opening state of this dictatorship, for 1 to 64 workers. All memory that the machine
+    /// ever needs is taken here: for each worker as much as it needs to draw every turn.
     pub fn open(alloc: Global, dict: Dict, workers: u32) -> Result<CoreState, AllocError>
         requires some { 1 ≤ workers }
         requires few { workers ≤ 64 }
@@ -67,8 +67,8 @@ impl CoreState {
         })
     }
 
-    /// Makes one event of a worker, and says what it tells. It takes no memory. `NotNow` comes exactly
-    /// where the event's condition does not hold, and then the state is as it was.
+    /// Makes one event of a worker, and says what it tells. It takes no memory. `NotNow` comes
+    /// exactly where the event's condition does not hold, and then the state is as it was.
     pub fn step(&mut self, worker: u32, event: CoreEvent) -> Result<Told, NotNow>
         requires { worker < length self.old.core.views }
         ensures told { IfOk result (λ told.
@@ -93,8 +93,8 @@ impl CoreState {
         }
     }
 
-    /// How many turns are committed. The state is sound at every moment, so they are the first turns,
-    /// each with the choice that the dictatorship makes for it.
+    /// How many turns are committed. The state is sound at every moment, so they are the first
+    /// turns, each with the choice that the dictatorship makes for it.
     pub fn committed(&self) -> u32
         ensures count { result ≡ count_by is_committed self.now.core.cells }
         ensures prefix { IsPrefixOf (committed_choices self.now.core) (choices self.now.dict) }

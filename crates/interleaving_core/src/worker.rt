@@ -43,7 +43,8 @@ impl Worker {
     // Whether it may draw a turn.
     pub(crate) fn may_claim(&self) -> Result<(), NotNow>
         ensures { (d : Dictatorship) → MatchResult result
-            (λ _. Allowed d (view_of self.now) Claims) (λ _. Refuses d (view_of self.now) CoreEvent.Claim) }
+            (λ _. Allowed d (view_of self.now) Claims)
+            (λ _. Refuses d (view_of self.now) CoreEvent.Claim) }
     {
         if self.claim.is_none() && self.hold.is_none() && !self.done && !self.owes {
             Ok(())
@@ -55,7 +56,8 @@ impl Worker {
     // The claim of which it may read the next entry.
     pub(crate) fn may_read(&self, dict: &Dict) -> Result<Claiming, NotNow>
         requires { IsWithin dict.now (view_of self.now) }
-        ensures { MatchResult result (λ x. Allowed dict.now (view_of self.now) (Reads x.turn x.passed))
+        ensures { MatchResult result
+            (λ x. Allowed dict.now (view_of self.now) (Reads x.turn x.passed))
             (λ _. Refuses dict.now (view_of self.now) CoreEvent.Read) }
     {
         let Some(claim) = self.claim else {
@@ -86,7 +88,8 @@ impl Worker {
     // Whether it may try to take the mark.
     pub(crate) fn may_take(&self) -> Result<(), NotNow>
         ensures { (d : Dictatorship) → MatchResult result
-            (λ _. Allowed d (view_of self.now) Takes) (λ _. Refuses d (view_of self.now) CoreEvent.Take) }
+            (λ _. Allowed d (view_of self.now) Takes)
+            (λ _. Refuses d (view_of self.now) CoreEvent.Take) }
     {
         if self.claim.is_none() && self.hold.is_none() {
             Ok(())
@@ -142,7 +145,7 @@ impl Worker {
         }
     }
 
-    // The turn that it may commit, with the place and the phase.
+    // The turn that it may commit, and the place.
     pub(crate) fn may_seal(&self, dict: &Dict) -> Result<(u32, u32), NotNow>
         requires { IsWithin dict.now (view_of self.now) }
         ensures { MatchResult result

@@ -1,7 +1,7 @@
 use Rattle.std.proofs.Common.{subst}
 use Rattle.market.specs.Dictatorships.{IsPrefixOf, choices}
 use Rattle.interleaving_core.specs.Core.{Machine}
-use Rattle.interleaving_core.specs.Sound.{committed_choices}
+use Rattle.interleaving_core.specs.Core.{committed_choices}
 use Rattle.interleaving_core.proofs.Prefix.{committed_prefix}
 use Rattle.interleaving_core.proofs.state.CoreState.committed.Goals as goal
 

@@ -24,7 +24,7 @@ index_mut-requires c =
     let inside =
     (within c.self.inside _ _ _ c.self.invariant c.self.view_is c.requires
     c.index.ensures).claimed c.in_ok-claim.claim c.in_ok-claim.ensures.0 in
-    let cells = c.self.invariant.sound.cells_count in
+    let cells = c.self.invariant.sound.cells.each_turn in
     omega arith
 
 pub post-requires : goal.post-requires

@@ -26,7 +26,7 @@ index_mut-requires c =
     c.self.view_is c.requires c.index.ensures c.index.ensures c.in_ok-turn.ensures.1 in
     let inside =
     sealed_within c.self.inside _ _ _ _ c.in_ok-turn.ensures.0 c.self.invariant x.there x.ok in
-    let cells = c.self.invariant.sound.cells_count in
+    let cells = c.self.invariant.sound.cells.each_turn in
     omega arith
 
 pub overflow_add-turn : goal.overflow_add-turn
