@@ -14,7 +14,7 @@ use Rattle.interleaving_core.specs.declared.parts.Holding.{Holding}
 use Rattle.interleaving_core.specs.Core.{View, Core, turn_count, entry, quota_of, seats_of, is_open, cell_at, is_committed, claim_at}
 use Rattle.interleaving_core.specs.Events.{Claims, Reads, Posts, Allowed, claimed_if, with_claim, read_if, posted, after}
 use Rattle.interleaving_core.specs.Sound.{bit, is_claim_of, ends, claims_turn, empty_bit, FullBefore, CellFrom, OwnTurnsFit, ClaimFits, IsOneThing, Sound}
-use Rattle.interleaving_core.proofs.Places.{each_set, sum_set, term_le, sum_zero}
+use Rattle.interleaving_core.proofs.Places.{sum_set, term_le, sum_zero}
 use Rattle.interleaving_core.proofs.OwnTurns.{own_stays, own_moves, own_claimed, own_posted}
 use Rattle.interleaving_core.proofs.Views.{at_some, Grows, Stays, holding_stays, claimant_one, mark_stays, seats_stay, views_fit, view_step}
 

@@ -48,8 +48,7 @@ module _ (s : Inside) (i : ℕ) (w u : Worker) (room : vec_capacity u.own ≡ ve
       → view_of u ≡ claimed_if true (view_of w) s.claim_number
       → Acted s record s {
         claim_number = s.claim_number + 1;
-        workers =
-            with_item s.workers i u;
+        workers = with_item s.workers i u;
       } i Claim (tells.Claimed s.claim_number)
   draws_turn x left is =
       let k : ℕ = s.claim_number in
@@ -63,8 +62,7 @@ module _ (s : Inside) (i : ℕ) (w u : Worker) (room : vec_capacity u.own ≡ ve
       → view_of u ≡ claimed_if false (view_of w) s.claim_number
       → Acted s record s {
         claim_number = s.claim_number + 1;
-        workers =
-            with_item s.workers i u;
+        workers = with_item s.workers i u;
       } i Claim tells.NoTurn
   finds_no_turn x none is =
       let k : ℕ = s.claim_number in
@@ -92,14 +90,12 @@ module _ (s : Inside) (i : ℕ) (w u : Worker) (room : vec_capacity u.own ≡ ve
       → view_of u ≡ posted (view_of w) j
       → Acted s record s {
         cells = with_item s.cells k (Posted j);
-        workers =
-            with_item s.workers i u;
+        workers = with_item s.workers i u;
       } i Post (tells.Posted j)
   posts_turn k j met x is =
       acted s record s {
         cells = with_item s.cells k (Posted j);
-        workers =
-            with_item s.workers i u;
+        workers = with_item s.workers i u;
       } i w u (posted (view_of w) j) (Posts k j met) (tells.Posted j) x
       refl refl is room refl refl refl
 
@@ -169,8 +165,7 @@ module _ (s : Inside) (i : ℕ) (w u : Worker) (room : vec_capacity u.own ≡ ve
       → view_of u ≡ with_hold (view_of w) (hold_at c (Seated j filled))
       → Acted s record s {
         seats = with_item s.seats p (n + 1);
-        workers =
-            with_item s.workers i u;
+        workers = with_item s.workers i u;
       } i Seat (tells.Seated filled)
   takes_seat c j p n filled x which count test is =
       let q : ℕ = entry s.dict c j in
@@ -180,13 +175,11 @@ module _ (s : Inside) (i : ℕ) (w u : Worker) (room : vec_capacity u.own ≡ ve
       test ∙ (λ k. nat_le (quota_of s.dict (which k)) (read k + 1)) in
       let there : Acted s record s {
         seats = with_item s.seats q (m + 1);
-        workers =
-            with_item s.workers i u;
+        workers = with_item s.workers i u;
       } i Seat (tells.Seated filled) =
       acted s record s {
         seats = with_item s.seats q (m + 1);
-        workers =
-            with_item s.workers i u;
+        workers = with_item s.workers i u;
       } i w u
       (with_hold (view_of w) (hold_at c (Seated j (fills s.dict (machine_of s).core q))))
       (Seats c j) (tells.Seated filled) x
@@ -196,8 +189,7 @@ module _ (s : Inside) (i : ℕ) (w u : Worker) (room : vec_capacity u.own ≡ ve
       subst (λ (z : ℕ × ℕ).
       Acted s record s {
         seats = with_item s.seats z.0 (z.1 + 1);
-        workers =
-            with_item s.workers i u;
+        workers = with_item s.workers i u;
       } i Seat (tells.Seated filled))
       (λ k. (sym which k, sym read k)) there
 
@@ -205,14 +197,12 @@ module _ (s : Inside) (i : ℕ) (w u : Worker) (room : vec_capacity u.own ≡ ve
       → view_of u ≡ with_hold (view_of w) (hold_at (c + 1) Idle)
       → Acted s record s {
         cells = with_item s.cells c (Committed j);
-        workers =
-            with_item s.workers i u;
+        workers = with_item s.workers i u;
       } i Seal (tells.Sealed c)
   seals_turn c j phase x is =
       acted s record s {
         cells = with_item s.cells c (Committed j);
-        workers =
-            with_item s.workers i u;
+        workers = with_item s.workers i u;
       } i w u (with_hold (view_of w) (hold_at (c + 1) Idle))
       (Seals c j phase) (tells.Sealed c) x
       refl refl is room refl refl refl
@@ -222,15 +212,13 @@ module _ (s : Inside) (i : ℕ) (w u : Worker) (room : vec_capacity u.own ≡ ve
       → Acted s record s {
         mark_held = false;
         mark_number = c;
-        workers =
-            with_item s.workers i u;
+        workers = with_item s.workers i u;
       } i Release (tells.Released c)
   frees_mark c phase x is =
       acted s record s {
         mark_held = false;
         mark_number = c;
-        workers =
-            with_item s.workers i u;
+        workers = with_item s.workers i u;
       } i w u (with_hold (view_of w) None) (Releases c phase)
       (tells.Released c) x
       refl refl is room refl refl refl

@@ -116,8 +116,7 @@ acted s t i w u v a told x tells sets is room dict workers core =
               whose = whose;
               action = a;
               of_event = refl;
-              allowed =
-                  x.ok;
+              allowed = x.ok;
               tells = tells;
               leads = next;
             },

@@ -32,8 +32,7 @@ own_nil d c =
     record {
       each = λ i x at. absurd (cc (at));
       rise = λ i j x y at. absurd (cc (at));
-      last =
-          λ y e. absurd (cc (e));
+      last = λ y e. absurd (cc (e));
     }
 
 -- the claim of the same turn, at another place

@@ -1,6 +1,6 @@
 -- What views know stays true where the state grows: claims and seat counts rise, and a cell is
 -- posted and then committed, never the other way.
-use Rattle.std.proofs.Common.{◌≡◌, ◌≢◌, ℕ, ◌+◌, ◌≤◌, Bool, false, List, set, Option, Some, None, nat_le, sym, refl, ap, subst, ◌∙◌, arith}
+use Rattle.std.proofs.Common.{◌≡◌, ◌≢◌, ℕ, ◌≤◌, Bool, List, set, Option, Some, nat_le, sym, refl, ap, subst, ◌∙◌, arith}
 use Rattle.std.specs.Prelude.{slice_get}
 use Rattle.market.specs.Dictatorships.{Dictatorship}
 use Rattle.interleaving_core.specs.declared.parts.Cell.{Cell}
@@ -9,7 +9,7 @@ use Rattle.interleaving_core.specs.declared.parts.Claiming.{Claiming}
 use Rattle.interleaving_core.specs.declared.parts.Phase.{Phase}
 use Rattle.interleaving_core.specs.declared.parts.Phase.TheVariants.{Idle, Halted, Scan, Ready, Seated}
 use Rattle.interleaving_core.specs.declared.parts.Holding.{Holding}
-use Rattle.interleaving_core.specs.Core.{View, Core, entry, quota_of, seats_of, cell_at, claim_at, hold_at}
+use Rattle.interleaving_core.specs.Core.{View, Core, entry, quota_of, seats_of, cell_at, hold_at}
 use Rattle.interleaving_core.specs.Events.{with_claim, with_hold}
 use Rattle.interleaving_core.specs.Sound.{holds, ends, claims_turn, seated, PostedUpTo, PhaseFits, CellFrom, ClaimFits, HoldingFits, IsOneThing, ViewFits, MarkFits, SeatsFit, ClaimsFit, Sound}
 use Rattle.interleaving_core.proofs.Places.{each_set, sum_set}

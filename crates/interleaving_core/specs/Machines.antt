@@ -16,8 +16,7 @@ view_of w = record {
   own = w.own.items;
   done = w.done;
   owes = w.owes;
-  hold =
-      w.hold;
+  hold = w.hold;
 }
 
 -- the dictatorship is valid, and a turn that the worker claims or weighs is one of its turns

@@ -39,10 +39,8 @@ invariant_of-self-2 c =
     let me = c.index_mut-me.result.now in
     (draws_turn c.self.inside _ _ _ c.push_reserved.ensures.capacity x (omega arith)
     (λ k. record {
-      claim =
-          Some record { turn = c.self.inside.claim_number; passed = 0; met = false };
-      own =
-          c.push_reserved.ensures.items k;
+      claim = Some record { turn = c.self.inside.claim_number; passed = 0; met = false };
+      own = c.push_reserved.ensures.items k;
       done = me.done;
       owes = me.owes;
       hold = me.hold;
@@ -56,12 +54,9 @@ returns c =
     let me = c.index_mut-me.result.now in
     (draws_turn c.self.inside _ _ _ c.push_reserved.ensures.capacity x (omega arith)
     (λ k. record {
-      claim =
-          Some record { turn = c.self.inside.claim_number; passed = 0; met = false };
-      own =
-          c.push_reserved.ensures.items k;
+      claim = Some record { turn = c.self.inside.claim_number; passed = 0; met = false };
+      own = c.push_reserved.ensures.items k;
       done = me.done;
       owes = me.owes;
-      hold =
-          me.hold;
+      hold = me.hold;
     })).step _ c.self.view_is

@@ -20,7 +20,6 @@ invariant_of-result c =
       mark_held = false;
       mark_number = 0;
       seats = seats k;
-      cells =
-          cells k;
+      cells = cells k;
       views = team.views k;
     }) team

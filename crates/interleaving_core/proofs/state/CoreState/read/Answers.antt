@@ -25,8 +25,7 @@ has_seat-open-requires-clause-turn c =
     record {
       turn = c.in_ok-claim.claim.turn;
       passed = c.in_ok-claim.claim.passed;
-      met =
-          false;
+      met = false;
     } c.in_ok-claim.ensures.0
 
 pub invariant_of-self : goal.invariant_of-self
@@ -51,8 +50,7 @@ overflow_add-me c =
     (within c.self.inside _ _ _ c.self.invariant c.self.view_is c.requires
     c.index.ensures).claimed record {
       turn = c.in_ok-claim.claim.turn;
-      passed =
-          c.in_ok-claim.claim.passed;
+      passed = c.in_ok-claim.claim.passed;
       met = false;
     } c.in_ok-claim.ensures.0 in
     let short = list_short c.self.inside.dict c.in_ok-claim.claim.turn c.self.invariant.valid inside

@@ -25,8 +25,7 @@ has_seat-open-requires-clause-turn c =
     (within c.self.inside _ _ _ c.self.invariant c.self.view_is c.requires c.index.ensures).weighed
     record {
       committed = c.in_ok-committed.committed;
-      phase =
-          Scan c.in_ok-committed.place;
+      phase = Scan c.in_ok-committed.place;
     } c.in_ok-committed.place c.in_ok-committed.ensures.0 refl
 
 pub invariant_of-self : goal.invariant_of-self
@@ -51,8 +50,7 @@ overflow_add-me c =
     (within c.self.inside _ _ _ c.self.invariant c.self.view_is c.requires
     c.index.ensures).weighed record {
       committed = c.in_ok-committed.committed;
-      phase =
-          Scan c.in_ok-committed.place;
+      phase = Scan c.in_ok-committed.place;
     } c.in_ok-committed.place c.in_ok-committed.ensures.0 refl in
     let short = list_short c.self.inside.dict c.in_ok-committed.committed c.self.invariant.valid
     inside in

@@ -12,6 +12,5 @@ returns-clause-view c =
       own = own k;
       done = c.args.self.now.done;
       owes = true;
-      hold =
-          c.args.self.now.hold;
+      hold = c.args.self.now.hold;
     }
