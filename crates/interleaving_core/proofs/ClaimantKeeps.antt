@@ -12,21 +12,21 @@ use Rattle.interleaving_core.specs.declared.parts.Cell.TheVariants.{Empty, Poste
 use Rattle.interleaving_core.specs.declared.parts.Claiming.{Claiming}
 use Rattle.interleaving_core.specs.declared.parts.Holding.{Holding}
 use Rattle.interleaving_core.specs.Core.{View, Core, turn_count, entry, quota_of, seats_of, is_open, cell_at, is_committed, claim_at}
-use Rattle.interleaving_core.specs.Events.{Claims, Reads, Posts, Allowed, claimed_if, with_claim, read_if, posted, after}
-use Rattle.interleaving_core.specs.Sound.{bit, is_claim_of, ends, claims_turn, empty_bit, FullBefore, CellFrom, OwnTurnsFit, ClaimFits, IsOneThing, Sound}
+use Rattle.interleaving_core.specs.Events.{Claims, Reads, Posts, Allowed, after_claim_if, with_claim, after_read, after_post, after}
+use Rattle.interleaving_core.specs.Sound.{bit, turn_bit, done_bit, claim_bit, empty_bit, FullBefore, CellFrom, OwnTurnsFit, ClaimFits, DoesOneThing, Sound}
 use Rattle.interleaving_core.proofs.Places.{sum_set, term_le, sum_zero}
 use Rattle.interleaving_core.proofs.OwnTurns.{own_stays, own_moves, own_claimed, own_posted}
 use Rattle.interleaving_core.proofs.Views.{at_some, Grows, Stays, holding_stays, claimant_one, mark_stays, seats_stay, views_fit, view_step}
 
 -- no view claims a turn that was not drawn
 unclaimed : (d : Dictatorship) (c : Core) (s : Sound d c) (k : ℕ) → c.claim_number ≤ k
-    → sum_by (claims_turn k) c.views ≡ 0
+    → sum_by (claim_bit k) c.views ≡ 0
 unclaimed d c s k far =
-    sum_zero (claims_turn k) c.views
+    sum_zero (claim_bit k) c.views
     (λ i v at. not_at v.claim (λ x is. ((s.views i v at).claim x is).drawn))
   where
     not_at : (o : Option Claiming) → ((x : Claiming) → o ≡ Some x → x.turn < c.claim_number)
-        → is_claim_of k o ≡ 0
+        → turn_bit k o ≡ 0
     not_at None h = refl
     not_at (Some x) h = let drawn = h x refl in ap bit (ne_eqb k x.turn (λ e. omega arith))
 
@@ -41,7 +41,7 @@ draw_stays c views h = record { seats = λ p. refl; cell = λ j p. p }
 
 -- who may draw does nothing else
 free_one : (d : Dictatorship) (v : View) (k : ℕ) → Allowed d v Claims
-    → IsOneThing (claimed_if true v k)
+    → DoesOneThing (after_claim_if true v k)
 free_one d v k ok =
     record {
       holder = λ h is. absurd (cc (ok.1, is));
@@ -50,7 +50,7 @@ free_one d v k ok =
     }
 
 done_one : (d : Dictatorship) (v : View) (k : ℕ) → Allowed d v Claims
-    → IsOneThing (claimed_if false v k)
+    → DoesOneThing (after_claim_if false v k)
 done_one d v k ok =
     record {
       holder = λ h is. absurd (cc (ok.1, is));
@@ -63,12 +63,12 @@ pub claim_keeps : (d : Dictatorship) (c : Core) (i : ℕ) (v : View) (b : Bool)
     → Allowed d v Claims
     → Sound d record c {
       claim_number = c.claim_number + 1;
-      views = set c.views i (claimed_if b v c.claim_number);
+      views = set c.views i (after_claim_if b v c.claim_number);
     }
 claim_keeps d c i v true drawn s at ok =
     let n : ℕ = c.claim_number in
     let inside : n < turn_count d = ltb-true n (turn_count d) drawn in
-    let w : View = claimed_if true v n in
+    let w : View = after_claim_if true v n in
     let e : Core = record c { claim_number = n + 1; views = set c.views i w } in
     let g : Grows c e = draw_grows c (set c.views i w) in
     let f = s.views i v at in
@@ -82,23 +82,24 @@ claim_keeps d c i v true drawn s at ok =
       claims =
           record {
             claimed = λ k l m.
-                let t = sum_set (claims_turn k) c.views i v w at in
-                let zero : is_claim_of k v.claim ≡ 0 = ap (is_claim_of k) ok.0 in
+                let t = sum_set (claim_bit k) c.views i v w at in
+                let zero : turn_bit k v.claim ≡ 0 = ap (turn_bit k) ok.0 in
                 dite (ℕ_discrete k n)
                 (λ is.
-                let one : is_claim_of k w.claim ≡ 1 = ap bit (eq-eqb k n is) in
+                let one : turn_bit k w.claim ≡ 1 = ap bit (eq-eqb k n is) in
                 let nobody = unclaimed d c s k (omega arith) in
                 let empty = ap empty_bit (s.claims.untouched k (omega arith)) in
                 omega arith)
                 (λ other.
-                let none : is_claim_of k w.claim ≡ 0 = ap bit (ne_eqb k n other) in
+                let none : turn_bit k w.claim ≡ 0 = ap bit (ne_eqb k n other) in
                 let was = s.claims.claimed k l (omega arith) in
                 omega arith);
             untouched = λ k l. s.claims.untouched k (omega arith);
             few =
-                let t = sum_set ends c.views i v w at in
+                let t = sum_set done_bit c.views i v w at in
                 let few = s.claims.few in
-                let same : sum_by ends c.views ≡ sum_by ends (set c.views i w) = omega arith in
+                let same : sum_by done_bit c.views ≡ sum_by done_bit (set c.views i w) =
+                omega arith in
                 omega arith;
           };
       views =
@@ -124,7 +125,7 @@ claim_keeps d c i v true drawn s at ok =
 claim_keeps d c i v false drawn s at ok =
     let n : ℕ = c.claim_number in
     let beyond : turn_count d ≤ n = ltb-false n (turn_count d) drawn in
-    let w : View = claimed_if false v n in
+    let w : View = after_claim_if false v n in
     let e : Core = record c { claim_number = n + 1; views = set c.views i w } in
     let g : Grows c e = draw_grows c (set c.views i w) in
     let f = s.views i v at in
@@ -137,12 +138,12 @@ claim_keeps d c i v false drawn s at ok =
       claims =
           record {
             claimed = λ k l m.
-                let t = sum_set (claims_turn k) c.views i v w at in
+                let t = sum_set (claim_bit k) c.views i v w at in
                 let was = s.claims.claimed k l (omega arith) in
                 omega arith;
             untouched = λ k l. s.claims.untouched k (omega arith);
             few =
-                let t = sum_set ends c.views i v w at in
+                let t = sum_set done_bit c.views i v w at in
                 let few = s.claims.few in
                 let not_done : bit v.done ≡ 0 = ap bit ok.2 in
                 omega arith;
@@ -178,7 +179,7 @@ read_keeps d c i v k j s at ok = by (is_open d c (entry d k j)) refl
     reads passed met fits =
         let f = s.views i v at in
         let claim = claim_at k passed met in
-        view_step d c s i v (with_claim v claim) at refl (λ x. sym (ap (is_claim_of x) ok.0)) refl
+        view_step d c s i v (with_claim v claim) at refl (λ x. sym (ap (turn_bit x) ok.0)) refl
         (λ p. refl)
         record {
           one = claimant_one v mine claim ok.0 f.one;
@@ -189,7 +190,7 @@ read_keeps d c i v k j s at ok = by (is_open d c (entry d k j)) refl
         }
 
     by : (b : Bool) → is_open d c (entry d k j) ≡ b
-        → Sound d record c { views = set c.views i (read_if b v k j) }
+        → Sound d record c { views = set c.views i (after_read b v k j) }
     by true is =
         reads j true record {
           turn = was.turn;
@@ -221,9 +222,9 @@ claimed_open : (d : Dictatorship) (c : Core) (s : Sound d c) (i : ℕ) (v : View
     → slice_get c.views i ≡ Some v → v.claim ≡ Some x → cell_at c x.turn ≡ Empty
 claimed_open d c s i v x at is =
     let f = (s.views i v at).claim x is in
-    let one : is_claim_of x.turn v.claim ≡ 1 =
-    ap (is_claim_of x.turn) is ∙ ap bit (eq-eqb x.turn x.turn refl) in
-    let most = term_le (claims_turn x.turn) c.views i v at in
+    let one : turn_bit x.turn v.claim ≡ 1 =
+    ap (turn_bit x.turn) is ∙ ap bit (eq-eqb x.turn x.turn refl) in
+    let most = term_le (claim_bit x.turn) c.views i v at in
     let was = s.claims.claimed x.turn f.turn f.drawn in
     bounded (cell_at c x.turn) (omega arith)
   where
@@ -244,7 +245,7 @@ pub post_keeps : (d : Dictatorship) (c : Core) (i : ℕ) (v : View) (k j : ℕ) 
     → slice_get c.views i ≡ Some v → Allowed d v (Posts k j met)
     → Sound d (after d c i v (Posts k j met))
 post_keeps d c i v k j met s at ok =
-    let w : View = posted v j in
+    let w : View = after_post v j in
     let e : Core = after d c i v (Posts k j met) in
     let f = s.views i v at in
     let mine : Claiming = record { turn = k; passed = j; met = met } in
@@ -304,24 +305,25 @@ post_keeps d c i v k j met s at ok =
       claims =
           record {
             claimed = λ x l m.
-                let t = sum_set (claims_turn x) c.views i v w at in
+                let t = sum_set (claim_bit x) c.views i v w at in
                 let was = s.claims.claimed x l m in
                 dite (ℕ_discrete x k)
                 (λ is.
-                let one : is_claim_of x v.claim ≡ 1 =
-                ap (is_claim_of x) ok.0 ∙ ap bit (eq-eqb x k is) in
+                let one : turn_bit x v.claim ≡ 1 =
+                ap (turn_bit x) ok.0 ∙ ap bit (eq-eqb x k is) in
                 let now : empty_bit (cell_at e x) ≡ 0 = ap empty_bit (ap (cell_at e) is ∙ here) in
                 let before : empty_bit (cell_at c x) ≡ 1 =
                 ap empty_bit (ap (cell_at c) is ∙ empty) in
                 omega arith)
                 (λ n.
-                let none : is_claim_of x v.claim ≡ 0 =
-                ap (is_claim_of x) ok.0 ∙ ap bit (ne_eqb x k n) in
+                let none : turn_bit x v.claim ≡ 0 =
+                ap (turn_bit x) ok.0 ∙ ap bit (ne_eqb x k n) in
                 let same : empty_bit (cell_at e x) ≡ empty_bit (cell_at c x) =
                 ap empty_bit (else_ x n) in
                 omega arith);
             untouched = λ x l. else_ x (λ is. omega arith) ∙ s.claims.untouched x l;
-            few = let t = sum_set ends c.views i v w at in let few = s.claims.few in omega arith;
+            few = let t = sum_set done_bit c.views i v w at in let few = s.claims.few in
+                omega arith;
           };
       views =
           views_fit d c e s.count s.count i w g s.views

@@ -9,7 +9,7 @@ use Rattle.interleaving_core.specs.declared.parts.Phase.TheVariants.{Idle, Halte
 use Rattle.interleaving_core.specs.declared.parts.Holding.{Holding}
 use Rattle.interleaving_core.specs.Core.{View, Core, fresh_view, entry, seats_of, hold_at}
 use Rattle.interleaving_core.specs.Events.{CanSeal}
-use Rattle.interleaving_core.specs.Sound.{bit, some_bit, holds, seated_in, seated_by, seated, seats_after, PostedUpTo, PhaseFits, Sound}
+use Rattle.interleaving_core.specs.Sound.{bit, some_bit, hold_bit, phase_seat_bit, holder_seat_bit, seat_bit, seats_after, PostedUpTo, PhaseFits, Sound}
 use Rattle.interleaving_core.proofs.Places.{each_set, sum_set, terms_le, term_le, sum_zero}
 use Rattle.interleaving_core.proofs.Choices.{choice_is, takes_seat, takes_none}
 
@@ -20,7 +20,7 @@ pub lone : (d : Dictatorship) (c : Core) (s : Sound d c) (i : ℕ) (v : View)
 lone d c s i v at h is j u other there g its =
     let a : some_bit v.hold ≡ 1 = ap some_bit is in
     let b : some_bit u.hold ≡ 1 = ap some_bit its in
-    let two = terms_le holds c.views i j v u other at there in
+    let two = terms_le hold_bit c.views i j v u other at there in
     let one = s.mark.holders in
     let most = bit_le c.mark_held in
     omega arith
@@ -34,7 +34,7 @@ pub held_is : (d : Dictatorship) (c : Core) (s : Sound d c) (i : ℕ) (v : View)
     → slice_get c.views i ≡ Some v → (h : Holding) → v.hold ≡ Some h → c.mark_held ≡ true
 held_is d c s i v at h is =
     let a : some_bit v.hold ≡ 1 = ap some_bit is in
-    let t = term_le holds c.views i v at in
+    let t = term_le hold_bit c.views i v at in
     let one = s.mark.holders in
     up c.mark_held (omega arith)
   where
@@ -45,25 +45,26 @@ held_is d c s i v at h is =
 -- what is seated is what the holder seated
 pub seated_is : (d : Dictatorship) (c : Core) (s : Sound d c) (i : ℕ) (v : View)
     → slice_get c.views i ≡ Some v → (h : Holding) → v.hold ≡ Some h → (p : ℕ)
-    → sum_by (seated d p) c.views ≡ seated_in d p h.committed h.phase
+    → sum_by (seat_bit d p) c.views ≡ phase_seat_bit d p h.committed h.phase
 seated_is d c s i v at h is p =
     let views = set c.views i fresh_view in
-    let t = sum_set (seated d p) c.views i v fresh_view at in
-    let mine : seated d p v ≡ seated_in d p h.committed h.phase = ap (seated_by d p) is in
-    let rest : sum_by (seated d p) views ≡ 0 =
-    sum_zero (seated d p) views
-    (each_set (λ u. seated d p u ≡ 0) c.views i fresh_view refl
+    let t = sum_set (seat_bit d p) c.views i v fresh_view at in
+    let mine : seat_bit d p v ≡ phase_seat_bit d p h.committed h.phase =
+    ap (holder_seat_bit d p) is in
+    let rest : sum_by (seat_bit d p) views ≡ 0 =
+    sum_zero (seat_bit d p) views
+    (each_set (λ u. seat_bit d p u ≡ 0) c.views i fresh_view refl
     (λ j u other there. nobody u.hold (lone d c s i v at h is j u other there))) in
     omega arith
   where
-    nobody : (o : Option Holding) → ((g : Holding) → o ≡ Some g → ⊥) → seated_by d p o ≡ 0
+    nobody : (o : Option Holding) → ((g : Holding) → o ≡ Some g → ⊥) → holder_seat_bit d p o ≡ 0
     nobody None n = refl
     nobody (Some g) n = absurd (n g refl)
 
 -- where the holder has seated nobody, the seats are those of the committed turns
 pub seats_now : (d : Dictatorship) (c : Core) (s : Sound d c) (i : ℕ) (v : View)
     → slice_get c.views i ≡ Some v → (h : Holding) → v.hold ≡ Some h
-    → ((p : ℕ) → seated_in d p h.committed h.phase ≡ 0) → (p : ℕ) → p < length d.quota
+    → ((p : ℕ) → phase_seat_bit d p h.committed h.phase ≡ 0) → (p : ℕ) → p < length d.quota
     → seats_of c p ≡ seats_after d h.committed p
 seats_now d c s i v at h is none p l =
     let n = s.seats.counts p l in

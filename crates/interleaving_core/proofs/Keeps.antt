@@ -10,7 +10,7 @@ use Rattle.interleaving_core.specs.declared.events.Told.{Told}
 use Rattle.interleaving_core.specs.Core.{View, Core, fresh_view, opening, turn_count, is_committed}
 use Rattle.interleaving_core.specs.Events.{Action, Claims, Reads, Posts, Takes, Looks, Weighs, Seats, Seals, Releases, Allowed, after}
 use Rattle.interleaving_core.specs.Runs.{IsStep, IsRun}
-use Rattle.interleaving_core.specs.Sound.{holds, seated, ViewFits, Sound}
+use Rattle.interleaving_core.specs.Sound.{hold_bit, seat_bit, ViewFits, Sound}
 use Rattle.interleaving_core.proofs.Places.{sum_replicate, at_replicate, get_replicate}
 use Rattle.interleaving_core.proofs.OwnTurns.{own_nil}
 use Rattle.interleaving_core.proofs.ClaimantKeeps.{read_keeps, claim_keeps, post_keeps}
@@ -40,7 +40,7 @@ begins d workers valid =
             within = omega arith;
             behind = omega arith;
             free = λ _. refl;
-            holders = sum_replicate holds workers fresh_view refl;
+            holders = sum_replicate hold_bit workers fresh_view refl;
           };
       cells =
           record {
@@ -52,7 +52,7 @@ begins d workers valid =
           record {
             each_programme = valid.fills;
             counts = λ p l.
-                let nobody = sum_replicate (seated d p) workers fresh_view refl in
+                let nobody = sum_replicate (seat_bit d p) workers fresh_view refl in
                 let none = taken-zero d p in
                 omega arith;
           };

@@ -17,9 +17,9 @@ use Rattle.interleaving_core.specs.declared.events.Told.{Told}
 use Rattle.interleaving_core.specs.declared.worker.Worker.{Worker}
 use Rattle.interleaving_core.specs.declared.state.CoreState.TheInside.{Inside}
 use Rattle.interleaving_core.specs.Core.{View, Core, Machine, fresh_view, opening, turn_count, entry, hold_at}
-use Rattle.interleaving_core.specs.Events.{Action, event_of, Seals, CanSeal, Allowed, Refuses, after, told_by}
+use Rattle.interleaving_core.specs.Events.{Action, event_of, Seals, CanSeal, Allowed, Refuses, view_after, words_after, after, told_by}
 use Rattle.interleaving_core.specs.Runs.{IsStep, IsNotNow}
-use Rattle.interleaving_core.specs.Sound.{bit, ends, seated_in, seated_by, seated, PhaseFits, ViewFits, Sound}
+use Rattle.interleaving_core.specs.Sound.{bit, done_bit, phase_seat_bit, holder_seat_bit, seat_bit, PhaseFits, ViewFits, Sound}
 use Rattle.interleaving_core.specs.Machines.{view_of, machine_of, IsKept, IsTeam, IsWithin}
 use Rattle.interleaving_core.proofs.Places.{each_set, at_snoc}
 use Rattle.interleaving_core.proofs.Keeps.{keeps, begins}
@@ -70,25 +70,25 @@ pub record Acted (s t : Inside) (i : ℕ) (event : CoreEvent) (told : Told) : Ty
   pub step : (now : Machine) → machine_of s ≡ now
       → (t.dict ≡ now.dict) × IsStep now.dict now.core i event told (machine_of t).core
 
--- the worker i makes the action: its view becomes v, and the rest is as the action says
-pub acted : (s t : Inside) (i : ℕ) (w u : Worker) (v : View) (a : Action) (told : Told)
-    → IsAllowed s i w a
+-- the worker i makes the action: its view and the words become those after it
+pub acted : (s t : Inside) (i : ℕ) (w u : Worker) (a : Action) (told : Told) → IsAllowed s i w a
     → told ≡ told_by s.dict (machine_of s).core a
-    → (after s.dict (machine_of s).core i (view_of w) a).views ≡ set (machine_of s).core.views i v
-    → view_of u ≡ v → vec_capacity u.own ≡ vec_capacity w.own → t.dict ≡ s.dict
+    → view_of u ≡ view_after s.dict (machine_of s).core (view_of w) a
+    → vec_capacity u.own ≡ vec_capacity w.own → t.dict ≡ s.dict
     → t.workers.items ≡ set s.workers.items i u
-    → (machine_of t).core ≡ record
-    (after s.dict (machine_of s).core i (view_of w) a) { views = map view_of t.workers.items }
+    → (machine_of t).core ≡ record (words_after s.dict (machine_of s).core a) {
+      views = map view_of t.workers.items;
+    }
     → Acted s t i (event_of a) told
-acted s t i w u v a told x tells sets is room dict workers core =
+acted s t i w u a told x tells is room dict workers core =
     let c : Core = (machine_of s).core in
     let ws = s.workers.items in
     let e : Core = after s.dict c i (view_of w) a in
     let views : map view_of t.workers.items ≡ e.views =
     ap (map view_of) workers ∙ map-set view_of ws i u
-    ∙ ap (λ (x : View). set (map view_of ws) i x) is ∙ sym sets in
-    let next : (machine_of t).core ≡ e = core
-    ∙ ap (λ (l : List View). record e { views = l }) views in
+    ∙ ap (λ (v : View). set (map view_of ws) i v) is in
+    let next : (machine_of t).core ≡ e =
+    core ∙ ap (λ (l : List View). record (words_after s.dict c a) { views = l }) views in
     let whose = views_at ws i w x.there in
     let sound = keeps s.dict c i (view_of w) a x.kept.valid x.kept.sound whose x.ok in
     record {
@@ -98,7 +98,9 @@ acted s t i w u v a told x tells sets is room dict workers core =
             sound =
                 subst (λ (d : Dictatorship). Sound d (machine_of t).core) (sym dict)
                 (subst (Sound s.dict) (sym next) sound);
-            few = let few = x.kept.few in let long = ap (λ (l : List Worker). length l) workers in
+            few =
+                let few = x.kept.few in
+                let same = ap (λ (l : List Worker). length l) workers in
                 omega (arith, length-set ws i u);
             room = λ j y there.
                 let turns = ap (λ (d : Dictatorship). turn_count d) dict in
@@ -108,8 +110,10 @@ acted s t i w u v a told x tells sets is room dict workers core =
                 (ap (λ (l : List Worker). slice_get l j) (sym workers) ∙ there);
           };
       step = λ now now_is.
-          subst (λ (m : Machine). (t.dict ≡ m.dict)
-          × IsStep m.dict m.core i (event_of a) told (machine_of t).core) now_is (
+          subst
+          (λ (m : Machine). (t.dict ≡ m.dict)
+          × IsStep m.dict m.core i (event_of a) told (machine_of t).core)
+          now_is (
             dict,
             record {
               view = view_of w;
@@ -135,7 +139,7 @@ claims_small s k =
     let few = sound.claims.few in
     let turns = k.valid.turns in
     let workers = k.few in
-    let all = sum_by-le ends 1 c.views (λ i d l. bit_le (get_or c.views i d).done) in
+    let all = sum_by-le done_bit 1 c.views (λ i d l. bit_le (get_or c.views i d).done) in
     let count = length-map s.workers.items view_of in
     omega arith
 
@@ -250,17 +254,17 @@ sealed_within s i w c j phase k at ok =
     by (Ready n) can fits = absurd can
     by (Seated n b) can fits = fits.0.0
 
-seated_le : (d : Dictatorship) (p : ℕ) (v : View) → seated d p v ≤ 1
+seated_le : (d : Dictatorship) (p : ℕ) (v : View) → seat_bit d p v ≤ 1
 seated_le d p v = by v.hold
   where
-    within_phase : (c : ℕ) (x : Phase) → seated_in d p c x ≤ 1
+    within_phase : (c : ℕ) (x : Phase) → phase_seat_bit d p c x ≤ 1
     within_phase c Idle = omega arith
     within_phase c Halted = omega arith
     within_phase c (Scan j) = omega arith
     within_phase c (Ready j) = omega arith
     within_phase c (Seated j b) = bit_le (eqb (entry d c j) p)
 
-    by : (o : Option Holding) → seated_by d p o ≤ 1
+    by : (o : Option Holding) → holder_seat_bit d p o ≤ 1
     by None = omega arith
     by (Some h) = within_phase h.committed h.phase
 
@@ -283,7 +287,7 @@ seats_small s p k l =
     let count = sound.seats.counts p l in
     let taken = taken-le-quota s.dict p (k.valid.filled p l) sound.count in
     let quota = k.valid.quotas p l in
-    let all = sum_by-le (seated s.dict p) 1 c.views
+    let all = sum_by-le (seat_bit s.dict p) 1 c.views
     (λ i d m. seated_le s.dict p (get_or c.views i d)) in
     let workers = k.few in
     let views = length-map s.workers.items view_of in

@@ -12,8 +12,8 @@ use Rattle.interleaving_core.specs.declared.parts.Phase.{Phase}
 use Rattle.interleaving_core.specs.declared.parts.Phase.TheVariants.{Idle, Halted, Scan, Ready, Seated}
 use Rattle.interleaving_core.specs.declared.parts.Holding.{Holding}
 use Rattle.interleaving_core.specs.Core.{View, Core, turn_count, entry, quota_of, seats_of, is_open, cell_at, is_committed, hold_at}
-use Rattle.interleaving_core.specs.Events.{Takes, Looks, Weighs, Seats, Seals, Releases, CanRelease, Allowed, with_hold, took, looked, weighed_if, fills, after}
-use Rattle.interleaving_core.specs.Sound.{bit, some_bit, holds, ends, claims_turn, empty_bit, seated_in, seated_by, seated, PhaseFits, CellFrom, IsOneThing, Sound}
+use Rattle.interleaving_core.specs.Events.{Takes, Looks, Weighs, Seats, Seals, Releases, CanRelease, Allowed, with_hold, after_take, phase_after_look, phase_after_weigh, is_last_seat, after}
+use Rattle.interleaving_core.specs.Sound.{bit, some_bit, hold_bit, done_bit, claim_bit, empty_bit, phase_seat_bit, holder_seat_bit, seat_bit, PhaseFits, CellFrom, DoesOneThing, Sound}
 use Rattle.interleaving_core.proofs.Places.{sum_set}
 use Rattle.interleaving_core.proofs.OwnTurns.{own_stays}
 use Rattle.interleaving_core.proofs.Choices.{choice_is}
@@ -40,16 +40,16 @@ calm_stays c e h seats cells =
 -- ---- a try on the mark
 
 -- who may try neither claims nor holds, and owes nothing once it has tried
-tried_one : (v : View) (hold : Option Holding) → v.claim ≡ None → IsOneThing v
-    → IsOneThing record v { owes = false; hold = hold }
+tried_one : (v : View) (hold : Option Holding) → v.claim ≡ None → DoesOneThing v
+    → DoesOneThing record v { owes = false; hold = hold }
 tried_one v hold none f =
     record { holder = λ h is. none; debtor = λ is. absurd (cc (is)); leaver = λ is. (none, refl) }
 
 pub take_keeps : (d : Dictatorship) (c : Core) (i : ℕ) (v : View) (b : Bool) → c.mark_held ≡ b
     → Sound d c → slice_get c.views i ≡ Some v → Allowed d v Takes
-    → Sound d record c { mark_held = true; views = set c.views i (took v b c.mark_number) }
+    → Sound d record c { mark_held = true; views = set c.views i (after_take v b c.mark_number) }
 take_keeps d c i v true was s at ok =
-    let w : View = took v true c.mark_number in
+    let w : View = after_take v true c.mark_number in
     let e : Core = record c { mark_held = true; views = set c.views i w } in
     let g : Grows c e = calm c e refl refl refl in
     let f = s.views i v at in
@@ -61,7 +61,7 @@ take_keeps d c i v true was s at ok =
             behind = s.mark.behind;
             free = λ no. absurd (cc (no));
             holders =
-                let t = sum_set holds c.views i v w at in
+                let t = sum_set hold_bit c.views i v w at in
                 let one = s.mark.holders in
                 let held : bit c.mark_held ≡ 1 = ap bit was in
                 omega arith;
@@ -83,7 +83,7 @@ take_keeps d c i v true was s at ok =
           };
     }
 take_keeps d c i v false was s at ok =
-    let w : View = took v false c.mark_number in
+    let w : View = after_take v false c.mark_number in
     let e : Core = record c { mark_held = true; views = set c.views i w } in
     let g : Grows c e = calm c e refl refl refl in
     let f = s.views i v at in
@@ -95,7 +95,7 @@ take_keeps d c i v false was s at ok =
             behind = s.mark.behind;
             free = λ no. absurd (cc (no));
             holders =
-                let t = sum_set holds c.views i v w at in
+                let t = sum_set hold_bit c.views i v w at in
                 let none = s.mark.holders in
                 let free : bit c.mark_held ≡ 0 = ap bit was in
                 let not_mine : some_bit v.hold ≡ 0 = ap some_bit ok.1 in
@@ -103,7 +103,7 @@ take_keeps d c i v false was s at ok =
           };
       cells = s.cells;
       seats = seats_stay d c.seats c.views s.count i v w at
-          (λ p. sym (ap (seated_by d p) ok.1)) s.seats;
+          (λ p. sym (ap (holder_seat_bit d p) ok.1)) s.seats;
       posts = s.posts;
       claims = claims_stay d c.claim_number c.cells c.views i v w at (λ k. refl) refl s.claims;
       views =
@@ -125,28 +125,28 @@ take_keeps d c i v false was s at ok =
 phase_step : (d : Dictatorship) (c : Core) (i : ℕ) (v : View) (h : ℕ) (was now : Phase)
     → (s : Sound d c)
     → slice_get c.views i ≡ Some v → v.hold ≡ hold_at h was
-    → ((p : ℕ) → seated_in d p h now ≡ seated_in d p h was) → PhaseFits d c h now
+    → ((p : ℕ) → phase_seat_bit d p h now ≡ phase_seat_bit d p h was) → PhaseFits d c h now
     → Sound d record c { views = set c.views i (with_hold v (hold_at h now)) }
 phase_step d c i v h was now s at hold same fits =
     let mine : Holding = record { committed = h; phase = was } in
     let f = s.views i v at in
     view_step d c s i v (with_hold v (hold_at h now)) at (sym (ap some_bit hold)) (λ k. refl) refl
-    (λ p. same p ∙ sym (ap (seated_by d p) hold))
+    (λ p. same p ∙ sym (ap (holder_seat_bit d p) hold))
     (holder_fits d c c s.count s.count v mine (hold_at h now) (calm c c refl refl refl) f hold
     (holding_at d c s.count h now (f.hold mine hold).committed fits))
 
 pub look_keeps : (d : Dictatorship) (c : Core) (i : ℕ) (v : View) (h : ℕ) → Sound d c
     → slice_get c.views i ≡ Some v → Allowed d v (Looks h) → Sound d (after d c i v (Looks h))
 look_keeps d c i v h s at ok =
-    phase_step d c i v h Idle (looked (cell_at c h)) s at ok.0 (λ p. none p (cell_at c h))
+    phase_step d c i v h Idle (phase_after_look (cell_at c h)) s at ok.0 (λ p. none p (cell_at c h))
     (found (cell_at c h) refl)
   where
-    none : (p : ℕ) (x : Cell) → seated_in d p h (looked x) ≡ 0
+    none : (p : ℕ) (x : Cell) → phase_seat_bit d p h (phase_after_look x) ≡ 0
     none p Empty = refl
     none p (Posted j) = refl
     none p (Committed j) = refl
 
-    found : (x : Cell) → cell_at c h ≡ x → PhaseFits d c h (looked x)
+    found : (x : Cell) → cell_at c h ≡ x → PhaseFits d c h (phase_after_look x)
     found Empty e = tt
     found (Committed j) e = tt
     found (Posted j) e = let post = s.posts h j e in ((ok.1, (j, e, omega arith)), post.0, post.1)
@@ -163,7 +163,10 @@ weigh_keeps d c i v h j valid s at ok = by (is_open d c (entry d h j)) refl
     was = ((s.views i v at).hold mine ok.0).phase
 
     by : (b : Bool) → is_open d c (entry d h j) ≡ b
-        → Sound d record c { views = set c.views i (with_hold v (hold_at h (weighed_if b j))) }
+        → Sound d record c {
+          views =
+              set c.views i (with_hold v (hold_at h (phase_after_weigh b j)));
+        }
     by true is =
         let free = ltb-true (seats_of c (entry d h j)) (quota_of d (entry d h j)) is in
         let now = seats_now d c s i v at mine ok.0 (λ p. refl) in
@@ -198,7 +201,7 @@ pub seat_keeps : (d : Dictatorship) (c : Core) (i : ℕ) (v : View) (h j : ℕ) 
     → Sound d (after d c i v (Seats h j))
 seat_keeps d c i v h j valid s at ok =
     let q : ℕ = entry d h j in
-    let filled : Bool = fills d c q in
+    let filled : Bool = is_last_seat d c q in
     let w : View = with_hold v (hold_at h (Seated j filled)) in
     let e : Core = after d c i v (Seats h j) in
     let f = s.views i v at in
@@ -229,9 +232,9 @@ seat_keeps d c i v h j valid s at ok =
           record {
             each_programme = length-set c.seats q (seats_of c q + 1) ∙ wide;
             counts = λ p l.
-                let t = sum_set (seated d p) c.views i v w at in
+                let t = sum_set (seat_bit d p) c.views i v w at in
                 let n = s.seats.counts p l in
-                let zero : seated d p v ≡ 0 = ap (seated_by d p) ok in
+                let zero : seat_bit d p v ≡ 0 = ap (holder_seat_bit d p) ok in
                 dite (ℕ_discrete p q)
                 (λ is.
                 let one : bit (eqb q p) ≡ 1 = ap bit (eq-eqb q p (sym is)) in
@@ -295,7 +298,7 @@ seal_keeps d c i v h j phase valid s at ok =
             behind = let behind = s.mark.behind in omega arith;
             free = λ no. absurd (let held = held_is d c s i v at mine ok.0 in cc (no, held));
             holders =
-                let t = sum_set holds c.views i v w at in
+                let t = sum_set hold_bit c.views i v w at in
                 let one = s.mark.holders in
                 let mine_too : some_bit v.hold ≡ 1 = ap some_bit ok.0 in
                 omega arith;
@@ -315,10 +318,11 @@ seal_keeps d c i v h j phase valid s at ok =
           record {
             each_programme = s.seats.each_programme;
             counts = λ p l.
-                let t = sum_set (seated d p) c.views i v w at in
+                let t = sum_set (seat_bit d p) c.views i v w at in
                 let n = turn.seats p l in
                 let all = seated_is d c s i v at mine ok.0 p in
-                let taken : seated d p v ≡ seated_in d p h phase = ap (seated_by d p) ok.0 in
+                let taken : seat_bit d p v ≡ phase_seat_bit d p h phase =
+                ap (holder_seat_bit d p) ok.0 in
                 omega arith;
           };
       posts = λ x y p.
@@ -330,7 +334,7 @@ seal_keeps d c i v h j phase valid s at ok =
       claims =
           record {
             claimed = λ x l m.
-                let t = sum_set (claims_turn x) c.views i v w at in
+                let t = sum_set (claim_bit x) c.views i v w at in
                 let was_claimed = s.claims.claimed x l m in
                 dite (ℕ_discrete x h)
                 (λ is.
@@ -351,7 +355,8 @@ seal_keeps d c i v h j phase valid s at ok =
                 let empty = ap empty_bit (s.claims.untouched x l) in
                 omega arith)
                 ∙ s.claims.untouched x l;
-            few = let t = sum_set ends c.views i v w at in let few = s.claims.few in omega arith;
+            few = let t = sum_set done_bit c.views i v w at in let few = s.claims.few in
+                omega arith;
           };
       views =
           views_fit d c e s.count (suc h) i w g s.views
@@ -361,7 +366,7 @@ seal_keeps d c i v h j phase valid s at ok =
     }
 
 -- where the mark is given back nobody is seated
-freed : (d : Dictatorship) (p n h : ℕ) (x : Phase) → CanRelease n h x → seated_in d p h x ≡ 0
+freed : (d : Dictatorship) (p n h : ℕ) (x : Phase) → CanRelease n h x → phase_seat_bit d p h x ≡ 0
 freed d p n h Idle r = refl
 freed d p n h Halted r = refl
 freed d p n h (Scan j) r = refl
@@ -386,7 +391,7 @@ release_keeps d c i v h phase s at ok =
             behind = omega arith;
             free = λ _. now;
             holders =
-                let t = sum_set holds c.views i v w at in
+                let t = sum_set hold_bit c.views i v w at in
                 let one = s.mark.holders in
                 let was_mine : some_bit v.hold ≡ 1 = ap some_bit ok.0 in
                 let held : bit c.mark_held ≡ 1 = ap bit (held_is d c s i v at mine ok.0) in
@@ -395,7 +400,8 @@ release_keeps d c i v h phase s at ok =
       cells = s.cells;
       seats =
           seats_stay d c.seats c.views s.count i v w at
-          (λ p. sym (ap (seated_by d p) ok.0 ∙ freed d p (turn_count d) h phase ok.1)) s.seats;
+          (λ p. sym (ap (holder_seat_bit d p) ok.0
+          ∙ freed d p (turn_count d) h phase ok.1)) s.seats;
       posts = s.posts;
       claims = claims_stay d c.claim_number c.cells c.views i v w at (λ k. refl) refl s.claims;
       views =

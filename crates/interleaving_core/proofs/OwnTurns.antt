@@ -8,7 +8,7 @@ use Rattle.interleaving_core.specs.declared.parts.Cell.TheVariants.{Posted}
 use Rattle.interleaving_core.specs.declared.parts.Claiming.{Claiming}
 use Rattle.interleaving_core.specs.declared.parts.OwnTurn.{OwnTurn}
 use Rattle.interleaving_core.specs.Core.{Core, turn_count, claim_at, cell_at}
-use Rattle.interleaving_core.specs.Events.{placed}
+use Rattle.interleaving_core.specs.Events.{with_place}
 use Rattle.interleaving_core.specs.Sound.{CellFrom, OwnTurnFits, OwnTurnsFit}
 use Rattle.interleaving_core.proofs.Places.{at_snoc, at_longer, at_last}
 
@@ -95,7 +95,7 @@ own_claimed d c e own found new more inside cells f = record {
 }
 
 placed_snoc : (xs : List OwnTurn) (x : OwnTurn) (j : ℕ)
-    → placed (xs ++ x ∷ []) j ≡ xs ++ record { turn = x.turn; place = Some j } ∷ []
+    → with_place (xs ++ x ∷ []) j ≡ xs ++ record { turn = x.turn; place = Some j } ∷ []
 placed_snoc [] x j = refl
 placed_snoc (y ∷ []) x j = refl
 placed_snoc (y ∷ z ∷ zs) x j = ap (λ l. y ∷ l) (placed_snoc (z ∷ zs) x j)
@@ -104,13 +104,13 @@ placed_snoc (y ∷ z ∷ zs) x j = ap (λ l. y ∷ l) (placed_snoc (z ∷ zs) x 
 pub own_posted : (d : Dictatorship) (c e : Core) (own : List OwnTurn) (k j : ℕ) (met : Bool)
     → k < turn_count d → k < e.claim_number → c.claim_number ≤ e.claim_number
     → cell_at e k ≡ Posted j → ((x i : ℕ) → CellFrom (cell_at c x) i → CellFrom (cell_at e x) i)
-    → OwnTurnsFit d c own (claim_at k j met) → OwnTurnsFit d e (placed own j) None
+    → OwnTurnsFit d c own (claim_at k j met) → OwnTurnsFit d e (with_place own j) None
 own_posted d c e own k j met inside drawn more here cells f =
     let t = f.last record { turn = k; passed = j; met = met } refl in
     let before : List OwnTurn = t.0 in
     let old : OwnTurn = record { turn = k; place = None } in
     let new : OwnTurn = record { turn = k; place = Some j } in
-    let is : placed own j ≡ before ++ new ∷ [] = ap (λ (l : List OwnTurn). placed l j) t.1
+    let is : with_place own j ≡ before ++ new ∷ [] = ap (λ (l : List OwnTurn). with_place l j) t.1
     ∙ placed_snoc before old j in
     let in_own : (i : ℕ) (x : OwnTurn) → slice_get before i ≡ Some x → slice_get own i ≡ Some x =
     λ i x at. ap (λ (l : List OwnTurn). slice_get l i) t.1
@@ -142,7 +142,7 @@ own_posted d c e own k j met inside drawn more here cells f =
 -- writing the last own turn's place, where the own turns are kept in a vector
 pub placed_at : (own : List OwnTurn) (i : ℕ) (x : OwnTurn) (j : ℕ) → i + 1 ≡ length own
     → x ≡ get_or own i x
-    → set own i record { turn = x.turn; place = Some j } ≡ placed own j
+    → set own i record { turn = x.turn; place = Some j } ≡ with_place own j
 placed_at [] i x j end at = absurd (omega arith)
 placed_at (y ∷ []) zero x j end at =
     ap (λ (z : OwnTurn). record { turn = z.turn; place = Some j } ∷ []) at

@@ -11,7 +11,7 @@ use Rattle.interleaving_core.specs.declared.parts.Phase.TheVariants.{Idle, Halte
 use Rattle.interleaving_core.specs.declared.parts.Holding.{Holding}
 use Rattle.interleaving_core.specs.Core.{View, Core, entry, quota_of, seats_of, cell_at, hold_at}
 use Rattle.interleaving_core.specs.Events.{with_claim, with_hold}
-use Rattle.interleaving_core.specs.Sound.{holds, ends, claims_turn, seated, PostedUpTo, PhaseFits, CellFrom, ClaimFits, HoldingFits, IsOneThing, ViewFits, MarkFits, SeatsFit, ClaimsFit, Sound}
+use Rattle.interleaving_core.specs.Sound.{hold_bit, done_bit, claim_bit, seat_bit, PostedUpTo, PhaseFits, CellFrom, ClaimFits, HoldingFits, DoesOneThing, ViewFits, MarkFits, SeatsFit, ClaimsFit, Sound}
 use Rattle.interleaving_core.proofs.Places.{each_set, sum_set}
 use Rattle.interleaving_core.proofs.OwnTurns.{own_stays}
 
@@ -112,8 +112,8 @@ holder_fits d c e count now v mine hold g f is holds =
 
 -- a claimant does one thing
 pub claimant_one : (v : View) (x : Claiming) (claim : Option Claiming) → v.claim ≡ Some x
-    → IsOneThing v
-    → IsOneThing (with_claim v claim)
+    → DoesOneThing v
+    → DoesOneThing (with_claim v claim)
 claimant_one v x claim is f =
     record {
       holder = λ h at. absurd (let none = f.holder h at in cc (none, is));
@@ -125,24 +125,24 @@ claimant_one v x claim is f =
 
 pub mark_stays : (d : Dictatorship) (held : Bool) (number : ℕ) (views : List View) (count i : ℕ)
     (v w : View)
-    → slice_get views i ≡ Some v → holds w ≡ holds v → MarkFits d held number views count
+    → slice_get views i ≡ Some v → hold_bit w ≡ hold_bit v → MarkFits d held number views count
     → MarkFits d held number (set views i w) count
 mark_stays d held number views count i v w at same m =
     record {
       within = m.within;
       behind = m.behind;
       free = m.free;
-      holders = let t = sum_set holds views i v w at in let one = m.holders in omega arith;
+      holders = let t = sum_set hold_bit views i v w at in let one = m.holders in omega arith;
     }
 
 pub seats_stay : (d : Dictatorship) (seats : List ℕ) (views : List View) (count i : ℕ) (v w : View)
-    → slice_get views i ≡ Some v → ((p : ℕ) → seated d p w ≡ seated d p v)
+    → slice_get views i ≡ Some v → ((p : ℕ) → seat_bit d p w ≡ seat_bit d p v)
     → SeatsFit d seats views count → SeatsFit d seats (set views i w) count
 seats_stay d seats views count i v w at same s =
     record {
       each_programme = s.each_programme;
       counts = λ p l.
-          let t = sum_set (seated d p) views i v w at in
+          let t = sum_set (seat_bit d p) views i v w at in
           let n = s.counts p l in
           let e = same p in
           omega arith;
@@ -150,17 +150,18 @@ seats_stay d seats views count i v w at same s =
 
 pub claims_stay : (d : Dictatorship) (number : ℕ) (cells : List Cell) (views : List View) (i : ℕ)
     (v w : View)
-    → slice_get views i ≡ Some v → ((k : ℕ) → claims_turn k w ≡ claims_turn k v) → ends w ≡ ends v
+    → slice_get views i ≡ Some v → ((k : ℕ) → claim_bit k w ≡ claim_bit k v)
+    → done_bit w ≡ done_bit v
     → ClaimsFit d number cells views → ClaimsFit d number cells (set views i w)
 claims_stay d number cells views i v w at same same_end f =
     record {
       claimed = λ k l drawn.
-          let t = sum_set (claims_turn k) views i v w at in
+          let t = sum_set (claim_bit k) views i v w at in
           let n = f.claimed k l drawn in
           let e = same k in
           omega arith;
       untouched = f.untouched;
-      few = let t = sum_set ends views i v w at in let n = f.few in omega arith;
+      few = let t = sum_set done_bit views i v w at in let n = f.few in omega arith;
     }
 
 -- all views, where what others know as holders is shown apart
@@ -176,9 +177,9 @@ views_fit d c e count now i w g old others mine =
 
 -- an event that changes one view alone, and neither what it claims nor that it holds
 pub view_step : (d : Dictatorship) (c : Core) (s : Sound d c) (i : ℕ) (v w : View)
-    → slice_get c.views i ≡ Some v → holds w ≡ holds v
-    → ((k : ℕ) → claims_turn k w ≡ claims_turn k v)
-    → ends w ≡ ends v → ((p : ℕ) → seated d p w ≡ seated d p v) → ViewFits d c s.count w
+    → slice_get c.views i ≡ Some v → hold_bit w ≡ hold_bit v
+    → ((k : ℕ) → claim_bit k w ≡ claim_bit k v)
+    → done_bit w ≡ done_bit v → ((p : ℕ) → seat_bit d p w ≡ seat_bit d p v) → ViewFits d c s.count w
     → Sound d record c { views = set c.views i w }
 view_step d c s i v w at same_hold same_claim same_end same_seat fits =
     let e : Core = record c { views = set c.views i w } in

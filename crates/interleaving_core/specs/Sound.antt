@@ -27,35 +27,35 @@ empty_bit Empty = 1
 empty_bit _ = 0
 
 -- 1 for a view that holds the mark
-abbrev pub holds : View → ℕ
-holds v = some_bit v.hold
+abbrev pub hold_bit : View → ℕ
+hold_bit v = some_bit v.hold
 
 -- 1 for a view that is done
-abbrev pub ends : View → ℕ
-ends v = bit v.done
+abbrev pub done_bit : View → ℕ
+done_bit v = bit v.done
 
 -- 1 for a claim of turn k
-abbrev pub is_claim_of : ℕ → Option Claiming → ℕ
-is_claim_of k None = 0
-is_claim_of k (Some x) = bit (k == x.turn)
+abbrev pub turn_bit : ℕ → Option Claiming → ℕ
+turn_bit k None = 0
+turn_bit k (Some x) = bit (k == x.turn)
 
 -- 1 for a view that claims turn k
-abbrev pub claims_turn : ℕ → View → ℕ
-claims_turn k v = is_claim_of k v.claim
+abbrev pub claim_bit : ℕ → View → ℕ
+claim_bit k v = turn_bit k v.claim
 
 -- 1 where a seat of p is taken in this phase for a turn c that is not committed yet
-abbrev pub seated_in : Dictatorship → ℕ → ℕ → Phase → ℕ
-seated_in d p c (Seated j filled) = bit (entry d c j == p)
-seated_in d p c _ = 0
+abbrev pub phase_seat_bit : Dictatorship → ℕ → ℕ → Phase → ℕ
+phase_seat_bit d p c (Seated j filled) = bit (entry d c j == p)
+phase_seat_bit d p c _ = 0
 
 -- the same for what a holder knows
-abbrev pub seated_by : Dictatorship → ℕ → Option Holding → ℕ
-seated_by d p None = 0
-seated_by d p (Some h) = seated_in d p h.committed h.phase
+abbrev pub holder_seat_bit : Dictatorship → ℕ → Option Holding → ℕ
+holder_seat_bit d p None = 0
+holder_seat_bit d p (Some h) = phase_seat_bit d p h.committed h.phase
 
 -- the same for a view
-abbrev pub seated : Dictatorship → ℕ → View → ℕ
-seated d p v = seated_by d p v.hold
+abbrev pub seat_bit : Dictatorship → ℕ → View → ℕ
+seat_bit d p v = holder_seat_bit d p v.hold
 
 -- the seats of p that the fill and the first k turns take
 abbrev pub seats_after : Dictatorship → ℕ → ℕ → ℕ
@@ -116,14 +116,14 @@ pub record HoldingFits (d : Dictatorship) (c : Core) (count : ℕ) (h : Holding)
   pub phase : PhaseFits d c h.committed h.phase
 
 -- a worker claims, owes or holds, but no two of these; a done one neither claims nor owes
-pub record IsOneThing (v : View) : Type 0 where
+pub record DoesOneThing (v : View) : Type 0 where
   pub holder : (h : Holding) → v.hold ≡ Some h → v.claim ≡ None
   pub debtor : v.owes ≡ true → (v.claim ≡ None) × (v.hold ≡ None)
   pub leaver : v.done ≡ true → (v.claim ≡ None) × (v.owes ≡ false)
 
 -- a view fits a state in which count turns are committed
 pub record ViewFits (d : Dictatorship) (c : Core) (count : ℕ) (v : View) : Type 0 where
-  pub one : IsOneThing v
+  pub one : DoesOneThing v
   pub claim : (x : Claiming) → v.claim ≡ Some x → ClaimFits d c x
   pub hold : (h : Holding) → v.hold ≡ Some h → HoldingFits d c count h
   pub own : OwnTurnsFit d c v.own v.claim
@@ -136,7 +136,7 @@ pub record MarkFits (d : Dictatorship) (held : Bool) (number : ℕ) (views : Lis
   pub within : count ≤ turn_count d
   pub behind : number ≤ count
   pub free : held ≡ false → number ≡ count
-  pub holders : sum_by holds views ≡ bit held
+  pub holders : sum_by hold_bit views ≡ bit held
 
 -- there is a cell for each turn; the first ones are committed with their choices, and no other is
 pub record CellsFit (d : Dictatorship) (cells : List Cell) (count : ℕ) : Type 0 where
@@ -150,7 +150,7 @@ pub record SeatsFit (d : Dictatorship) (seats : List ℕ) (views : List View)
     (count : ℕ) : Type 0 where
   pub each_programme : length seats ≡ length d.quota
   pub counts : (p : ℕ) → p < length d.quota
-      → slice_index seats p ≡ seats_after d count p + sum_by (seated d p) views
+      → slice_index seats p ≡ seats_after d count p + sum_by (seat_bit d p) views
 
 -- a posted place is one of the list or its length, and what lies before it is full
 abbrev pub PostsFit : Dictatorship → Core → Type 0
@@ -162,9 +162,9 @@ PostsFit d c =
 pub record ClaimsFit (d : Dictatorship) (claim_number : ℕ) (cells : List Cell)
     (views : List View) : Type 0 where
   pub claimed : (k : ℕ) → k < turn_count d → k < claim_number
-      → sum_by (claims_turn k) views ≡ empty_bit (slice_index_or cells k Empty)
+      → sum_by (claim_bit k) views ≡ empty_bit (slice_index_or cells k Empty)
   pub untouched : (k : ℕ) → claim_number ≤ k → slice_index_or cells k Empty ≡ Empty
-  pub few : claim_number ≤ turn_count d + sum_by ends views
+  pub few : claim_number ≤ turn_count d + sum_by done_bit views
 
 -- the state is sound: `count` is the true number of committed turns, and all fits it
 pub record Sound (d : Dictatorship) (c : Core) : Type 0 where

@@ -5,7 +5,7 @@ ghost use Rattle.market.specs.Dictatorships.{Dictatorship};
 ghost use Rattle.interleaving_core.specs.declared.events.CoreEvent.{CoreEvent};
 ghost use Rattle.interleaving_core.specs.declared.parts.Phase.{Phase};
 ghost use Rattle.interleaving_core.specs.Core.{fresh_view};
-ghost use Rattle.interleaving_core.specs.Events.{Claims, Reads, Posts, Takes, Looks, Weighs, Seats, Seals, Releases, Allowed, Refuses, posted};
+ghost use Rattle.interleaving_core.specs.Events.{Claims, Reads, Posts, Takes, Looks, Weighs, Seats, Seals, Releases, Allowed, Refuses, after_post};
 
 use crate::entries::list_length;
 use crate::events::NotNow;
@@ -182,7 +182,7 @@ impl Worker {
     // Posts its claim at this place.
     pub(crate) fn post(&mut self, place: u32)
         requires { 0 < vec_len self.old.own }
-        ensures view { view_of self.new ≡ posted (view_of self.old) place }
+        ensures view { view_of self.new ≡ after_post (view_of self.old) place }
         ensures room { vec_capacity self.new.own ≡ vec_capacity self.old.own }
     {
         let last = self.own.len() - 1;
