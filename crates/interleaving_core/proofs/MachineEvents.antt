@@ -10,7 +10,7 @@ use Rattle.interleaving_core.specs.declared.parts.Phase.TheVariants.{Idle, Halte
 use Rattle.interleaving_core.specs.declared.events.CoreEvent.TheVariants.{Claim, Read, Post, Take, Look, Weigh, Seat, Seal, Release}
 use Rattle.interleaving_core.specs.declared.events.Told.{Told}
 use Rattle.interleaving_core.specs.declared.events.Told.TheVariants as tells
-use Rattle.interleaving_core.specs.declared.worker.Worker.{Worker}
+use Rattle.interleaving_core.specs.declared.team.Worker.{Worker}
 use Rattle.interleaving_core.specs.declared.state.CoreState.TheInside.{Inside}
 use Rattle.interleaving_core.specs.Core.{turn_count, entry, quota_of, seats_of, is_open, cell_at, hold_at}
 use Rattle.interleaving_core.specs.Events.{Claims, Reads, Posts, Takes, Looks, Weighs, Seats, Seals, Releases, with_hold, after_claim_if, after_read, after_post, after_take, phase_after_look, phase_after_weigh, is_last_seat, told_of_claim, told_of_read, told_of_take, told_of_look, told_of_weigh}

@@ -4,7 +4,7 @@ use Rattle.market.specs.Dictatorships.{Dictatorship, IsValidDictatorship}
 use Rattle.interleaving_core.specs.declared.parts.Claiming.{Claiming}
 use Rattle.interleaving_core.specs.declared.parts.Phase.TheVariants.{Scan}
 use Rattle.interleaving_core.specs.declared.parts.Holding.{Holding}
-use Rattle.interleaving_core.specs.declared.worker.Worker.{Worker}
+use Rattle.interleaving_core.specs.declared.team.Worker.{Worker}
 use Rattle.interleaving_core.specs.declared.state.CoreState.TheInside.{Inside}
 use Rattle.interleaving_core.specs.Core.{View, Machine, fresh_view, turn_count}
 use Rattle.interleaving_core.specs.Sound.{Sound}

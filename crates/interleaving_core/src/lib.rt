@@ -64,8 +64,8 @@ mod law;
 mod state;
 // What the machine has at its opening.
 mod opening;
-// One worker of the machine: what it knows, and which events that allows.
-mod worker;
+// The workers of the machine: what each knows, and which events that allows.
+mod team;
 // What is asked of the entries of a turn's list.
 mod entries;
 #[cfg(test)]

@@ -3,7 +3,7 @@
 ghost use Rattle.std.specs.Prelude.{◌≡◌, IfOk};
 ghost use Rattle.interleaving_core.specs.Machines.{IsTeam};
 
-use crate::worker::Worker;
+use crate::team::Worker;
 use market::Dict;
 use std::alloc::{AllocError, Global};
 
@@ -19,7 +19,11 @@ pub(crate) fn fills(alloc: Global, dict: &Dict) -> Result<Vec<u32>, AllocError>
 }
 
 // Workers at the opening, each with room for all turns.
-pub(crate) fn team(alloc: Global, count: u32, turns: u32) -> Result<Vec<Worker>, AllocError>
+pub(crate) fn fresh_workers(
+    alloc: Global,
+    count: u32,
+    turns: u32,
+) -> Result<Vec<Worker>, AllocError>
     ensures { IfOk result (λ workers. IsTeam count turns workers.items) }
 {
     let mut workers = Vec::new(alloc);

@@ -12,9 +12,9 @@ mod claimant;
 mod mark;
 
 use crate::events::{CoreEvent, NotNow, Told};
-use crate::opening::{fills, team};
+use crate::opening::{fills, fresh_workers};
 use crate::parts::Cell;
-use crate::worker::Worker;
+use crate::team::Worker;
 use market::Dict;
 use std::alloc::{AllocError, Global};
 use std::marker::Model;
@@ -55,7 +55,7 @@ impl CoreState {
         let turns = dict.turns();
         let seats = fills(alloc, &dict)?;
         let cells = vec![in alloc; Cell::Empty; turns as usize]?;
-        let workers = team(alloc, workers, turns)?;
+        let workers = fresh_workers(alloc, workers, turns)?;
         Ok(CoreState {
             dict,
             claim_number: 0,

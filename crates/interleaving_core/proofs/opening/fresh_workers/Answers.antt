@@ -1,5 +1,5 @@
 use Rattle.interleaving_core.proofs.Machines.{team_more}
-use Rattle.interleaving_core.proofs.opening.team.Goals as goal
+use Rattle.interleaving_core.proofs.opening.fresh_workers.Goals as goal
 
 pub loop-preserved : goal.loop-preserved
 loop-preserved c =

@@ -1,6 +1,6 @@
 use Rattle.std.proofs.Common.{Some, ap, refl, ◌∙◌}
 use Rattle.interleaving_core.specs.declared.parts.Phase.TheVariants.{Scan, Seated}
-use Rattle.interleaving_core.proofs.worker.Worker.may_seal.Goals as goal
+use Rattle.interleaving_core.proofs.team.Worker.may_seal.Goals as goal
 
 pub returns-in-Seated : goal.returns-in-Seated
 returns-in-Seated c =

@@ -1,6 +1,6 @@
 use Rattle.std.proofs.Common.{◌-◌, true, None, arith}
 use Rattle.interleaving_core.proofs.OwnTurns.{placed_at}
-use Rattle.interleaving_core.proofs.worker.Worker.post.Goals as goal
+use Rattle.interleaving_core.proofs.team.Worker.post.Goals as goal
 
 pub returns-clause-view : goal.returns-clause-view
 returns-clause-view c =

@@ -1,4 +1,4 @@
-// A worker of the machine: what it knows, and which events that allows.
+// The workers of the machine: what each knows, and which events that allows.
 
 ghost use Rattle.std.specs.Prelude.{◌≡◌, ◌<◌, ◌≤◌, MatchResult, IfOk, vec_len, vec_capacity};
 ghost use Rattle.market.specs.Dictatorships.{Dictatorship};
