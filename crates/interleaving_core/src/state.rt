@@ -1,8 +1,8 @@
 // The machine: a core state that makes one event at a time.
 
-ghost use Rattle.std.specs.Prelude.{◌≡◌, ℕ, ◌<◌, ◌≤◌, List, length, IfOk, OnErr, All, map, count_by};
+ghost use Rattle.std.specs.Prelude.{◌≡◌, ◌<◌, ◌≤◌, length, IfOk, OnErr, count_by};
 ghost use Rattle.market.specs.Dictatorships.{IsPrefixOf, choices};
-ghost use Rattle.interleaving_core.specs.Core.{opening, fresh_view, seats_of, cell_at, is_committed, committed_choices};
+ghost use Rattle.interleaving_core.specs.Core.{opening, seats_of, cell_at, is_committed, committed_choices};
 ghost use Rattle.interleaving_core.specs.Runs.{IsStep, IsNotNow};
 ghost use Rattle.interleaving_core.specs.Sound.{Sound};
 
