@@ -54,7 +54,8 @@ pub fn place_round(
 // Whether a candidate takes a programme in two or more types.
 fn takes_several(table: &[Placement], candidate: u32) -> bool
     requires types { length table.now ≤ 32 }
-    requires candidate { (t : ℕ) → t < length table.now → candidate < length (slice_index_or table.now t []) }
+    requires candidate { (t : ℕ) → t < length table.now
+        → candidate < length (slice_index_or table.now t []) }
     ensures { result
         ≡ nat_lt 1 (count_below
         (λ t. is_some (held_by (slice_index_or table.now t []) candidate)) (length table.now)) }
@@ -73,7 +74,8 @@ fn best(market: &Market, table: &[Placement], candidate: u32) -> usize
     requires valid { IsValid market.now }
     requires candidate { candidate < length market.now.lists }
     requires types { length table.now ≡ market.now.types }
-    requires held { (t : ℕ) → t < length table.now → candidate < length (slice_index_or table.now t []) }
+    requires held { (t : ℕ) → t < length table.now
+        → candidate < length (slice_index_or table.now t []) }
     ensures { result
         ≡ position_or_len
         (λ p. is_programme p (held_by (slice_index_or table.now (kind_of market.now p) []) candidate))
@@ -92,7 +94,8 @@ fn best(market: &Market, table: &[Placement], candidate: u32) -> usize
 fn takes(market: &Market, table: &[Placement], candidate: u32, programme: u32) -> bool
     requires programme { programme < length market.now.programmes }
     requires kind { kind_of market.now programme < length table.now }
-    requires held { (t : ℕ) → t < length table.now → candidate < length (slice_index_or table.now t []) }
+    requires held { (t : ℕ) → t < length table.now
+        → candidate < length (slice_index_or table.now t []) }
     ensures { result
         ≡ is_programme programme
         (held_by (slice_index_or table.now (kind_of market.now programme) []) candidate) }

@@ -26,7 +26,8 @@ impl Placer for PlainPlacer {
         turns: &mut Steps<L>,
     ) -> Result<Outcome, AllocError>
         requires sync { IsSync R.row }
-        ensures placement { IfOk result (λ outcome. outcome.placement ≡ mechanism_placement market.now) }
+        ensures placement { IfOk result (λ outcome. outcome.placement
+            ≡ mechanism_placement market.now) }
         ensures rounds { IfOk result (λ outcome. outcome.rounds ≡ mechanism_rounds market.now) }
         ensures cuts { IfOk result (λ outcome. outcome.cuts ≡ mechanism_cuts market.now) }
         ensures whole_rounds { IfOk result (λ outcome. outcome.turns ≡ (mechanism market.now).turns) }

@@ -51,7 +51,8 @@ fn choose(dict: &Dict, seats: &mut [u32], turn: u32) -> u32
 // The first place whose programme has fewer seats taken than its quota, or the list's length.
 fn first_place(dict: &Dict, seats: &[u32], list: &[u32]) -> usize
     requires seats { length seats.now ≡ length dict.now.quota }
-    requires entries { (j : ℕ) → j < length list.now → slice_index list.now j < length dict.now.quota }
+    requires entries { (j : ℕ) → j < length list.now
+        → slice_index list.now j < length dict.now.quota }
     ensures { result
         ≡ position_or_len (λ p. nat_lt (slice_index seats.now p) (slice_index dict.now.quota p))
         list.now }

@@ -1,4 +1,5 @@
--- What a round cuts, and that the rounds end.
+-- Who is cut after a round, and where; and that the rounds end. Who takes several loses an entry, so the
+-- entries left fall from round to round until nobody does.
 use Rattle.std.proofs.Common.{◌≡◌, ℕ, zero, suc, ◌+◌, ◌<◌, ◌≤◌, Bool, true, false, cond, List, [], length, Option, Some, None, refl, sym, ap, ◌∙◌, subst, arith, ⊎_elim, map}
 use Rattle.std.specs.Prelude.{find, slice_index, is_some, if◌then◌else◌}
 use Rattle.std.specs.List.{range_with_len}

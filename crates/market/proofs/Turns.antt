@@ -1,4 +1,5 @@
--- What a serial dictatorship does, turn by turn.
+-- What a serial dictatorship does, turn by turn: what is picked was open, and by induction on the turns
+-- no programme is filled past its quota.
 use Rattle.std.proofs.Common.{◌≡◌, ℕ, zero, suc, ◌+◌, ◌<◌, ◌≤◌, Bool, true, false, cond, [], ◌∷◌, ◌++◌, length, Option, Some, None, refl, sym, ap, ◌∙◌, arith, length-append, ⊎_elim}
 use Rattle.std.specs.Prelude.{find, slice_index}
 use Rattle.std.proofs.lemmas.Bool.{ltb-true, lt-ltb, eqb-true, eq-eqb, cases_Bool, false≢true}

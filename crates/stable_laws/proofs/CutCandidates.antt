@@ -28,31 +28,40 @@ kept_best m cuts t i p l e =
           (cases_Bool (has_several m cuts i)),
     )
 
+-- the candidate has a tentative programme in some type
 pub record TakesSome (m : Problem) (cuts : List ℕ) (i : ℕ) : Type 0 where
   pub kind : ℕ
   pub programme : ℕ
   pub takes : tentative m cuts kind i ≡ Some programme
 
+-- whoever was cut has one
+abbrev pub CutTakes : Problem → List ℕ → Type 0
+CutTakes m cuts =
+    (i : ℕ) → i < length m.lists → slice_index cuts i < length (list_of m i) → TakesSome m cuts i
+
+-- who takes a programme in one round takes one in the next
 takes_next : (m : Problem) (cuts : List ℕ) (t i p : ℕ) → i < length m.lists
     → tentative m cuts t i ≡ Some p → TakesSome m (next_cuts m cuts) i
 takes_next m cuts t i p l e =
     let b = kept_best m cuts t i p l e in
-    let r = still_takes m cuts (next_cuts m cuts) (kind_of m b.0) i b.0 (next_cuts-le m cuts)
+    let r =
+    still_takes m cuts (next_cuts m cuts) (kind_of m b.0) i b.0 (next_cuts-le m cuts)
     b.1.takes b.2 in
     record { kind = kind_of m b.0; programme = r.entry; takes = r.takes }
 
-pub cut_takes : (m : Problem) (r i : ℕ) → i < length m.lists
-    → slice_index (cuts_after m r) i < length (list_of m i) → TakesSome m (cuts_after m r) i
-cut_takes m zero i l s = let e = cuts_after-zero m i in absurd (omega arith)
-cut_takes m (suc r) i l s =
+pub cut_takes : (m : Problem) (r : ℕ) → CutTakes m (cuts_after m r)
+cut_takes m zero i l short = let whole = cuts_after-zero m i in absurd (omega arith)
+cut_takes m (suc r) i l short =
     let cuts = cuts_after m r in
     let e = cuts_after-suc m r in
     let at = ap (λ (c : List ℕ). slice_index c i) e ∙ next_cuts-at m cuts i l in
     subst (λ (c : List ℕ). TakesSome m c i) (sym e)
     (⊎_elim
-    (λ t. let two = several-takes m cuts i t in takes_next m cuts two.first_kind i two.first l
-    two.takes_first)
-    (λ f. let same = next_cut-same m cuts i f in
-    let ih = cut_takes m r i l (omega arith) in
-    takes_next m cuts ih.kind i ih.programme l ih.takes)
+    (λ several.
+    let two = several-takes m cuts i several in
+    takes_next m cuts two.first_kind i two.first l two.takes_first)
+    (λ not_several.
+    let same = next_cut-same m cuts i not_several in
+    let before = cut_takes m r i l (omega arith) in
+    takes_next m cuts before.kind i before.programme l before.takes)
     (cases_Bool (has_several m cuts i)))

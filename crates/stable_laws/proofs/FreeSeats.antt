@@ -20,7 +20,7 @@ use Rattle.market.proofs.Tentatives.{type-list, type-list_past, TakesBy, tentati
 
 -- ---- the first entry that passes
 
--- let each entry that passes f pass g: what g finds in a list, f finds in a longer one, if it passes f
+-- one entry of the next lemma
 free_step : (a b : Bool) (x p : ℕ) (long short : Option ℕ) → (a ≡ true → b ≡ true)
     → cond b (Some x) short ≡ Some p → (x ≡ p → a ≡ true) → (short ≡ Some p → long ≡ Some p)
     → cond a (Some x) long ≡ Some p
@@ -29,7 +29,8 @@ free_step true false x p long short sub e o ih = absurd (false≢true (sub refl)
 free_step false true x p long short sub e o ih = absurd (false≢true (o (same_Some x p e)))
 free_step false false x p long short sub e o ih = ih e
 
-pub find_free : (f g : ℕ → Bool) → ((x : ℕ) → f x ≡ true → g x ≡ true) → (xs rest : List ℕ) (p : ℕ)
+-- let each entry that passes f pass g: what g finds in a list, f finds in a longer one, if it passes f
+find_free : (f g : ℕ → Bool) → ((x : ℕ) → f x ≡ true → g x ≡ true) → (xs rest : List ℕ) (p : ℕ)
     → find g xs ≡ Some p → f p ≡ true → find f (xs ++ rest) ≡ Some p
 find_free f g sub [] rest p e o = absurd (none-some p e)
 find_free f g sub (x ∷ xs) rest p e o =
@@ -88,6 +89,7 @@ shorter_lists_free_seats older newer s (suc k) p =
 
 -- ---- a round after cuts
 
+-- the list of a turn under a shorter cut begins the list of the turn
 turn_list-prefix : (m : Problem) (cuts shorter : List ℕ) (t i : ℕ)
     → slice_index shorter i ≤ slice_index cuts i
     → IsPrefixOf (turn_list m shorter t i) (turn_list m cuts t i)
@@ -104,6 +106,7 @@ turn_list-prefix m cuts shorter t i l =
           ∙ ap (filter keep) (take-append-drop s whole),
     )
 
+-- cuts change neither quotas nor fills
 same_quota : (m : Problem) (cuts shorter : List ℕ) (t : ℕ)
     → (type_dictatorship m shorter t).quota ≡ (type_dictatorship m cuts t).quota
 unfolding type_dictatorship
@@ -114,7 +117,8 @@ same_fill : (m : Problem) (cuts shorter : List ℕ) (t : ℕ)
 unfolding type_dictatorship
 same_fill m cuts shorter t = refl
 
-pub shortens : (m : Problem) (cuts shorter : List ℕ) (t : ℕ)
+-- so cuts that do not grow shorten the lists of each type
+shortens : (m : Problem) (cuts shorter : List ℕ) (t : ℕ)
     → ((i : ℕ) → slice_index shorter i ≤ slice_index cuts i)
     → ShortensLists (type_dictatorship m cuts t) (type_dictatorship m shorter t)
 shortens m cuts shorter t le =
@@ -138,7 +142,7 @@ shortens m cuts shorter t le =
           (cases_lt k (length (order_of m t)));
     }
 
--- who takes a programme and keeps it in the list still takes one that is as good
+-- who takes a programme and keeps it in the list still takes it, or one listed before it
 pub still_takes : (m : Problem) (cuts shorter : List ℕ) (t i p : ℕ)
     → ((i : ℕ) → slice_index shorter i ≤ slice_index cuts i) → tentative m cuts t i ≡ Some p
     → place_of p (list_of m i) < slice_index shorter i → TakesBy m shorter t i p

@@ -21,6 +21,7 @@ use Rattle.market.proofs.Tentatives.{turn_at, candidate_at, tentative-picked, ty
 use Rattle.market.proofs.Rounds.{one_kind, placed-takes, best_by, settled-none}
 use Rattle.market.proofs.Valid.{kind_lt, turn-admitted}
 
+-- what a candidate holds is the best tentative programme
 pub placed-within : (m : Problem) (cuts : List ℕ) (i : ℕ) → i < length m.lists
     → held_by (placed m cuts) i ≡ placed_at m cuts i
 unfolding placed
@@ -30,6 +31,7 @@ placed-within m cuts i l =
     zero_plus : 0 + i ≡ i
     zero_plus = omega arith
 
+-- nobody else holds anything
 placed-past : (m : Problem) (cuts : List ℕ) (i : ℕ) → length m.lists ≤ i
     → held_by (placed m cuts) i ≡ None
 unfolding placed
@@ -69,9 +71,6 @@ settled-holds m v cuts t i p s l e =
 -- ---- holders and turns of a type
 
 module _ (m : Problem) (v : IsValid m) (cuts : List ℕ) where
-  order : ℕ → ℕ → ℕ
-  order t j = slice_index (order_of m t) j
-
   -- the holders of a programme have a turn in its type
   holder_turn : (p i : ℕ) → held_by (placed m cuts) i ≡ Some p
       → HasTurn (λ j. slice_index (order_of m (kind_of m p)) j) (length (order_of m (kind_of m p))) i
@@ -83,7 +82,7 @@ module _ (m : Problem) (v : IsValid m) (cuts : List ℕ) where
         is_theirs = candidate_at m (kind_of m p) i x.turn;
       }
 
-  -- what the candidate of a turn holds of this type is what the turn picks
+  -- the turn of who holds a programme took it
   held-picked : (p j : ℕ) → j < length (order_of m (kind_of m p))
       → held_by (placed m cuts) (slice_index (order_of m (kind_of m p)) j) ≡ Some p
       → picked (type_dictatorship m cuts (kind_of m p)) j ≡ Some p
@@ -96,6 +95,7 @@ module _ (m : Problem) (v : IsValid m) (cuts : List ℕ) where
       ap (picked (type_dictatorship m cuts t)) (sym at) ∙ sym (tentative-picked m cuts t i x.turn)
       ∙ tk
 
+  -- so no quota is exceeded
   pub quota_kept : (p : ℕ) → count_of p (placed m cuts) ≤ quota_of m p
   quota_kept p =
       let t = kind_of m p in
@@ -110,6 +110,7 @@ module _ (m : Problem) (v : IsValid m) (cuts : List ℕ) where
       let f = taken-le-quota d p (omega arith) n in
       omega arith
 
+  -- what is placed is a placement
   pub is_placement : IsPlacement m (placed m cuts)
   is_placement =
       record {

@@ -8,6 +8,7 @@ use Rattle.market.specs.Comparisons.{Widens}
 use Rattle.market.proofs.Valid.{kind_lt, listed_kind, admitted-turn, turn-admitted, turn-better}
 
 module _ (m w : Problem) (wide : Widens m w) where
+  -- the same lists, turn orders and turns
   pub list-same : (i : ℕ) → list_of w i ≡ list_of m i
   unfolding list_of
   list-same i = ap (λ (xs : List (List ℕ)). slice_index_or xs i []) wide.lists
@@ -24,7 +25,7 @@ module _ (m w : Problem) (wide : Widens m w) where
       → place_of p (list_of m i) < length (list_of m i)
   listed-same i p l = subst (λ (xs : List ℕ). place_of p xs < length xs) (list-same i) l
 
-  -- acceptable in the one and in the other
+  -- who is listed and has a turn in the one is acceptable in the other
   pub acceptable-wide : IsValid m → IsValid w → (i p : ℕ)
       → place_of p (list_of m i) < length (list_of m i)
       → turn_of m (kind_of m p) i < length (order_of m (kind_of m p)) → IsAcceptable w i p
@@ -38,6 +39,7 @@ module _ (m w : Problem) (wide : Widens m w) where
         admitted = turn-admitted w vw i p (omega arith);
       }
 
+  -- and who is acceptable in the other has a turn in the one
   pub wide-turn : IsValid w → (i p : ℕ) → IsAcceptable w i p
       → turn_of m (kind_of m p) i < length (order_of m (kind_of m p))
   wide-turn vw i p a =
@@ -48,6 +50,7 @@ module _ (m w : Problem) (wide : Widens m w) where
       let t = admitted-turn w vw i p (listed_kind w vw i p a.listed) a.admitted in
       omega arith
 
+  -- a later turn in the one is a worse rank in the other
   pub worse-wide : IsValid m → IsValid w → (p i j : ℕ)
       → turn_of m (kind_of m p) i < turn_of m (kind_of m p) j
       → turn_of m (kind_of m p) j < length (order_of m (kind_of m p))

@@ -11,72 +11,65 @@
 use Rattle.std.proofs.Common.{◌≡◌, ℕ, zero, suc, ◌<◌, ◌≤◌, Bool, cond, List, length, Option, Some, None, refl, sym, ap, ◌∙◌, subst, arith, ⊎_elim, inl, inr}
 use Rattle.std.specs.Prelude.{slice_index, ◌⊎◌}
 use Rattle.std.proofs.lemmas.Bool.{cases_lt, cases_eq, cases_Bool, false≢true}
-use Rattle.std.proofs.lemmas.Option.{none-some, same_Some}
 use Rattle.market.specs.Counting.{is_programme, count_of}
 use Rattle.market.specs.Problems.{Problem, IsValid, place_of, kind_of, quota_of, list_of, order_of, turn_of}
 use Rattle.market.specs.Stability.{held_by, Prefers, HasWorseHolder, IsStable}
 use Rattle.market.specs.Comparisons.{HoldsAtLeast, Widens, GivesAtLeast, IsWorstStable}
-use Rattle.market.specs.Dictatorships.{picked, taken}
+use Rattle.market.specs.Dictatorships.{picked}
 use Rattle.market.specs.Mechanism.{type_dictatorship, tentative, has_several, cuts_after, cutting_rounds, placed, mechanism_placement}
 use Rattle.market.proofs.Firsts.{place_same}
 use Rattle.market.proofs.Turns.{is_programme-true, is_programme-from}
-use Rattle.market.proofs.Tallies.{tally, taken-tally, tally-mono, Gap, tally_gap, at_turn, count-le-tally}
-use Rattle.market.proofs.Tentatives.{turn_at, candidate_at, tentative-picked, Takes, tentative-takes, takes_by, seats_before, offered-from}
+use Rattle.market.proofs.Tallies.{tally, taken-tally, tally-mono, tally_gap, at_turn, count-le-tally}
+use Rattle.market.proofs.Tentatives.{turn_at, candidate_at, tentative-picked, tentative-takes, takes_by, seats_before, offered-from}
 use Rattle.market.proofs.Rounds.{several-takes, best_by, next_cut-same, next_cut-several, next_cuts-at, cuts_after-suc, cuts_after-zero}
 use Rattle.market.proofs.Valid.{candidate_lt, kind_lt}
 use Rattle.stable_laws.proofs.Holders.{holder-takes}
 use Rattle.stable_laws.proofs.Stable.{stable}
 use Rattle.stable_laws.proofs.Widening.{list-same, listed-same, acceptable-wide, wide-turn, worse-wide}
 
--- ---- turns that take a programme
+-- ---- turns
 
--- a later turn that takes p
-record Later (h : ℕ → Option ℕ) (k n p : ℕ) : Type 0 where
+-- the candidate of a turn
+abbrev candidate_of : Problem → ℕ → ℕ → ℕ
+candidate_of m t k = slice_index (order_of m t) k
+
+-- a turn from k on that has p
+record HasFrom (h : ℕ → Option ℕ) (k n p : ℕ) : Type 0 where
   turn : ℕ
   from : k ≤ turn
   below : turn < n
   has : h turn ≡ Some p
 
-tally_later : (h : ℕ → Option ℕ) (k n p : ℕ) → tally h k p < tally h n p → Later h k n p
-tally_later h k zero p l = absurd (omega arith)
-tally_later h k (suc n) p l =
+has_from : (h : ℕ → Option ℕ) (k n p : ℕ) → tally h k p < tally h n p → HasFrom h k n p
+has_from h k zero p l = absurd (omega arith)
+has_from h k (suc n) p l =
     ⊎_elim
-    (λ less. let r = tally_later h k n p
-    less in record {
-      turn = r.turn;
-      from = r.from;
-      below = omega (arith, r.below);
-      has = r.has;
-    })
-    (λ more.
+    (λ less.
+    let r = has_from h k n p less in
+    record { turn = r.turn; from = r.from; below = omega (arith, r.below); has = r.has })
+    (λ here.
     ⊎_elim
     (λ t.
     ⊎_elim
     (λ early. let mono = tally-mono h (suc n) k p early in absurd (omega arith))
-    (λ late. record {
-      turn = n;
-      from = late;
-      below = omega arith;
-      has = is_programme-true p (h n) t;
-    })
+    (λ late. record { turn = n; from = late; below = omega arith; has = is_programme-true p (h n) t })
     (cases_lt n k))
-    (λ f. let e = ap (λ (b : Bool). cond {A = ℕ} b 1 0) f in absurd (omega arith))
+    (λ f. let none = ap (λ (b : Bool). cond {A = ℕ} b 1 0) f in absurd (omega arith))
     (cases_Bool (is_programme p (h n))))
     (cases_lt (tally h k p) (tally h n p))
 
--- ---- the other placement
+-- ---- a stable placement of a market as wide or wider
 
 module _ (m w : Problem) (v : IsValid m) (vw : IsValid w) (wide : Widens m w)
     (other : List (Option ℕ)) (st : IsStable w other) where
   -- what the other placement gives stands within the cuts
-  Keeps : List ℕ → Type 0
-  Keeps cuts = (i q : ℕ) → held_by other i ≡ Some q → place_of q (list_of m i) < slice_index cuts i
+  KeepsOther : List ℕ → Type 0
+  KeepsOther cuts = (i q : ℕ) → held_by other i ≡ Some q → place_of q (list_of m i) < slice_index cuts i
 
-  -- what the turn takes is not preferred to what its candidate holds in the other placement
-  Claim : List ℕ → ℕ → ℕ → Type 0
-  Claim cuts t k = (p : ℕ) → picked (type_dictatorship m cuts t) k ≡ Some p
-      → HoldsAtLeast (list_of m (slice_index (order_of m t) k)) (Some p)
-      (held_by other (slice_index (order_of m t) k))
+  -- the candidate's turn takes nothing that is preferred to what the other placement gives
+  TakesLeast : List ℕ → ℕ → ℕ → Type 0
+  TakesLeast cuts t i = (p : ℕ) → tentative m cuts t i ≡ Some p
+      → HoldsAtLeast (list_of m i) (Some p) (held_by other i)
 
   other-listed : (i q : ℕ) → held_by other i ≡ Some q
       → place_of q (list_of m i) < length (list_of m i)
@@ -86,189 +79,191 @@ module _ (m w : Problem) (v : IsValid m) (vw : IsValid w) (wide : Widens m w)
       → turn_of m (kind_of m q) i < length (order_of m (kind_of m q))
   other-turn i q e = wide-turn m w wide vw i q (st.placement.acceptable i q e)
 
-  -- an earlier turn whose candidate holds p elsewhere, and that did not take p although it had room
-  earlier : (cuts : List ℕ) → Keeps cuts → (t k p : ℕ) → k < length (order_of m t) → kind_of m p ≡ t
-      → ((j : ℕ) → j < k → Claim cuts t j) → taken (type_dictatorship m cuts t) k p < quota_of m p
-      → Gap (picked (type_dictatorship m cuts t))
-      (at_turn other (λ j. slice_index (order_of m t) j)) k p
-      → ⊥
-  unfolding Keeps Claim seats_before
-  earlier cuts keeps t k p l kind before room gap =
-      let d = type_dictatorship m cuts t in
-      let j = gap.turn in
-      let i = slice_index (order_of m t) j in
-      let jn : j < length (order_of m t) = omega (arith, gap.before) in
-      let at = turn_at m v t j (kind_lt m v t j jn) jn in
-      let own : turn_of m t i < length (order_of m t) = omega arith in
-      let e = taken-tally d k p in
-      let f = taken-tally d (turn_of m t i) p in
-      let mono = tally-mono (picked d) (turn_of m t i) k p (omega (arith, gap.before)) in
-      let r = takes_by m cuts t i p (record {
-        turn = own;
-        offered = offered-from m t i p kind;
-        kind = kind;
-        listed = other-listed i p gap.has;
-        within = keeps i p gap.has;
-        room = omega arith;
+  -- ---- a programme p that candidate i would rather have
+
+  module _ (i p : ℕ) (listed : place_of p (list_of m i) < length (list_of m i))
+      (turn : turn_of m (kind_of m p) i < length (order_of m (kind_of m p)))
+      (preferred : Prefers (list_of m i) p (held_by other i)) where
+    -- the two do not block the other placement
+    no_room : (count_of p other < quota_of w p) ⊎ HasWorseHolder w other i p → ⊥
+    no_room room =
+        st.unblocked i p
+        (record {
+          acceptable = acceptable-wide m w wide v vw i p listed turn;
+          preferred =
+              subst (λ (xs : List ℕ). Prefers xs p (held_by other i)) (sym (list-same m w wide i))
+              preferred;
+          room = room;
+        })
+
+    not_held : held_by other i ≡ Some p → ⊥
+    not_held e =
+        let before = subst (Prefers (list_of m i) p) e preferred in
+        absurd (omega (arith, before.0))
+
+    -- so all seats of p are held there
+    all_held : quota_of w p ≤ count_of p other
+    all_held =
+        ⊎_elim (λ free. absurd (no_room (inl free))) (λ full. full)
+        (cases_lt (count_of p other) (quota_of w p))
+
+    -- by candidates with earlier turns
+    holders_before : count_of p other
+        ≤ tally (at_turn other (candidate_of m (kind_of m p))) (turn_of m (kind_of m p) i) p
+    holders_before =
+        let t = kind_of m p in
+        let k = turn_of m t i in
+        let n = length (order_of m t) in
+        let o = candidate_of m t in
+        let all = count-le-tally o p n other (λ c holds.
+        let own = other-turn c p holds in
+        record { turn = turn_of m t c; before = own; is_theirs = candidate_at m t c own }) in
+        ⊎_elim
+        (λ some_later.
+        let r = has_from (at_turn other o) k n p some_later in
+        let its_turn = turn_at m v t r.turn (kind_lt m v t r.turn r.below) r.below in
+        ⊎_elim
+        (λ same.
+        let own = candidate_at m t i turn in
+        absurd (not_held (ap (held_by other) (sym own) ∙ ap (λ (j : ℕ). held_by other (o j)) same ∙ r.has)))
+        (λ ne.
+        let later : k < turn_of m t (o r.turn) = omega (arith, r.from) in
+        let has_turn : turn_of m t (o r.turn) < n = omega (arith, r.below) in
+        absurd (no_room (inr (record {
+          holder = o r.turn;
+          holds = r.has;
+          worse = worse-wide m w wide v vw p i (o r.turn) later has_turn;
+        }))))
+        (cases_eq k r.turn))
+        (λ none_later. omega arith)
+        (cases_lt (tally (at_turn other o) k p) (tally (at_turn other o) n p))
+
+  -- ---- one round
+
+  -- who holds p in the other placement takes p, where it has a seat left and the turn takes nothing better
+  takes_too : (cuts : List ℕ) → KeepsOther cuts → (c p : ℕ) → TakesLeast cuts (kind_of m p) c
+      → held_by other c ≡ Some p → seats_before m cuts (kind_of m p) c p < quota_of m p
+      → tentative m cuts (kind_of m p) c ≡ Some p
+  unfolding KeepsOther TakesLeast
+  takes_too cuts keeps c p least holds room =
+      let t = kind_of m p in
+      let own = other-listed c p holds in
+      let r =
+      takes_by m cuts t c p
+      (record {
+        turn = other-turn c p holds;
+        offered = offered-from m t c p refl;
+        kind = refl;
+        listed = own;
+        within = keeps c p holds;
+        room = room;
       }) in
-      let took = ap (picked d) (sym at) ∙ sym (tentative-picked m cuts t i own) ∙ r.takes in
-      let least : place_of p (list_of m i) ≤ place_of r.entry (list_of m i) =
-      subst (HoldsAtLeast (list_of m i) (Some r.entry)) gap.has
-      (before j gap.before r.entry took) in
-      let same =
-      place_same p r.entry (list_of m i) (other-listed i p gap.has)
-      (omega (arith, r.no_later)) in
-      false≢true (sym gap.has_not ∙ is_programme-from p (picked d j) (took ∙ ap Some (sym same)))
+      let no_sooner = subst (HoldsAtLeast (list_of m c) (Some r.entry)) holds (least r.entry r.takes) in
+      let same = place_same p r.entry (list_of m c) own (omega (arith, r.no_later)) in
+      r.takes ∙ ap Some (sym same)
 
-  step : (cuts : List ℕ) → Keeps cuts → (t k : ℕ) → k < length (order_of m t)
-      → ((j : ℕ) → j < k → Claim cuts t j) → Claim cuts t k
-  unfolding Claim seats_before
-  step cuts keeps t k l before p e =
-      by_held (held_by other i) refl
+  -- a turn that takes p takes nothing preferred, if no earlier turn of the type does
+  step : (cuts : List ℕ) → KeepsOther cuts → (i p : ℕ)
+      → ((c : ℕ) → turn_of m (kind_of m p) c < turn_of m (kind_of m p) i → TakesLeast cuts (kind_of m p) c)
+      → tentative m cuts (kind_of m p) i ≡ Some p
+      → HoldsAtLeast (list_of m i) (Some p) (held_by other i)
+  unfolding seats_before
+  step cuts keeps i p before takes = by_held (held_by other i) refl
     where
-      i : ℕ
-      i = slice_index (order_of m t) k
+      preferred-not : Prefers (list_of m i) p (held_by other i) → ⊥
+      preferred-not preferred =
+          let d = type_dictatorship m cuts (kind_of m p) in
+          let k = turn_of m (kind_of m p) i in
+          let o = candidate_of m (kind_of m p) in
+          let x = tentative-takes m cuts (kind_of m p) i p takes in
+          let seats = taken-tally d k p in
+          let wider = wide.quotas p in
+          let full = all_held i p x.listed x.turn preferred in
+          let holders = holders_before i p x.listed x.turn preferred in
+          let gap = tally_gap (picked d) (at_turn other o) k p (omega (arith, x.room)) in
+          let j = gap.turn in
+          let has_turn : j < length (order_of m (kind_of m p)) = omega (arith, gap.before, x.turn) in
+          let at = turn_at m v (kind_of m p) j (kind_lt m v (kind_of m p) j has_turn) has_turn in
+          let earlier : turn_of m (kind_of m p) (o j) < k = omega (arith, gap.before) in
+          let fewer = tally-mono (picked d) (turn_of m (kind_of m p) (o j)) k p (omega arith) in
+          let seats_then = taken-tally d (turn_of m (kind_of m p) (o j)) p in
+          let too = takes_too cuts keeps (o j) p (before (o j) earlier) gap.has (omega (arith, x.room)) in
+          let own : turn_of m (kind_of m p) (o j) < length (order_of m (kind_of m p)) = omega arith in
+          let took = ap (picked d) (sym at) ∙ sym (tentative-picked m cuts (kind_of m p) (o j) own) ∙ too in
+          false≢true (sym gap.has_not ∙ is_programme-from p (picked d j) took)
 
-      at : turn_of m t (slice_index (order_of m t) k) ≡ k
-      at = turn_at m v t k (kind_lt m v t k l) l
-
-      x : Takes m cuts t (slice_index (order_of m t) k) p
-      x = tentative-takes m cuts t (slice_index (order_of m t) k) p
-          (tentative-picked m cuts t (slice_index (order_of m t) k) (let a = at in omega arith)
-          ∙ ap (picked (type_dictatorship m cuts t)) at ∙ e)
-
-      room : taken (type_dictatorship m cuts t) k p < quota_of m p
-      room = subst (λ (n : ℕ). taken (type_dictatorship m cuts t) n p < quota_of m p) at x.room
-
-      blocked : Prefers (list_of m (slice_index (order_of m t) k)) p
-          (held_by other (slice_index (order_of m t) k))
-          → (held_by other (slice_index (order_of m t) k) ≡ Some p → ⊥) → ⊥
-      blocked pref not_held =
-          let d = type_dictatorship m cuts t in
-          let o = λ (j : ℕ). slice_index (order_of m t) j in
-          let n = length (order_of m t) in
-          let kind = x.kind in
-          let turn = x.turn in
-          let mine : turn_of m (kind_of m p) i < length (order_of m (kind_of m p)) =
-          subst (λ (u : ℕ). turn_of m u i < length (order_of m u)) (sym kind) turn in
-          let block = λ (c : (count_of p other < quota_of w p) ⊎ HasWorseHolder w other i p).
-          st.unblocked i p (record {
-            acceptable = acceptable-wide m w wide v vw i p x.listed mine;
-            preferred =
-                subst (λ (xs : List ℕ). Prefers xs p (held_by other i))
-                (sym (list-same m w wide i)) pref;
-            room = c;
-          }) in
+      by_held : (h : Option ℕ) → held_by other i ≡ h
+          → HoldsAtLeast (list_of m i) (Some p) (held_by other i)
+      by_held None nothing =
+          let x = tentative-takes m cuts (kind_of m p) i p takes in
+          absurd (preferred-not (subst (Prefers (list_of m i) p) (sym nothing) x.listed))
+      by_held (Some q) something =
           ⊎_elim
-          (λ free. block (inl free))
-          (λ full.
-          let q = wide.quotas p in
-          let a = count-le-tally o p n other (λ c h.
-          let own =
-          subst (λ (u : ℕ). turn_of m u c < length (order_of m u)) kind
-          (other-turn c p h) in
-          record {
-            turn = turn_of m t c;
-            before = own;
-            is_theirs = candidate_at m t c own;
-          }) in
-          ⊎_elim
-          (λ some_later.
-          let r = tally_later (at_turn other o) k n p some_later in
-          let c = slice_index (order_of m t) r.turn in
-          let ac = turn_at m v t r.turn (kind_lt m v t r.turn r.below) r.below in
-          ⊎_elim
-          (λ same. not_held (ap (λ (j : ℕ). held_by other (o j)) same ∙ r.has))
-          (λ ne.
-          let a' = at in
-          let lt : turn_of m t i < turn_of m t c = omega (arith, r.from) in
-          let cn : turn_of m t c < length (order_of m t) = omega (arith, r.below) in
-          block (inr (record {
-            holder = c;
-            holds = r.has;
-            worse = worse-wide m w wide v vw p i c
-                (subst (λ (u : ℕ). turn_of m u i < turn_of m u c) (sym kind) lt)
-                (subst (λ (u : ℕ). turn_of m u c < length (order_of m u)) (sym kind) cn);
-          })))
-          (cases_eq k r.turn))
-          (λ all_before.
-          let tt' = taken-tally d k p in
-          let rm = room in
-          earlier cuts keeps t k p l kind before room
-          (tally_gap (picked d) (at_turn other o) k p (omega arith)))
-          (cases_lt (tally (at_turn other o) k p) (tally (at_turn other o) n p)))
-          (cases_lt (count_of p other) (quota_of w p))
-
-      by_held : (h : Option ℕ) → held_by other (slice_index (order_of m t) k) ≡ h
-          → HoldsAtLeast (list_of m (slice_index (order_of m t) k)) (Some p)
-          (held_by other (slice_index (order_of m t) k))
-      by_held None f = absurd (blocked (subst (Prefers (list_of m i) p) (sym f) x.listed)
-          (λ g. none-some p (sym f ∙ g)))
-      by_held (Some q) f =
-          ⊎_elim
-          (λ better.
-          absurd (blocked (subst (Prefers (list_of m i) p) (sym f) (better, other-listed i q f))
-          (λ g. let same = same_Some q p (sym f ∙ g) in
-          let e' = ap (λ (y : ℕ). place_of y (list_of m i)) same in omega arith)))
-          (λ least. subst (HoldsAtLeast (list_of m i) (Some p)) (sym f) least)
+          (λ sooner.
+          absurd (preferred-not
+          (subst (Prefers (list_of m i) p) (sym something) (sooner, other-listed i q something))))
+          (λ least. subst (HoldsAtLeast (list_of m i) (Some p)) (sym something) least)
           (cases_lt (place_of p (list_of m i)) (place_of q (list_of m i)))
 
-  all_before : (cuts : List ℕ) → Keeps cuts → (t n : ℕ) → n ≤ length (order_of m t) → (k : ℕ)
-      → k < n → Claim cuts t k
-  all_before cuts keeps t zero l k h = absurd (omega arith)
-  all_before cuts keeps t (suc n) l k h =
-      let ih = all_before cuts keeps t n (omega arith) in
-      ⊎_elim
-      (λ less. ih k less)
-      (λ same. let e : n
-      ≡ k = omega arith in subst (Claim cuts t) e (step cuts keeps t n (omega arith) ih))
-      (cases_lt k n)
+  -- so no turn does
+  all_least : (cuts : List ℕ) → KeepsOther cuts → (t n i : ℕ) → turn_of m t i < n → TakesLeast cuts t i
+  unfolding TakesLeast
+  all_least cuts keeps t zero i l p takes = absurd (omega arith)
+  all_least cuts keeps t (suc n) i l p takes =
+      let kind = (tentative-takes m cuts t i p takes).kind in
+      step cuts keeps i p
+      (λ c sooner.
+      let before = subst (λ (u : ℕ). turn_of m u c < turn_of m u i) kind sooner in
+      subst (λ (u : ℕ). TakesLeast cuts u c) (sym kind) (all_least cuts keeps t n c (omega arith)))
+      (subst (λ (u : ℕ). tentative m cuts u i ≡ Some p) (sym kind) takes)
 
-  -- no candidate prefers what a round gives
-  takes-least : (cuts : List ℕ) → Keeps cuts → (t i p : ℕ) → tentative m cuts t i ≡ Some p
-      → HoldsAtLeast (list_of m i) (Some p) (held_by other i)
-  unfolding Claim
-  takes-least cuts keeps t i p e =
-      let x = tentative-takes m cuts t i p e in
-      let c = all_before cuts keeps t (length (order_of m t)) (omega arith) (turn_of m t i) x.turn p
-      (sym (tentative-picked m cuts t i x.turn) ∙ e) in
-      subst (λ (j : ℕ). HoldsAtLeast (list_of m j) (Some p) (held_by other j))
-      (candidate_at m t i x.turn) c
+  takes-least : (cuts : List ℕ) → KeepsOther cuts → (t i : ℕ) → TakesLeast cuts t i
+  takes-least cuts keeps t i = all_least cuts keeps t (suc (turn_of m t i)) i (omega arith)
 
-  -- no round cuts it away
-  keeps : (r : ℕ) → Keeps (cuts_after m r)
-  unfolding Keeps
-  keeps zero i q e = let z = cuts_after-zero m i in let l = other-listed i q e in omega arith
-  keeps (suc r) i q e =
+  -- ---- all rounds
+
+  -- no cut removes what the other placement gives
+  keeps_other : (r : ℕ) → KeepsOther (cuts_after m r)
+  unfolding KeepsOther TakesLeast
+  keeps_other zero i q holds =
+      let whole = cuts_after-zero m i in
+      let listed = other-listed i q holds in
+      omega arith
+  keeps_other (suc r) i q holds =
       let cuts = cuts_after m r in
-      let ih = keeps r in
-      let l = candidate_lt m i (place_of q (list_of m i)) (other-listed i q e) in
-      let at = ap (λ (c : List ℕ). slice_index c i) (cuts_after-suc m r) ∙ next_cuts-at m cuts i l in
+      let keeps = keeps_other r in
+      let candidate = candidate_lt m i (place_of q (list_of m i)) (other-listed i q holds) in
+      let cut = ap (λ (c : List ℕ). slice_index c i) (cuts_after-suc m r) ∙ next_cuts-at m cuts i candidate in
       ⊎_elim
-      (λ t.
-      let two = several-takes m cuts i t in
+      (λ several.
+      let two = several-takes m cuts i several in
       let b = best_by m cuts two.first_kind i two.first two.takes_first in
-      let n = next_cut-several m cuts i t in
+      let behind = next_cut-several m cuts i several in
       let place = b.is_best.place in
-      let least : place_of q (list_of m i) ≤ place_of b.best (list_of m i) =
-      subst (HoldsAtLeast (list_of m i) (Some b.best)) e
-      (takes-least cuts ih (kind_of m b.best) i b.best b.is_best.takes) in
+      let least =
+      subst (HoldsAtLeast (list_of m i) (Some b.best)) holds
+      (takes-least cuts keeps (kind_of m b.best) i b.best b.is_best.takes) in
       omega arith)
-      (λ f. let n = next_cut-same m cuts i f in let h = ih i q e in omega arith)
+      (λ not_several.
+      let same = next_cut-same m cuts i not_several in
+      let kept = keeps i q holds in
+      omega arith)
       (cases_Bool (has_several m cuts i))
 
   pub worst : GivesAtLeast m (mechanism_placement m) other
-  unfolding mechanism_placement
+  unfolding mechanism_placement TakesLeast
   worst i = by_given (held_by (placed m (cuts_after m (cutting_rounds m))) i) refl
     where
       by_given : (o : Option ℕ) → held_by (placed m (cuts_after m (cutting_rounds m))) i ≡ o
           → HoldsAtLeast (list_of m i) o (held_by other i)
       by_given None e = tt
       by_given (Some p) e =
-          takes-least (cuts_after m (cutting_rounds m)) (keeps (cutting_rounds m)) (kind_of m p) i p
-          (holder-takes m (cuts_after m (cutting_rounds m)) i p e)
+          let last = cutting_rounds m in
+          takes-least (cuts_after m last) (keeps_other last) (kind_of m p) i p
+          (holder-takes m (cuts_after m last) i p e)
 
--- a market is as wide as itself
+-- ---- the same market
+
 same_width : (m : Problem) → Widens m m
 same_width m =
     record {
