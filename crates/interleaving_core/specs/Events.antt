@@ -1,0 +1,187 @@
+-- The nine events: when each is allowed, what it leads to and what it tells.
+use Rattle.std.specs.Prelude.{◌≡◌, ℕ, ◌+◌, ◌<◌, ◌⊎◌, ◌++◌, Bool, true, false, nat_lt, nat_le, List, [], ◌∷◌, length, slice_set, slice_get, Option, Some, None}
+use Rattle.market.specs.Dictatorships.{Dictatorship, list_at}
+use Rattle.interleaving_core.specs.declared.parts.Cell.{Cell}
+use Rattle.interleaving_core.specs.declared.parts.Cell.TheVariants.{Empty, Posted, Committed}
+use Rattle.interleaving_core.specs.declared.parts.Claiming.{Claiming}
+use Rattle.interleaving_core.specs.declared.parts.OwnTurn.{OwnTurn}
+use Rattle.interleaving_core.specs.declared.parts.Phase.{Phase}
+use Rattle.interleaving_core.specs.declared.parts.Phase.TheVariants.{Idle, Halted, Scan, Ready, Seated}
+use Rattle.interleaving_core.specs.declared.parts.Holding.{Holding}
+use Rattle.interleaving_core.specs.declared.events.CoreEvent.{CoreEvent}
+use Rattle.interleaving_core.specs.declared.events.CoreEvent.TheVariants.{Claim, Read, Post, Take, Look, Weigh, Seat, Seal, Release}
+use Rattle.interleaving_core.specs.declared.events.Told.{Told}
+use Rattle.interleaving_core.specs.declared.events.Told.TheVariants as tells
+use Rattle.interleaving_core.specs.Core.{View, Core, turn_count, entry, quota_of, seats_of, is_open, cell_at, claim_at, hold_at}
+
+-- an event with what its condition finds in the worker's view: the turn k or the number c of committed
+-- turns, the place j, and where the condition leaves a choice, which part of it holds
+pub data Action : Type 0 where
+  Claims : Action
+  Reads : ℕ → ℕ → Action
+  Posts : ℕ → ℕ → Bool → Action
+  Takes : Action
+  Looks : ℕ → Action
+  Weighs : ℕ → ℕ → Action
+  Seats : ℕ → ℕ → Action
+  Seals : ℕ → ℕ → Phase → Action
+  Releases : ℕ → Phase → Action
+
+-- the event of an action
+abbrev pub event_of : Action → CoreEvent
+event_of Claims = Claim
+event_of (Reads k j) = Read
+event_of (Posts k j met) = Post
+event_of Takes = Take
+event_of (Looks c) = Look
+event_of (Weighs c j) = Weigh
+event_of (Seats c j) = Seat
+event_of (Seals c j phase) = Seal
+event_of (Releases c phase) = Release
+
+-- a turn is committed at place j once its seat is taken there, or once its whole list is found full
+abbrev pub CanSeal : ℕ → ℕ → Phase → Type 0
+CanSeal places j (Seated i filled) = i ≡ j
+CanSeal places j (Scan i) = (i ≡ j) × (j ≡ places)
+CanSeal places j _ = ⊥
+
+-- the mark is given back at an empty cell, or once all n turns are committed
+abbrev pub CanRelease : ℕ → ℕ → Phase → Type 0
+CanRelease n c Halted = Unit {0}
+CanRelease n c Idle = c ≡ n
+CanRelease n c _ = ⊥
+
+-- when a worker with this view may act so
+abbrev pub Allowed : Dictatorship → View → Action → Type 0
+Allowed d v Claims = (v.claim ≡ None) × (v.hold ≡ None) × (v.done ≡ false) × (v.owes ≡ false)
+Allowed d v (Reads k j) = (v.claim ≡ claim_at k j false) × (j < length (list_at d k))
+Allowed d v (Posts k j met) =
+    (v.claim ≡ claim_at k j met) × ((met ≡ true) ⊎ (j ≡ length (list_at d k)))
+Allowed d v Takes = (v.claim ≡ None) × (v.hold ≡ None)
+Allowed d v (Looks c) = (v.hold ≡ hold_at c Idle) × (c < turn_count d)
+Allowed d v (Weighs c j) = (v.hold ≡ hold_at c (Scan j)) × (j < length (list_at d c))
+Allowed d v (Seats c j) = v.hold ≡ hold_at c (Ready j)
+Allowed d v (Seals c j phase) =
+    (v.hold ≡ hold_at c phase) × CanSeal (length (list_at d c)) j phase
+Allowed d v (Releases c phase) = (v.hold ≡ hold_at c phase) × CanRelease (turn_count d) c phase
+
+-- the view with another claim
+abbrev pub with_claim : View → Option Claiming → View
+with_claim v claim = record v { claim = claim }
+
+-- the view with another holding
+abbrev pub with_hold : View → Option Holding → View
+with_hold v hold = record v { hold = hold }
+
+-- by whether the number drawn is a turn: it is claimed, or the worker is done
+abbrev pub claimed_if : Bool → View → ℕ → View
+claimed_if true v k =
+    record v { claim = claim_at k 0 false; own = v.own ++ record { turn = k; place = None } ∷ [] }
+claimed_if false v k = record v { done = true }
+
+-- the view after drawing this number
+abbrev pub claimed : Dictatorship → View → ℕ → View
+claimed d v k = claimed_if (nat_lt k (turn_count d)) v k
+
+-- by whether the entry at place j has a seat left: it is met, or passed
+abbrev pub read_if : Bool → View → ℕ → ℕ → View
+read_if true v k j = with_claim v (claim_at k j true)
+read_if false v k j = with_claim v (claim_at k (j + 1) false)
+
+-- the last of these turns is posted at place j
+abbrev pub placed : List OwnTurn → ℕ → List OwnTurn
+placed [] j = []
+placed (x ∷ []) j = record { turn = x.turn; place = Some j } ∷ []
+placed (x ∷ y ∷ ys) j = x ∷ placed (y ∷ ys) j
+
+-- the view after a post at place j
+abbrev pub posted : View → ℕ → View
+posted v j = record v { claim = None; own = placed v.own j; owes = true }
+
+-- by whether the mark was held: the try is made, and else the mark is this worker's
+abbrev pub took : View → Bool → ℕ → View
+took v true c = record v { owes = false }
+took v false c = record v { owes = false; hold = hold_at c Idle }
+
+-- the phase after a look at this cell
+abbrev pub looked : Cell → Phase
+looked (Posted j) = Scan j
+looked _ = Halted
+
+-- the phase after the entry at place j was weighed, by whether it has a seat left
+abbrev pub weighed_if : Bool → ℕ → Phase
+weighed_if true j = Ready j
+weighed_if false j = Scan (j + 1)
+
+-- whether a programme is full once one more seat is taken
+abbrev pub fills : Dictatorship → Core → ℕ → Bool
+fills d c p = nat_le (quota_of d p) (seats_of c p + 1)
+
+-- the state after the worker i, whose view is v, acts so; what is not named stays
+abbrev pub after : Dictatorship → Core → ℕ → View → Action → Core
+after d c i v Claims =
+    record c {
+      claim_number = c.claim_number + 1;
+      views = slice_set c.views i (claimed d v c.claim_number);
+    }
+after d c i v (Reads k j) =
+    record c { views = slice_set c.views i (read_if (is_open d c (entry d k j)) v k j) }
+after d c i v (Posts k j met) =
+    record c { cells = slice_set c.cells k (Posted j); views = slice_set c.views i (posted v j) }
+after d c i v Takes =
+    record c { mark_held = true; views = slice_set c.views i (took v c.mark_held c.mark_number) }
+after d c i v (Looks h) =
+    record c { views = slice_set c.views i (with_hold v (hold_at h (looked (cell_at c h)))) }
+after d c i v (Weighs h j) =
+    record c {
+      views = slice_set c.views i (with_hold v (hold_at h (weighed_if (is_open d c (entry d h j)) j)));
+    }
+after d c i v (Seats h j) =
+    record c {
+      seats = slice_set c.seats (entry d h j) (seats_of c (entry d h j) + 1);
+      views = slice_set c.views i (with_hold v (hold_at h (Seated j (fills d c (entry d h j)))));
+    }
+after d c i v (Seals h j phase) =
+    record c {
+      cells = slice_set c.cells h (Committed j);
+      views = slice_set c.views i (with_hold v (hold_at (h + 1) Idle));
+    }
+after d c i v (Releases h phase) =
+    record c { mark_held = false; mark_number = h; views = slice_set c.views i (with_hold v None) }
+
+-- what a draw tells, by whether the number drawn is a turn
+abbrev pub told_of_claim : Bool → ℕ → Told
+told_of_claim true k = tells.Claimed k
+told_of_claim false k = tells.NoTurn
+
+-- what a reading tells, by whether the entry has a seat left
+abbrev pub told_of_read : Bool → Told
+told_of_read true = tells.Met
+told_of_read false = tells.Passed
+
+-- what a try on the mark tells, by whether it was held
+abbrev pub told_of_take : Bool → ℕ → Told
+told_of_take true c = tells.Missed
+told_of_take false c = tells.Took c
+
+-- what a look at this cell tells
+abbrev pub told_of_look : Cell → Told
+told_of_look (Posted j) = tells.Found j
+told_of_look _ = tells.Nothing
+
+-- what weighing tells, by whether the entry has a seat left
+abbrev pub told_of_weigh : Bool → Told
+told_of_weigh true = tells.Room
+told_of_weigh false = tells.Full
+
+-- what an action tells
+abbrev pub told_by : Dictatorship → Core → Action → Told
+told_by d c Claims = told_of_claim (nat_lt c.claim_number (turn_count d)) c.claim_number
+told_by d c (Reads k j) = told_of_read (is_open d c (entry d k j))
+told_by d c (Posts k j met) = tells.Posted j
+told_by d c Takes = told_of_take c.mark_held c.mark_number
+told_by d c (Looks h) = told_of_look (cell_at c h)
+told_by d c (Weighs h j) = told_of_weigh (is_open d c (entry d h j))
+told_by d c (Seats h j) = tells.Seated (fills d c (entry d h j))
+told_by d c (Seals h j phase) = tells.Sealed h
+told_by d c (Releases h phase) = tells.Released h

@@ -1,0 +1,11 @@
+-- The definitions, in the order in which to read them.
+-- a core state: what the shared words hold and what each worker knows
+pub mod Core
+-- the nine events: when each is allowed, what it leads to and what it tells
+pub mod Events
+-- one event after another
+pub mod Runs
+-- when a core state is sound
+pub mod Sound
+-- what a worker of the machine keeps in memory
+pub mod Workers
