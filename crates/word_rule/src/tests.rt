@@ -1,0 +1,1 @@
+// Rounds are opened and joined.
