@@ -1,9 +1,9 @@
 -- The claim that a seat's copy shows is the one that its condition speaks of. So what the condition
 -- says, and the ranges that every seat keeps, hold of the copy.
-use Rattle.std.proofs.Common.{◌≡◌, ℕ, ◌<◌, Bool, length, Option, Some, sym, subst, ap, arith}
-use Rattle.market.specs.Dictatorships.{Dictatorship, list_at}
+use Rattle.std.proofs.Common.{◌≡◌, ℕ, ◌<◌, Bool, length, Some, subst, ap, arith}
+use Rattle.market.specs.Dictatorships.{Dictatorship}
 use Rattle.interleaving_core.specs.declared.parts.Claiming.{Claiming}
-use Rattle.interleaving_core.specs.Core.{View, turn_count, entry, claim_at}
+use Rattle.interleaving_core.specs.Core.{turn_count, entry, claim_at}
 use Rattle.interleaving_core.specs.Events.{Reads, Posts, Allowed}
 use Rattle.word_rule.specs.Rounds.{knows, dict_of, IsSeatOf}
 use Rattle.word_rule.specs.declared.seat.SharedRound.{SharedRound}

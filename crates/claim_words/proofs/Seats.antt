@@ -1,5 +1,5 @@
 -- Lists of seats at the opening, or over: one taken from the end, or put there.
-use Rattle.std.proofs.Common.{◌≡◌, ℕ, ◌+◌, List, [], ◌∷◌, ◌++◌, length, Option, Some, sym, ap, subst, ◌∙◌, ⊎_elim}
+use Rattle.std.proofs.Common.{◌≡◌, ℕ, List, [], ◌∷◌, ◌++◌, length, Some, sym, ap, subst, ◌∙◌, ⊎_elim}
 use Rattle.std.specs.Prelude.{slice_get}
 use Rattle.interleaving_core.proofs.Places.{at_snoc, at_longer, at_last}
 use Rattle.word_rule.specs.Rounds.{IsNew, AllNew, IsOver, AllOver}

@@ -1,10 +1,8 @@
 -- When a claimant's calls may be made, and the event that each of them is.
-use Rattle.std.specs.Prelude.{◌≡◌, ℕ, ◌<◌, ◌≤◌, ◌⊎◌, Bool, true, false, length, nat_lt, nat_le, Option, Some, None, MatchOption}
-use Rattle.market.specs.Dictatorships.{Dictatorship}
-use Rattle.interleaving_core.specs.declared.parts.Claiming.{Claiming}
-use Rattle.interleaving_core.specs.Core.{View, turn_count, entry, quota_of, claim_at}
+use Rattle.std.specs.Prelude.{◌≡◌, ℕ, ◌<◌, ◌≤◌, Bool, false, nat_lt, nat_le, Option, MatchOption}
+use Rattle.interleaving_core.specs.Core.{turn_count, entry, quota_of, claim_at}
 use Rattle.interleaving_core.specs.Events.{Claims, Reads, Posts, Allowed, claimed, read_if, posted}
-use Rattle.word_rule.specs.Views.{SeatKnows, with_core}
+use Rattle.word_rule.specs.Views.{with_core}
 use Rattle.word_rule.specs.Steps.{AreEarlier}
 use Rattle.word_rule.specs.Rounds.{knows}
 use Rattle.word_rule.specs.declared.seat.WorkSeat.{WorkSeat}

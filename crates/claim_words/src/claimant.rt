@@ -15,7 +15,10 @@ pub fn claim(round: &SharedRound, me: &mut WorkSeat) -> Option<u32>
     ensures stays { Stays me.old me.new }
     ensures event { Claimed me.old me.new result }
 {
-    let found = round.table.shared.fetch_add::<ClaimStep>(&mut me.seat, 0, 1);
+    let found = round
+        .table
+        .shared
+        .fetch_add::<ClaimStep>(&mut me.seat, 0, 1);
     if found >= round.turns as u64 {
         return None;
     }

@@ -147,7 +147,10 @@ fn two_seats_draw_and_post_two_turns(rt: HostRuntime) -> Result<(), Fail> {
     posts(&rt, &round, &dict, &mut second, 1);
     posts(&rt, &round, &dict, &mut first, 0);
     // two turns drawn, a free mark, no seat taken, and both turns posted at their first entry
-    assert_eq!(rt; words_of(alloc, &round)?.as_slice(), &[2, 0, 0, 0, 1, 1][..]);
+    assert_eq!(rt;
+        words_of(alloc, &round)?.as_slice(),
+        &[2, 0, 0, 0, 1, 1][..]
+    );
     Ok(())
 }
 
@@ -161,7 +164,10 @@ fn a_round_is_joined_again(rt: HostRuntime) -> Result<(), Fail> {
         let joined = join_all(&round, seats);
         assert!(rt; joined.claim.is_none() && joined.phase.is_none());
         // each worker drew once
-        assert_eq!(rt; words_of(alloc, &round)?.as_slice(), &[workers as u64, 0][..]);
+        assert_eq!(rt;
+            words_of(alloc, &round)?.as_slice(),
+            &[workers as u64, 0][..]
+        );
     }
     Ok(())
 }

@@ -1,4 +1,4 @@
-use Rattle.std.proofs.Common.{◌≡◌, ℕ, zero, suc, ◌<◌, length, ap, sym, ◌∙◌, subst, false, arith}
+use Rattle.std.proofs.Common.{◌≡◌, ℕ, zero, suc, ◌<◌, length, sym, ◌∙◌, subst, arith}
 use Rattle.market.specs.Dictatorships.{Dictatorship, list_at}
 use Rattle.market.specs.Examples.{two_turns}
 use Rattle.claim_words.proofs.tests.meets.Goals as goal
