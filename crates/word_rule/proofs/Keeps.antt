@@ -1,0 +1,187 @@
+-- A step that is an event of the core keeps the rule. Whatever the table is when the step comes,
+-- its words and views are a sound core state. The event is allowed by what the seat's own view says,
+-- so the state after it is sound; and the table after the step shows that state, since the step
+-- changes one word and one view, as the event does.
+use Rattle.std.proofs.Common.{◌≡◌, ℕ, zero, suc, ◌/◌, ◌<◌, ◌≤◌, ◌≢◌, true, List, [], ◌∷◌, length, set, get_or, Some, sym, refl, ap, inr, ⊎_elim, subst, ◌∙◌, arith}
+use Rattle.std.specs.Prelude.{slice_get}
+use Rattle.atomic_table.specs.Table.{State}
+use Rattle.market.specs.Dictatorships.{Dictatorship}
+use Rattle.interleaving_core.specs.Core.{View, Core}
+use Rattle.interleaving_core.specs.Events.{Action, Allowed, after}
+use Rattle.interleaving_core.specs.Sound.{ViewFits, Sound}
+use Rattle.interleaving_core.proofs.Places.{at_set, sum_set}
+use Rattle.interleaving_core.proofs.Keeps as core
+use Rattle.word_rule.specs.Layout.{core_of}
+use Rattle.word_rule.specs.Views.{SeatKnows, with_core, core_views}
+use Rattle.word_rule.specs.Copies.{IsInRange}
+use Rattle.word_rule.specs.Rule.{IsLive, Belongs, IsSoundTable, share_of, table_core}
+use Rattle.word_rule.specs.declared.rule.RoundKey.{RoundKey}
+use Rattle.word_rule.proofs.CoreViews.{place, at_place, set_place}
+
+-- the seat's number, share and round stay, and it stands for others only where it is done
+pub record IsSameSeat (x y : SeatKnows) : Type 0 where
+  pub number : y.number ≡ x.number
+  pub share : y.share ≡ x.share
+  pub dict : y.dict ≡ x.dict
+  pub workers : y.workers ≡ x.workers
+  pub alone : 1 < x.share → (x.core.done ≡ true) × (y.core.done ≡ true)
+
+-- a seat stays the same where its view of the core alone changes, and it is done before and after
+-- where it stands for others
+pub same_seat : (x : SeatKnows) (v : View) → (1 < x.share → (x.core.done ≡ true) × (v.done ≡ true))
+    → IsSameSeat x (with_core x v)
+same_seat x v alone =
+    record { number = refl; share = refl; dict = refl; workers = refl; alone = alone }
+
+-- a view that fits a state speaks of the round's turns and places
+pub fits_in_range : (d : Dictatorship) (c : Core) (count : ℕ) (v : View) → count ≤ length d.lists
+    → ViewFits d c count v → IsInRange d v
+fits_in_range d c count v within f =
+    record {
+      claimed = λ k j met e. (f.claim _ e).turn;
+      passed = λ k j met e. (f.claim _ e).passed;
+      met = λ k j e. (f.claim _ e).met refl;
+      committed = λ h phase e. let a = (f.hold _ e).committed in omega arith;
+      scanned = λ h j e. (f.hold _ e).phase.0.0;
+      scanned_place = λ h j e. (f.hold _ e).phase.1;
+      ready = λ h j e. (f.hold _ e).phase.0.0;
+      ready_place = λ h j e. (f.hold _ e).phase.1;
+      seated = λ h j full e. (f.hold _ e).phase.0.0;
+      seated_place = λ h j full e. (f.hold _ e).phase.1;
+    }
+
+here_set : {A : Type 0} (l : List A) (i : ℕ) (x y : A) → slice_get l i ≡ Some x
+    → slice_get (set l i y) i ≡ Some y
+here_set [] i x y e = absurd (cc (e))
+here_set (z ∷ zs) zero x y e = refl
+here_set (z ∷ zs) (suc i) x y e = here_set zs i x y e
+
+-- a live seat after one has changed is a live seat from before, with the same number and share
+pub record Was (l : List SeatKnows) (i : ℕ) (a : SeatKnows) : Type 0 where
+  pub seat : SeatKnows
+  pub live : IsLive l i seat
+  pub number : seat.number ≡ a.number
+  pub share : seat.share ≡ a.share
+  pub done : 1 < a.share → seat.core.done ≡ a.core.done
+
+was : (l : List SeatKnows) (id : ℕ) (x y : SeatKnows) → IsLive l id x → IsSameSeat x y
+    → (i : ℕ) (a : SeatKnows) → IsLive (set l id y) i a → Was l i a
+was l id x y at same i a is =
+    ⊎_elim
+    (λ (t : (i ≡ id) × (y ≡ a)).
+    let share : x.share ≡ a.share = sym same.share ∙ ap (λ (u : SeatKnows). u.share) t.1 in
+    record {
+      seat = x;
+      live = record { there = ap (slice_get l) t.0 ∙ at.there; live = at.live };
+      number = sym same.number ∙ ap (λ (u : SeatKnows). u.number) t.1;
+      share = share;
+      done = λ more.
+          let q = same.alone (omega arith) in
+          q.0 ∙ (sym q.1 ∙ ap (λ (u : SeatKnows). u.core.done) t.1);
+    })
+    (λ (t : (i ≢ id) × (slice_get l i ≡ Some a)).
+    record {
+      seat = a;
+      live = record { there = t.1; live = is.live };
+      number = refl;
+      share = refl;
+      done = λ _. refl;
+    })
+    (at_set l id i y a is.there)
+
+module _ (key : RoundKey) where
+  abbrev pub d : Dictatorship
+  d = key.dict.value
+
+  abbrev pub Table : Type 0
+  Table = State ℕ SeatKnows
+
+  -- a seat's view fits the core state of the table
+  pub seat_fits : (s : Table) (h : IsSoundTable key s) (i : ℕ) (x : SeatKnows) → IsLive s.views i x
+      → ViewFits d (table_core key s) h.sound.count x.core
+  seat_fits s h i x at = h.sound.views (place s.views i) x.core (at_place s.views i x at)
+
+  -- so it speaks of the round's turns and places
+  pub seat_in_range : (s : Table) (h : IsSoundTable key s) (i : ℕ) (x : SeatKnows)
+      → IsLive s.views i x → IsInRange x.dict x.core
+  seat_in_range s h i x at =
+      subst (λ (z : Dictatorship). IsInRange z x.core) (sym (h.each i x at).dict)
+      (fits_in_range d (table_core key s) h.sound.count x.core h.sound.mark.within
+      (seat_fits s h i x at))
+
+  abbrev pub table_after : Table → ℕ → SeatKnows → List ℕ → Table
+  table_after s id y words = record { words = words; homes = s.homes; views = set s.views id y }
+
+  -- the changed seat is live
+  pub live_after : (s : Table) (id : ℕ) (x y : SeatKnows) → IsLive s.views id x → IsSameSeat x y
+      → IsLive (set s.views id y) id y
+  live_after s id x y at same =
+      let share = same.share in
+      let live = at.live in
+      record { there = here_set s.views id x y at.there; live = omega arith }
+
+  -- the rule stays where the core state after the step is sound
+  pub sound_keeps : (s : Table) (h : IsSoundTable key s) (id : ℕ) (x y : SeatKnows) (words : List ℕ)
+      → IsLive s.views id x → IsSameSeat x y → length words ≡ length s.words
+      → Sound d (core_of d words (core_views (set s.views id y)))
+      → get_or s.words 1 0 / 2 ≤ get_or words 1 0 / 2 → y.released ≤ get_or words 1 0 / 2
+      → IsSoundTable key (table_after s id y words)
+  sound_keeps s h id x y words at same long sound grows behind =
+      let b = h.each id x at in
+      let share = same.share in
+      record {
+        valid = h.valid;
+        team = h.team;
+        wide = long ∙ h.wide;
+        sound = sound;
+        shares = omega (arith, sum_set share_of s.views id x y at.there, h.shares);
+        each = λ i a is.
+            ⊎_elim
+            (λ (t : (i ≡ id) × (y ≡ a)).
+            subst (Belongs key (get_or words 1 0 / 2)) t.1 record {
+              dict = same.dict ∙ b.dict;
+              workers = same.workers ∙ b.workers;
+              wide = λ more. inr (same.alone (omega arith)).1;
+              behind = behind;
+            })
+            (λ (t : (i ≢ id) × (slice_get s.views i ≡ Some a)).
+            let f = h.each i a record { there = t.1; live = is.live } in
+            let told = f.behind in
+            record { dict = f.dict; workers = f.workers; wide = f.wide; behind = omega arith })
+            (at_set s.views id i y a is.there);
+        apart = λ i j a c ai cj other same_number.
+            let p = was s.views id x y at same i a ai in
+            let q = was s.views id x y at same j c cj in
+            h.apart i j p.seat q.seat p.live q.live other (p.number ∙ (same_number ∙ sym q.number));
+        last = λ i j a c ai cj other more not_done.
+            let p = was s.views id x y at same i a ai in
+            let q = was s.views id x y at same j c cj in
+            let ps = p.share in
+            let unfinished = p.done more ∙ not_done in
+            let n = h.last i j p.seat q.seat p.live q.live other (omega arith) unfinished in
+            let pn = p.number in
+            let qn = q.number in
+            omega arith;
+      }
+
+  -- the views of the core after the step
+  pub views_after : (s : Table) (id : ℕ) (x y : SeatKnows) → IsLive s.views id x → IsSameSeat x y
+      → core_views (set s.views id y) ≡ set (core_views s.views) (place s.views id) y.core
+  views_after s id x y at same =
+      set_place s.views id x y at same.share (λ more. let q = same.alone more in q.1 ∙ sym q.0)
+
+  -- the rule stays where the step is an event that the seat's view allows
+  pub event_keeps : (s : Table) (h : IsSoundTable key s) (id : ℕ) (x y : SeatKnows)
+      (words : List ℕ) (a : Action) → IsLive s.views id x → IsSameSeat x y → Allowed d x.core a
+      → length words ≡ length s.words
+      → core_of d words (set (core_views s.views) (place s.views id) y.core)
+      ≡ after d (table_core key s) (place s.views id) x.core a
+      → get_or s.words 1 0 / 2 ≤ get_or words 1 0 / 2 → y.released ≤ get_or words 1 0 / 2
+      → IsSoundTable key (table_after s id y words)
+  event_keeps s h id x y words a at same may long is grows behind =
+      let own = at_place s.views id x at in
+      let leads = ap (core_of d words) (views_after s id x y at same) ∙ is in
+      sound_keeps s h id x y words at same long
+      (subst (Sound d) (sym leads)
+      (core.keeps d (table_core key s) (place s.views id) x.core a h.valid h.sound own may))
+      grows behind

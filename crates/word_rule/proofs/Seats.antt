@@ -1,0 +1,52 @@
+-- Lists of seats: the last one taken away, or one put behind the others.
+use Rattle.std.proofs.Common.{◌≡◌, ℕ, ◌+◌, ◌-◌, List, [], ◌∷◌, ◌++◌, length, take, Some, sym, refl, ap, subst, ◌∙◌, ⊎_elim, arith}
+use Rattle.std.specs.Prelude.{slice_get}
+use Rattle.std.proofs.lemmas.List.Sums.{sum_by-append, sum_by-cons}
+use Rattle.interleaving_core.proofs.Places.{at_snoc, at_longer, at_last}
+use Rattle.word_rule.specs.Rule.{share_of}
+use Rattle.word_rule.specs.Rounds.{knows, shares_of, IsNew, AllNew, IsOver, AllOver}
+use Rattle.word_rule.specs.declared.seat.SharedRound.{SharedRound}
+use Rattle.word_rule.specs.declared.seat.WorkSeat.{WorkSeat}
+
+-- the last of seats that are over, and the others
+pub over_last : (round : SharedRound) (l xs : List WorkSeat) (m : WorkSeat) → l ≡ xs ++ m ∷ []
+    → AllOver round l → IsOver round m × AllOver round xs
+over_last round l xs m is all = (
+  all (length xs) m (ap (λ z. slice_get z (length xs)) is ∙ at_last xs m),
+  λ k me e. all k me (ap (λ z. slice_get z k) is ∙ at_longer xs (m ∷ []) k me e),
+)
+
+-- their shares
+pub shares_last : (l xs : List WorkSeat) (m : WorkSeat) → l ≡ xs ++ m ∷ []
+    → shares_of l ≡ (knows m).share + shares_of xs
+shares_last l xs m is =
+    let f : WorkSeat → ℕ = λ me. share_of (knows me) in
+    let one = sum_by-cons f m [] in
+    let both = sum_by-append f xs (m ∷ []) in
+    let all = ap (λ z. shares_of z) is in
+    omega arith
+
+-- no seat is left
+pub shares_none : (l left : List WorkSeat) (n : ℕ) → l ≡ left ++ [] → n ≡ 0 → left ≡ take (n - 1) l
+    → shares_of l ≡ 0
+shares_none l left n is none rest =
+    let empty : left ≡ [] = rest ∙ ap (λ (k : ℕ). take (k - 1) l) none in
+    ap (λ z. shares_of z) (is ∙ ap (λ (z : List WorkSeat). z ++ []) empty)
+
+-- one more seat at the opening
+pub new_snoc : (round : SharedRound) (l xs : List WorkSeat) (m : WorkSeat) → l ≡ xs ++ m ∷ []
+    → AllNew round xs → IsNew round (length xs) m → AllNew round l
+new_snoc round l xs m is all mine k me e =
+    ⊎_elim
+    (λ (t : slice_get xs k ≡ Some me). all k me t)
+    (λ (t : (k ≡ length xs) × (m ≡ me)).
+    subst (λ (z : ℕ × WorkSeat). IsNew round z.0 z.1) (λ i. (sym t.0 i, t.1 i)) mine)
+    (at_snoc xs m me k (ap (λ z. slice_get z k) (sym is) ∙ e))
+
+-- one more seat
+pub count_snoc : (l xs : List WorkSeat) (m : WorkSeat) → l ≡ xs ++ m ∷ [] → length l ≡ length xs + 1
+count_snoc l xs m is = ap (λ z. length z) is ∙ one xs
+  where
+    one : (xs : List WorkSeat) → length (xs ++ m ∷ []) ≡ length xs + 1
+    one [] = refl
+    one (y ∷ ys) = omega (arith, one ys)

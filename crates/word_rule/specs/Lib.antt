@@ -1,0 +1,13 @@
+-- The definitions, in the order in which to read them.
+-- what each word of the table holds
+pub mod Layout
+-- what each seat of the table knows
+pub mod Views
+-- what a seat's run-time copies say of its view
+pub mod Copies
+-- the one rule: words and views together are one sound core state
+pub mod Rule
+-- what each atomic step of a claimant tells
+pub mod Steps
+-- a round and its seats, as clauses speak of them
+pub mod Rounds

@@ -1,0 +1,69 @@
+-- What each seat of a round's table knows.
+use Rattle.std.specs.Prelude.{ℕ, zero, suc, ◌+◌, ◌-◌, Bool, true, false, List, [], ◌∷◌, ◌++◌, replicate, None}
+use Rattle.market.specs.Dictatorships.{Dictatorship}
+use Rattle.interleaving_core.specs.Core.{View, fresh_view}
+
+-- a worker's view of the core; the seat's number and its share, which is how many workers it stands
+-- for; the number of its last take that found the mark free, and the number that its last release
+-- wrote; and the round's dictatorship and number of workers
+pub record SeatKnows : Type 0 where
+  pub core : View
+  pub number : ℕ
+  pub share : ℕ
+  pub took : ℕ
+  pub released : ℕ
+  pub dict : Dictatorship
+  pub workers : ℕ
+
+-- the view of a worker that is done, once nobody knows its own turns any more
+abbrev pub ended_view : View
+ended_view = record { claim = None; own = []; done = true; owes = false; hold = None }
+
+-- the view of each other worker that a seat with a larger share stands for
+abbrev pub other_view : Bool → View
+other_view true = ended_view
+other_view false = fresh_view
+
+-- the views of the core that a view with a share gives: itself, and one fewer of the others
+abbrev pub shared_views : ℕ → View → List View
+shared_views zero v = []
+shared_views (suc more) v = v ∷ replicate more (other_view v.done)
+
+-- the views of the core that these seats give
+abbrev pub core_views : List SeatKnows → List View
+core_views [] = []
+core_views (x ∷ xs) = shared_views x.share x.core ++ core_views xs
+
+-- what the one seat knows with which a round's table is made: it stands for every worker
+abbrev pub first_seat : Dictatorship → ℕ → SeatKnows
+first_seat d workers =
+    record {
+      core = fresh_view;
+      number = 0;
+      share = workers;
+      took = 0;
+      released = 0;
+      dict = d;
+      workers = workers;
+    }
+
+-- what a seat knows that was joined away: it stands for nobody
+abbrev pub spent_seat : SeatKnows
+spent_seat = first_seat (record { quota = []; fill = []; lists = [] }) 0
+
+-- a split: the seat keeps one share
+abbrev pub kept_part : SeatKnows → SeatKnows
+kept_part x = record x { share = 1 }
+
+-- a split: the new seat has the other shares and the next number
+abbrev pub new_part : SeatKnows → SeatKnows
+new_part x =
+    record x { core = fresh_view; number = x.number + 1; share = x.share - 1; took = 0; released = 0 }
+
+-- a join: the share of the other seat is added
+abbrev pub joined : SeatKnows → SeatKnows → SeatKnows
+joined x y = record x { share = x.share + y.share }
+
+-- the seat with another view of the core
+abbrev pub with_core : SeatKnows → View → SeatKnows
+with_core x v = record x { core = v }

@@ -1,0 +1,24 @@
+//! The words that the workers of a round share, and the one rule over them.
+//!
+//! A round runs one dictatorship on a table of words: the claim number, the mark, a seat count for
+//! each programme and a cell for each turn. Each worker steps on them with a seat, which has a view
+//! of what the worker knows. The rule says that words and views together are one sound state of the
+//! core. Every atomic step is proved to keep it, whatever the table is when the step comes. So it
+//! holds between any two steps, in whatever order the workers make them.
+#![tactic(auto)]
+
+// The rule, what a table is made with, and the kinds of atomic step.
+mod rule;
+// The table of a round, and a worker's seat.
+mod seat;
+// The opening of a round, and the joining of its seats.
+mod opening;
+#[cfg(test)]
+mod tests;
+
+pub use interleaving_core::{Claiming as ClaimCopy, Phase as PhaseCopy};
+pub use opening::{join_all, open_round};
+pub use rule::{
+    ClaimStep, PostStep, ReadStep, RoundKey, RoundRule, RoundSeat, RoundTable, SeatView, ShareMove,
+};
+pub use seat::{SharedRound, WorkSeat};

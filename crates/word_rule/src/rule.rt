@@ -1,0 +1,90 @@
+// The rule of a round's table, what a table is made with, and the kinds of atomic step.
+
+use atomic_table::{Join, Play, Seat, Split, Table, TableRule};
+use market::Dict;
+use std::alloc::Global;
+use std::marker::Model;
+use std::snapshot::Snapshot;
+
+/// What a seat knows: plain data that exists in proofs alone. No value of this type is made.
+pub struct SeatView {
+    nothing: (),
+}
+
+impl Model for SeatView {
+    ghost use Rattle.word_rule.specs.Views.{SeatKnows, spent_seat};
+
+    ghost Value = { SeatKnows };
+
+    ghost view = { λ _. spent_seat };
+}
+
+/// What a round's table is made with: the dictatorship, and the number of workers.
+#[derive(Drop)]
+pub struct RoundKey {
+    pub dict: Snapshot<Dict>,
+    pub workers: u32,
+}
+
+/// Words and views together are one sound core state.
+pub struct RoundRule;
+
+impl TableRule<u8, SeatView, RoundKey> for RoundRule {
+    ghost use Rattle.word_rule.specs.Rule.{IsSoundTable, first_of};
+
+    ghost holds = { IsSoundTable };
+
+    ghost first = { first_of };
+}
+
+/// The words of a round, under the rule. There are no slots.
+pub type RoundTable = Table<u8, SeatView, RoundKey, RoundRule, Global>;
+
+/// A seat of such a table.
+pub type RoundSeat = Seat<u8, SeatView>;
+
+/// A worker draws the next turn: a fetch-and-add on the claim word.
+pub struct ClaimStep;
+
+impl Play<u8, SeatView> for ClaimStep {
+    ghost use Rattle.word_rule.specs.Steps.{claim_tells};
+
+    ghost then = { claim_tells };
+}
+
+/// A claimant reads the seat count of the next entry: a load of its seat word.
+pub struct ReadStep;
+
+impl Play<u8, SeatView> for ReadStep {
+    ghost use Rattle.word_rule.specs.Steps.{read_tells};
+
+    ghost then = { read_tells };
+}
+
+/// A claimant posts the place that it found: a store to its turn's cell.
+pub struct PostStep;
+
+impl Play<u8, SeatView> for PostStep {
+    ghost use Rattle.word_rule.specs.Steps.{post_tells};
+
+    ghost then = { post_tells };
+}
+
+/// Seats are split and joined: their shares move, and the core state stays as it was.
+pub struct ShareMove;
+
+impl Split<SeatView> for ShareMove {
+    ghost use Rattle.word_rule.specs.Views.{kept_part, new_part};
+
+    ghost left = { kept_part };
+
+    ghost right = { new_part };
+}
+
+impl Join<SeatView> for ShareMove {
+    ghost use Rattle.word_rule.specs.Views.{joined, spent_seat};
+
+    ghost both = { joined };
+
+    ghost spent = { spent_seat };
+}
