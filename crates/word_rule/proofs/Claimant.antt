@@ -8,8 +8,8 @@ use Rattle.atomic_table.specs.Table.{keeps, Allows}
 use Rattle.market.specs.Dictatorships.{Dictatorship}
 use Rattle.interleaving_core.specs.declared.parts.Cell.TheVariants.{Posted}
 use Rattle.interleaving_core.specs.Core.{View, Core, turn_count, entry, quota_of, seats_of}
-use Rattle.interleaving_core.specs.Events.{Claims, Reads, Posts, Allowed, claimed, read_if, posted, after}
-use Rattle.interleaving_core.specs.Sound.{bit, ends, OwnTurnsFit}
+use Rattle.interleaving_core.specs.Events.{Claims, Reads, Posts, Allowed, after_claim, after_read, after_post, after}
+use Rattle.interleaving_core.specs.Sound.{bit, done_bit, OwnTurnsFit}
 use Rattle.word_rule.specs.Layout.{cell_of, core_of, programme_count}
 use Rattle.word_rule.specs.Views.{SeatKnows, with_core, other_view, shared_views, core_views}
 use Rattle.word_rule.specs.Rule.{IsLive, IsSoundTable, share_of, table_core}
@@ -20,10 +20,10 @@ use Rattle.word_rule.proofs.Words.{cell_posted, seat_word, claim_word, cell_word
 use Rattle.word_rule.proofs.Keeps.{IsSameSeat, live_after, seat_in_range, seat_fits, event_keeps}
 
 -- no seat gives more done views than its share
-few_ends : (n : ℕ) (v : View) → sum_by ends (shared_views n v) ≤ n
+few_ends : (n : ℕ) (v : View) → sum_by done_bit (shared_views n v) ≤ n
 few_ends zero v = omega arith
 few_ends (suc n) v =
-    let a = shared_sum ends n v in
+    let a = shared_sum done_bit n v in
     let b = at_most_one v.done in
     let c = times_le n (other_view v.done).done in
     omega arith
@@ -36,13 +36,13 @@ few_ends (suc n) v =
     times_le n true = omega arith
     times_le n false = omega arith
 
-pub ends_le : (l : List SeatKnows) → sum_by ends (core_views l) ≤ sum_by share_of l
-ends_le l = let e = sum_views ends l in omega (arith, each l)
+pub ends_le : (l : List SeatKnows) → sum_by done_bit (core_views l) ≤ sum_by share_of l
+ends_le l = let e = sum_views done_bit l in omega (arith, each l)
   where
-    each : (l : List SeatKnows) → sum_by (weight ends) l ≤ sum_by share_of l
+    each : (l : List SeatKnows) → sum_by (weight done_bit) l ≤ sum_by share_of l
     each [] = omega arith
     each (x ∷ xs) =
-        omega (arith, few_ends x.share x.core, each xs, sum_by-cons (weight ends) x xs, sum_by-cons share_of x xs)
+        omega (arith, few_ends x.share x.core, each xs, sum_by-cons (weight done_bit) x xs, sum_by-cons share_of x xs)
 
 -- a seat that is not done stands for itself alone
 pub one_share : (n : ℕ) (b : Bool) → 0 < n → (1 < n → b ≡ true) → b ≡ false → n ≡ 1
@@ -64,7 +64,7 @@ earlier d c v none f =
       rise = f.rise;
     }
 
-read_done : (b : Bool) (v : View) (k j : ℕ) → (read_if b v k j).done ≡ v.done
+read_done : (b : Bool) (v : View) (k j : ℕ) → (after_read b v k j).done ≡ v.done
 read_done true v k j = refl
 read_done false v k j = refl
 
@@ -80,10 +80,10 @@ module _ (key : RoundKey) where
       let live : IsLive s.views id x = record { there = there s.views id x at; live = omega arith } in
       let n = get_or s.words 0 0 in
       let b = h.each id x live in
-      let y = with_core x (claimed x.dict x.core n) in
+      let y = with_core x (after_claim x.dict x.core n) in
       let same : IsSameSeat x y = record { number = refl; share = refl; dict = refl; workers = refl; alone = λ more. absurd (omega arith) } in
       let done = ends_le s.views in
-      let few = h.sound.few in
+      let few = h.sound.claims.few in
       let shares = h.shares in
       let team = h.team in
       let turns = h.valid.turns in
@@ -97,7 +97,7 @@ module _ (key : RoundKey) where
       claim_word d s.words views next (omega arith)
       ∙ (λ k. record (table_core key s) {
         claim_number = up k;
-        views = set (core_views s.views) (place s.views id) (claimed (b.dict k) x.core n);
+        views = set (core_views s.views) (place s.views id) (after_claim (b.dict k) x.core n);
       }) in
       let fit = seat_fits key s h id x live in
       let kept = event_keeps key s h id x y (set s.words 0 next) Claims live same may (length-set s.words 0 next) is
@@ -122,7 +122,7 @@ module _ (key : RoundKey) where
       let live : IsLive s.views id x = record { there = there s.views id x at; live = some } in
       let found = get_or s.words i 0 in
       let p = entry d k j in
-      let seen_view : ℕ → View = λ n. read_if (nat_lt n (quota_of d p)) x.core k j in
+      let seen_view : ℕ → View = λ n. after_read (nat_lt n (quota_of d p)) x.core k j in
       let y = with_core x (read_by x.dict x.core x.core.claim found) in
       let by : y.core ≡ seen_view found =
       (λ z. read_by (round z) x.core (may.0 z) found) in
@@ -157,7 +157,7 @@ module _ (key : RoundKey) where
   post_allowed slots id me i k j word met some alone may is shows s h homes at fits =
       let x = me.0 in
       let live : IsLive s.views id x = record { there = there s.views id x at; live = some } in
-      let y = with_core x (posted x.core (word / 2)) in
+      let y = with_core x (after_post x.core (word / 2)) in
       let same : IsSameSeat x y = record { number = refl; share = refl; dict = refl; workers = refl; alone = λ more. (alone more, alone more) } in
       let half : word / 2 ≡ j = omega arith in
       let shown : cell_of word ≡ Posted j = ap cell_of shows ∙ cell_posted j in
@@ -166,7 +166,7 @@ module _ (key : RoundKey) where
       cell_word d s.words (set (core_views s.views) (place s.views id) y.core) i k word (Posted j) is shown
       ∙ ap (λ (z : ℕ). record (table_core key s) {
         cells = set (table_core key s).cells k (Posted j);
-        views = set (core_views s.views) (place s.views id) (posted x.core z);
+        views = set (core_views s.views) (place s.views id) (after_post x.core z);
       }) half in
       let mark : get_or (set s.words i word) 1 0 ≡ get_or s.words 1 0 =
       get_or-set_other s.words i 1 word 0 (λ e. omega arith) in

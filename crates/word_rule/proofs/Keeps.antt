@@ -31,16 +31,16 @@ pub fits_in_range : (d : Dictatorship) (c : Core) (count : ℕ) (v : View) → c
     → ViewFits d c count v → IsInRange d v
 fits_in_range d c count v within f =
     record {
-      claimed = λ k j met e. (f.drawn _ e).0;
-      passed = λ k j met e. (f.passed _ e).0;
-      met = λ k j e. f.met _ e refl;
-      committed = λ h phase e. let a = f.at_count _ e in omega arith;
-      scanned = λ h j e. (f.phase _ e).0.0;
-      scanned_place = λ h j e. (f.phase _ e).1;
-      ready = λ h j e. (f.phase _ e).0.0;
-      ready_place = λ h j e. (f.phase _ e).1;
-      seated = λ h j full e. (f.phase _ e).0.0;
-      seated_place = λ h j full e. (f.phase _ e).1;
+      claimed = λ k j met e. (f.claim _ e).turn;
+      passed = λ k j met e. (f.claim _ e).passed;
+      met = λ k j e. (f.claim _ e).met refl;
+      committed = λ h phase e. let a = (f.hold _ e).committed in omega arith;
+      scanned = λ h j e. (f.hold _ e).phase.0.0;
+      scanned_place = λ h j e. (f.hold _ e).phase.1;
+      ready = λ h j e. (f.hold _ e).phase.0.0;
+      ready_place = λ h j e. (f.hold _ e).phase.1;
+      seated = λ h j full e. (f.hold _ e).phase.0.0;
+      seated_place = λ h j full e. (f.hold _ e).phase.1;
     }
 
 here_set : {A : Type 0} (l : List A) (i : ℕ) (x y : A) → slice_get l i ≡ Some x
@@ -92,14 +92,14 @@ module _ (key : RoundKey) where
   -- a seat's view fits the core state of the table
   pub seat_fits : (s : Table) (h : IsSoundTable key s) (i : ℕ) (x : SeatKnows) → IsLive s.views i x
       → ViewFits d (table_core key s) h.sound.count x.core
-  seat_fits s h i x at = h.sound.each (place s.views i) x.core (at_place s.views i x at)
+  seat_fits s h i x at = h.sound.views (place s.views i) x.core (at_place s.views i x at)
 
   -- so it speaks of the round's turns and places
   pub seat_in_range : (s : Table) (h : IsSoundTable key s) (i : ℕ) (x : SeatKnows) → IsLive s.views i x
       → IsInRange x.dict x.core
   seat_in_range s h i x at =
       subst (λ (z : Dictatorship). IsInRange z x.core) (sym (h.each i x at).dict)
-      (fits_in_range d (table_core key s) h.sound.count x.core h.sound.within (seat_fits s h i x at))
+      (fits_in_range d (table_core key s) h.sound.count x.core h.sound.mark.within (seat_fits s h i x at))
 
   abbrev pub table_after : Table → ℕ → SeatKnows → List ℕ → Table
   table_after s id y words = record { words = words; homes = s.homes; views = set s.views id y }

@@ -10,7 +10,7 @@ use Rattle.market.specs.Dictatorships.{Dictatorship}
 use Rattle.interleaving_core.specs.declared.parts.Phase.{Phase}
 use Rattle.interleaving_core.specs.declared.parts.Phase.TheVariants.{Idle, Halted, Scan, Ready, Seated}
 use Rattle.interleaving_core.specs.Core.{View, Core, fresh_view}
-use Rattle.interleaving_core.specs.Sound.{bit, some_bit, is_claim_of, seated_by, holds, ends, claims_turn, seated, PhaseFits, ViewFits, Sound}
+use Rattle.interleaving_core.specs.Sound.{bit, some_bit, turn_bit, holder_seat_bit, hold_bit, done_bit, claim_bit, seat_bit, PhaseFits, ViewFits, Sound}
 use Rattle.interleaving_core.proofs.Places.{at_set, at_snoc, sum_set}
 use Rattle.interleaving_core.proofs.OwnTurns.{own_stays, own_nil}
 use Rattle.word_rule.specs.Views.{SeatKnows, ended_view, other_view, shared_views, core_views, kept_part, new_part, joined, spent_seat}
@@ -33,42 +33,48 @@ module _ (d : Dictatorship) (c : Core) (vs : List View) where
   refits : (count : ℕ) (v : View) → ViewFits d c count v → ViewFits d regrouped count v
   refits count v f =
       record {
-        drawn = f.drawn;
-        passed = f.passed;
-        met = f.met;
-        one_claim = f.one_claim;
-        one_debt = f.one_debt;
-        quiet = f.quiet;
-        past = f.past;
-        at_count = f.at_count;
-        phase = λ h is. phase_refits h.committed h.phase (f.phase h is);
+        one = f.one;
+        claim = λ x is.
+            let g = f.claim x is in
+            record { turn = g.turn; drawn = g.drawn; passed = g.passed; full = g.full; met = g.met };
+        hold = λ h is.
+            let g = f.hold h is in
+            record { committed = g.committed; phase = phase_refits h.committed h.phase g.phase };
         own = own_stays d c regrouped v.own v.claim (omega arith) (λ k j e. e) f.own;
+        past = f.past;
       }
 
   -- a sound state stays so where its views are others with the same sums
-  pub resound : (s : Sound d c) → sum_by holds vs ≡ sum_by holds c.views
-      → sum_by ends vs ≡ sum_by ends c.views
-      → ((k : ℕ) → sum_by (claims_turn k) vs ≡ sum_by (claims_turn k) c.views)
-      → ((p : ℕ) → sum_by (seated d p) vs ≡ sum_by (seated d p) c.views)
+  pub resound : (s : Sound d c) → sum_by hold_bit vs ≡ sum_by hold_bit c.views
+      → sum_by done_bit vs ≡ sum_by done_bit c.views
+      → ((k : ℕ) → sum_by (claim_bit k) vs ≡ sum_by (claim_bit k) c.views)
+      → ((p : ℕ) → sum_by (seat_bit d p) vs ≡ sum_by (seat_bit d p) c.views)
       → ((i : ℕ) (v : View) → slice_get vs i ≡ Some v → ViewFits d c s.count v)
       → Sound d regrouped
-  resound s same_holds same_ends same_claims same_seated each =
+  resound s same_holds same_ends same_claims same_seats each =
       record {
         count = s.count;
-        within = s.within;
-        behind = s.behind;
-        free = s.free;
-        cells_count = s.cells_count;
-        seats_count = s.seats_count;
-        holders = same_holds ∙ s.holders;
-        below = s.below;
-        above = s.above;
-        seats = λ p l. let a = s.seats p l in let e = same_seated p in omega arith;
+        mark =
+            record {
+              within = s.mark.within;
+              behind = s.mark.behind;
+              free = s.mark.free;
+              holders = same_holds ∙ s.mark.holders;
+            };
+        cells = s.cells;
+        seats =
+            record {
+              each_programme = s.seats.each_programme;
+              counts = λ p l. let n = s.seats.counts p l in let e = same_seats p in omega arith;
+            };
         posts = s.posts;
-        claimed = λ k l m. same_claims k ∙ s.claimed k l m;
-        untouched = s.untouched;
-        few = let a = s.few in omega arith;
-        each = λ i v at. refits s.count v (each i v at);
+        claims =
+            record {
+              claimed = λ k l m. same_claims k ∙ s.claims.claimed k l m;
+              untouched = s.claims.untouched;
+              few = let few = s.claims.few in omega arith;
+            };
+        views = λ i v at. refits s.count v (each i v at);
       }
 
 -- the two parts of a split seat weigh what it weighed
@@ -99,7 +105,7 @@ module _ (key : RoundKey) where
   -- each other view that a seat stands for fits as well
   other_fits : (s : Table) (h : IsSoundTable key s) (i : ℕ) (x : SeatKnows) → IsLive s.views i x
       → 1 < x.share → Fits s h (other_view x.core.done)
-  other_fits s h i x at more = let t = other_there s.views i x at more in h.sound.each t.0 (other_view x.core.done) t.1
+  other_fits s h i x at more = let t = other_there s.views i x at more in h.sound.views t.0 (other_view x.core.done) t.1
 
   -- a view of a seat from before fits
   old_fits : (s : Table) (h : IsSoundTable key s) (i : ℕ) (x : SeatKnows) (v : View) → IsLive s.views i x
@@ -180,8 +186,8 @@ module _ (key : RoundKey) where
         valid = h.valid;
         team = h.team;
         wide = h.wide;
-        sound = resound d (table_core key s) (core_views vs) h.sound (sums holds) (sums ends)
-            (λ k. sums (claims_turn k)) (λ p. sums (seated d p)) (λ i v e. fits_of v (whose vs i v e));
+        sound = resound d (table_core key s) (core_views vs) h.sound (sums hold_bit) (sums done_bit)
+            (λ k. sums (claim_bit k)) (λ p. sums (seat_bit d p)) (λ i v e. fits_of v (whose vs i v e));
         shares =
             let p = sum_by-append share_of (set s.views id left) (right ∷ []) in
             let o = sum_by-cons share_of right [] in
@@ -267,7 +273,7 @@ module _ (key : RoundKey) where
             (numbered i a ai);
       }
 
--- a seat that may be joined: it is done, and neither claims nor holds
+-- a seat that may be joined: it is done, and neither claims nor hold_bit
 pub record IsIdle (x : SeatKnows) : Type 0 where
   pub live : 0 < x.share
   pub done : x.core.done ≡ true
@@ -286,16 +292,16 @@ module _ (key : RoundKey) where
       → ViewFits key.dict.value (table_core key s) h.sound.count ended_view
   ended_fits s h v f done =
       record {
-        drawn = λ x e. absurd (cc (e));
-        passed = λ x e. absurd (cc (e));
-        met = λ x e. absurd (cc (e));
-        one_claim = λ g e. absurd (cc (e));
-        one_debt = λ e. absurd (cc (e));
-        quiet = λ e. (refl, refl);
-        past = λ e. f.past done;
-        at_count = λ g e. absurd (cc (e));
-        phase = λ g e. absurd (cc (e));
+        one =
+            record {
+              holder = λ g e. absurd (cc (e));
+              debtor = λ e. absurd (cc (e));
+              leaver = λ e. (refl, refl);
+            };
+        claim = λ x e. absurd (cc (e));
+        hold = λ g e. absurd (cc (e));
         own = own_nil key.dict.value (table_core key s);
+        past = λ e. f.past done;
       }
 
   pub join_keeps : (id : ℕ) (x : SeatKnows) (other : ℕ) (y : SeatKnows) → IsIdle x → IsIdle y
@@ -363,10 +369,10 @@ module _ (key : RoundKey) where
         team = h.team;
         wide = h.wide;
         sound = resound d (table_core key s) (core_views vs) h.sound
-            (sums holds (ap some_bit o.hold) (ap some_bit p.hold))
-            (sums ends (ap bit o.done) (ap bit p.done))
-            (λ k. sums (claims_turn k) (ap (is_claim_of k) o.claim) (ap (is_claim_of k) p.claim))
-            (λ q. sums (seated d q) (ap (seated_by d q) o.hold) (ap (seated_by d q) p.hold))
+            (sums hold_bit (ap some_bit o.hold) (ap some_bit p.hold))
+            (sums done_bit (ap bit o.done) (ap bit p.done))
+            (λ k. sums (claim_bit k) (ap (turn_bit k) o.claim) (ap (turn_bit k) p.claim))
+            (λ q. sums (seat_bit d q) (ap (holder_seat_bit d q) o.hold) (ap (holder_seat_bit d q) p.hold))
             (λ i v e. fits_of v (whose vs i v e));
         shares =
             let r = sum_set share_of mid other y spent_seat in_mid in

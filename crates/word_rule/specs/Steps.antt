@@ -5,7 +5,7 @@ use Rattle.market.specs.Dictatorships.{Dictatorship}
 use Rattle.interleaving_core.specs.declared.parts.Claiming.{Claiming}
 use Rattle.interleaving_core.specs.declared.parts.OwnTurn.{OwnTurn}
 use Rattle.interleaving_core.specs.Core.{View, entry, quota_of}
-use Rattle.interleaving_core.specs.Events.{claimed, read_if, posted}
+use Rattle.interleaving_core.specs.Events.{after_claim, after_read, after_post}
 use Rattle.word_rule.specs.Views.{SeatKnows, with_core}
 use Rattle.word_rule.specs.Copies.{IsInRange}
 
@@ -30,7 +30,7 @@ me_with m v = (with_core m.0 v, m.1)
 
 -- a draw: the number found is the turn claimed, or past all turns
 pub record ClaimTold (m : SeatMe) (found : ℕ) (n : SeatMe) : Type 0 where
-  pub seat : n ≡ me_with m (claimed m.0.dict m.0.core found)
+  pub seat : n ≡ me_with m (after_claim m.0.dict m.0.core found)
   pub range : IsInRange n.0.dict n.0.core
   pub earlier : AreEarlier m.0.core.own found
 
@@ -39,7 +39,7 @@ pub record ClaimTold (m : SeatMe) (found : ℕ) (n : SeatMe) : Type 0 where
 abbrev pub read_by : Dictatorship → View → Option Claiming → ℕ → View
 read_by d v None found = v
 read_by d v (Some x) found =
-    read_if (nat_lt found (quota_of d (entry d x.turn x.passed))) v x.turn x.passed
+    after_read (nat_lt found (quota_of d (entry d x.turn x.passed))) v x.turn x.passed
 
 -- a reading
 pub record ReadTold (m : SeatMe) (found : ℕ) (n : SeatMe) : Type 0 where
@@ -48,7 +48,7 @@ pub record ReadTold (m : SeatMe) (found : ℕ) (n : SeatMe) : Type 0 where
 
 -- a post: half the word stored is the place
 pub record PostTold (m : SeatMe) (stored : ℕ) (n : SeatMe) : Type 0 where
-  pub seat : n ≡ me_with m (posted m.0.core (stored / 2))
+  pub seat : n ≡ me_with m (after_post m.0.core (stored / 2))
   pub range : IsInRange n.0.dict n.0.core
 
 abbrev pub claim_tells : Tells
