@@ -1,7 +1,7 @@
 -- When a claimant's calls may be made, and the event that each of them is.
 use Rattle.std.specs.Prelude.{◌≡◌, ℕ, ◌<◌, ◌≤◌, Bool, false, nat_lt, nat_le, Option, MatchOption}
 use Rattle.interleaving_core.specs.Core.{turn_count, entry, quota_of, claim_at}
-use Rattle.interleaving_core.specs.Events.{Claims, Reads, Posts, Allowed, claimed, read_if, posted}
+use Rattle.interleaving_core.specs.Events.{Claims, Reads, Posts, Allowed, after_claim, after_read, after_post}
 use Rattle.word_rule.specs.Views.{with_core}
 use Rattle.word_rule.specs.Steps.{AreEarlier}
 use Rattle.word_rule.specs.Rounds.{knows}
@@ -28,7 +28,7 @@ pub record MayPost (me : WorkSeat) : Type 0 where
 -- is that turn, or none where it lies past all turns
 pub record Claimed (old new : WorkSeat) (answer : Option ℕ) : Type 0 where
   pub found : ℕ
-  pub view : knows new ≡ with_core (knows old) (claimed (knows old).dict (knows old).core found)
+  pub view : knows new ≡ with_core (knows old) (after_claim (knows old).dict (knows old).core found)
   pub answered : MatchOption answer (turn_count (knows old).dict ≤ found)
       (λ turn. (turn ≡ found) × (found < turn_count (knows old).dict))
   pub earlier : AreEarlier (knows old).core.own found
@@ -41,7 +41,7 @@ pub record Read (old new : WorkSeat) (answer : Bool) : Type 0 where
   pub found : ℕ
   pub claim : (knows old).core.claim ≡ claim_at turn place false
   pub view : knows new ≡ with_core (knows old)
-      (read_if (nat_lt found (quota_of (knows old).dict (entry (knows old).dict turn place)))
+      (after_read (nat_lt found (quota_of (knows old).dict (entry (knows old).dict turn place)))
       (knows old).core turn place)
   pub answered : answer ≡ nat_le (quota_of (knows old).dict (entry (knows old).dict turn place)) found
 
@@ -50,4 +50,4 @@ pub record Posted (old new : WorkSeat) (answer : ℕ) : Type 0 where
   pub turn : ℕ
   pub met : Bool
   pub claim : (knows old).core.claim ≡ claim_at turn answer met
-  pub view : knows new ≡ with_core (knows old) (posted (knows old).core answer)
+  pub view : knows new ≡ with_core (knows old) (after_post (knows old).core answer)
