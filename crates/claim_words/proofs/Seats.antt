@@ -13,7 +13,8 @@ new_last round l xs m is all = (
   λ k me e. all k me (ap (λ z. slice_get z k) is ∙ at_longer xs (m ∷ []) k me e),
 )
 
-pub new_at : (round : SharedRound) (k n : ℕ) (m : WorkSeat) → IsNew round k m → k ≡ n → IsNew round n m
+pub new_at : (round : SharedRound) (k n : ℕ) (m : WorkSeat) → IsNew round k m → k ≡ n
+    → IsNew round n m
 new_at round k n m new is = subst (λ (z : ℕ). IsNew round z m) is new
 
 pub over_snoc : (round : SharedRound) (l xs : List WorkSeat) (m : WorkSeat) → l ≡ xs ++ m ∷ []

@@ -24,8 +24,8 @@ pub record MayPost (me : WorkSeat) : Type 0 where
   pub met : Bool
   pub allowed : Allowed (knows me).dict (knows me).core (Posts turn place met)
 
--- a draw: there is a number found at this step; the seat's view is the core's for it, and the answer
--- is that turn, or none where it lies past all turns
+-- a draw: there is a number found at this step; the seat's view is the core's for it, and the
+-- answer is that turn, or none where it lies past all turns
 pub record Claimed (old new : WorkSeat) (answer : Option ℕ) : Type 0 where
   pub found : ℕ
   pub view : knows new ≡ with_core (knows old) (after_claim (knows old).dict (knows old).core found)
@@ -33,8 +33,8 @@ pub record Claimed (old new : WorkSeat) (answer : Option ℕ) : Type 0 where
       (λ turn. (turn ≡ found) × (found < turn_count (knows old).dict))
   pub earlier : AreEarlier (knows old).core.own found
 
--- a reading: there is a seat count found at this step; the seat's view is the core's for it, and the
--- answer is whether it has reached the quota
+-- a reading: there is a seat count found at this step; the seat's view is the core's for it, and
+-- the answer is whether it has reached the quota
 pub record Read (old new : WorkSeat) (answer : Bool) : Type 0 where
   pub turn : ℕ
   pub place : ℕ

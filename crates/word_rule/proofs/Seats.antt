@@ -36,7 +36,8 @@ pub new_snoc : (round : SharedRound) (l xs : List WorkSeat) (m : WorkSeat) → l
 new_snoc round l xs m is all mine k me e =
     ⊎_elim
     (λ (t : slice_get xs k ≡ Some me). all k me t)
-    (λ (t : (k ≡ length xs) × (m ≡ me)). subst (λ (z : ℕ × WorkSeat). IsNew round z.0 z.1) (λ i. (sym t.0 i, t.1 i)) mine)
+    (λ (t : (k ≡ length xs) × (m ≡ me)).
+    subst (λ (z : ℕ × WorkSeat). IsNew round z.0 z.1) (λ i. (sym t.0 i, t.1 i)) mine)
     (at_snoc xs m me k (ap (λ z. slice_get z k) (sym is) ∙ e))
 
 pub count_snoc : (l xs : List WorkSeat) (m : WorkSeat) → l ≡ xs ++ m ∷ [] → length l ≡ length xs + 1

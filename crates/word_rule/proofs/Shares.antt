@@ -1,6 +1,6 @@
--- A split and a join keep the rule. They move shares between seats; the views of the core stay those of
--- as many workers at the opening, or done, as before, so that each sum over the views stays, and what is
--- known of each view.
+-- A split and a join keep the rule. They move shares between seats; the views of the core stay those
+-- of as many workers at the opening, or done, as before, so that each sum over the views stays, and
+-- what is known of each view.
 use Rattle.std.proofs.Common.{◌≡◌, ℕ, zero, suc, ◌+◌, ◌-◌, ◌*◌, ◌/◌, ◌<◌, ◌≢◌, ◌⊎◌, Bool, true, false, List, [], ◌∷◌, ◌++◌, length, set, get_or, Some, None, sym, refl, ap, inl, inr, ⊎_elim, subst, ◌∙◌, add-mul, suc-mul, arith, length-set}
 use Rattle.std.specs.Prelude.{slice_get}
 use Rattle.std.specs.List.{sum_by}
@@ -16,7 +16,7 @@ use Rattle.interleaving_core.proofs.OwnTurns.{own_stays, own_nil}
 use Rattle.word_rule.specs.Views.{SeatKnows, ended_view, other_view, shared_views, core_views, kept_part, new_part, joined, spent_seat}
 use Rattle.word_rule.specs.Rule.{IsLive, Belongs, IsSoundTable, share_of, table_core}
 use Rattle.word_rule.specs.declared.rule.RoundKey.{RoundKey}
-use Rattle.word_rule.proofs.CoreViews.{there, other_there, Whose, whose, weight, sum_views, shared_sum, even_sum}
+use Rattle.word_rule.proofs.CoreViews.{there, live_there, other_there, Whose, whose, weight, sum_views, shared_sum, even_sum}
 use Rattle.word_rule.proofs.Keeps.{seat_fits}
 
 module _ (d : Dictatorship) (c : Core) (vs : List View) where
@@ -79,11 +79,14 @@ module _ (d : Dictatorship) (c : Core) (vs : List View) where
 
 -- the two parts of a split seat weigh what it weighed
 split_weight : (f : View → ℕ) (n more : ℕ) (v : View) → v ≡ fresh_view → n ≡ suc more → 0 < more
-    → sum_by f (shared_views 1 v) + sum_by f (shared_views more fresh_view) ≡ sum_by f (shared_views n v)
+    → sum_by f (shared_views 1 v) + sum_by f (shared_views more fresh_view)
+    ≡ sum_by f (shared_views n v)
 split_weight f n zero v is one l = absurd (omega arith)
 split_weight f n (suc m) v is one l =
     subst
-    (λ (z : View × ℕ). sum_by f (shared_views 1 z.0) + sum_by f (shared_views (suc m) fresh_view) ≡ sum_by f (shared_views z.1 z.0))
+    (λ (z : View × ℕ).
+    sum_by f (shared_views 1 z.0) + sum_by f (shared_views (suc m) fresh_view)
+    ≡ sum_by f (shared_views z.1 z.0))
     (λ i. (sym is i, sym one i))
     (let a = shared_sum f 0 fresh_view in
     let b = shared_sum f m fresh_view in
@@ -105,11 +108,13 @@ module _ (key : RoundKey) where
   -- each other view that a seat stands for fits as well
   other_fits : (s : Table) (h : IsSoundTable key s) (i : ℕ) (x : SeatKnows) → IsLive s.views i x
       → 1 < x.share → Fits s h (other_view x.core.done)
-  other_fits s h i x at more = let t = other_there s.views i x at more in h.sound.views t.0 (other_view x.core.done) t.1
+  other_fits s h i x at more =
+      let t = other_there s.views i x at more in
+      h.sound.views t.0 (other_view x.core.done) t.1
 
   -- a view of a seat from before fits
-  old_fits : (s : Table) (h : IsSoundTable key s) (i : ℕ) (x : SeatKnows) (v : View) → IsLive s.views i x
-      → (v ≡ x.core) ⊎ ((1 < x.share) × (v ≡ other_view x.core.done)) → Fits s h v
+  old_fits : (s : Table) (h : IsSoundTable key s) (i : ℕ) (x : SeatKnows) (v : View)
+      → IsLive s.views i x → (v ≡ x.core) ⊎ ((1 < x.share) × (v ≡ other_view x.core.done)) → Fits s h v
   old_fits s h i x v at which =
       ⊎_elim
       (λ (own : v ≡ x.core). subst (Fits s h) (sym own) (seat_fits key s h i x at))
@@ -125,7 +130,7 @@ module _ (key : RoundKey) where
       let vs : List SeatKnows = set s.views id left ++ right ∷ [] in
       let m : ℕ = x.share - 1 in
       let up : x.share ≡ suc m = omega arith in
-      let mine : IsLive s.views id x = record { there = there s.views id x at; live = omega arith } in
+      let mine = live_there s.views id x at (omega arith) in
       let b = h.each id x mine in
       let not_done : x.core.done ≡ false = ap (λ (v : View). v.done) fresh in
       let fresh_fits : Fits s h fresh_view = subst (Fits s h) fresh (seat_fits key s h id x mine) in
@@ -136,18 +141,22 @@ module _ (key : RoundKey) where
       let p = sum_by-append (weight f) (set s.views id left) (right ∷ []) in
       let o = sum_by-cons (weight f) right [] in
       let q = sum_set (weight f) s.views id x left mine.there in
-      let r : weight f left + weight f right ≡ weight f x = split_weight f x.share m x.core fresh up (omega arith) in
+      let r : weight f left + weight f right ≡ weight f x =
+      split_weight f x.share m x.core fresh up (omega arith) in
       omega arith in
       let origin : (i : ℕ) (y : SeatKnows) → IsLive vs i y
-      → ((i ≡ id) × (left ≡ y)) ⊎ (((i ≢ id) × IsLive s.views i y) ⊎ ((i ≡ length s.views) × (right ≡ y))) =
+      → ((i ≡ id) × (left ≡ y))
+      ⊎ (((i ≢ id) × IsLive s.views i y) ⊎ ((i ≡ length s.views) × (right ≡ y))) =
       λ i y is.
       ⊎_elim
       (λ (p : slice_get (set s.views id left) i ≡ Some y).
       ⊎_elim
       (λ (q : (i ≡ id) × (left ≡ y)). inl q)
-      (λ (q : (i ≢ id) × (slice_get s.views i ≡ Some y)). inr (inl (q.0, record { there = q.1; live = is.live })))
+      (λ (q : (i ≢ id) × (slice_get s.views i ≡ Some y)).
+      inr (inl (q.0, record { there = q.1; live = is.live })))
       (at_set s.views id i left y p))
-      (λ (p : (i ≡ length (set s.views id left)) × (right ≡ y)). inr (inr (p.0 ∙ length-set s.views id left, p.1)))
+      (λ (p : (i ≡ length (set s.views id left)) × (right ≡ y)).
+      inr (inr (p.0 ∙ length-set s.views id left, p.1)))
       (at_snoc (set s.views id left) right y i is.there) in
       let fits_of : (v : View) → Whose vs v → Fits s h v =
       λ v w.
@@ -166,7 +175,8 @@ module _ (key : RoundKey) where
       (λ (p : (w.at ≢ id) × IsLive s.views w.at w.seat). old_fits s h w.at w.seat v p.1 w.which)
       (λ (p : (w.at ≡ length s.views) × (right ≡ w.seat)).
       ⊎_elim
-      (λ (own : v ≡ w.seat.core). subst (Fits s h) (ap (λ (z : SeatKnows). z.core) p.1 ∙ sym own) fresh_fits)
+      (λ (own : v ≡ w.seat.core).
+      subst (Fits s h) (ap (λ (z : SeatKnows). z.core) p.1 ∙ sym own) fresh_fits)
       (λ (other : (1 < w.seat.share) × (v ≡ other_view w.seat.core.done)).
       subst (Fits s h) (ap (λ (z : SeatKnows). other_view z.core.done) p.1 ∙ sym other.1) fresh_fits)
       w.which)
@@ -176,7 +186,8 @@ module _ (key : RoundKey) where
       let lower : (j : ℕ) (y : SeatKnows) → j ≢ id → IsLive s.views j y → y.number < x.number =
       λ j y other is. h.last id j x y mine is (λ q. other (sym q)) more not_done in
       let numbered : (i : ℕ) (y : SeatKnows) → IsLive vs i y
-      → ((i ≡ id) × (y.number ≡ x.number) × (y.share ≡ 1)) ⊎ (((i ≢ id) × IsLive s.views i y) ⊎ ((i ≡ length s.views) × (y.number ≡ x.number + 1))) =
+      → ((i ≡ id) × (y.number ≡ x.number) × (y.share ≡ 1))
+      ⊎ (((i ≢ id) × IsLive s.views i y) ⊎ ((i ≡ length s.views) × (y.number ≡ x.number + 1))) =
       λ i y is.
       ⊎_elim
       (λ p. inl (p.0, ap (λ (z : SeatKnows). z.number) (sym p.1), ap share_of (sym p.1)))
@@ -321,7 +332,8 @@ module _ (key : RoundKey) where
       let b = h.each id x mine in
       let lx = o.live in
       let ly = p.live in
-      let idle_both : IsIdle both = record { live = omega arith; done = o.done; claim = o.claim; hold = o.hold } in
+      let idle_both : IsIdle both =
+      record { live = omega arith; done = o.done; claim = o.claim; hold = o.hold } in
       let own_fits = seat_fits key s h id x mine in
       let others_fit = ended_fits s h x.core own_fits o.done in
       let sums : (f : View → ℕ) → f x.core ≡ f ended_view → f y.core ≡ f ended_view
@@ -334,7 +346,8 @@ module _ (key : RoundKey) where
       let wx = idle_weight f x o ex in
       let wy = idle_weight f y p ey in
       let wb = idle_weight f both idle_both ex in
-      let add : (x.share + y.share) * f ended_view ≡ x.share * f ended_view + y.share * f ended_view =
+      let z = f ended_view in
+      let add : (x.share + y.share) * z ≡ x.share * z + y.share * z =
       add-mul x.share y.share (f ended_view) in
       omega arith in
       let origin : (i : ℕ) (z : SeatKnows) → IsLive vs i z
@@ -348,7 +361,8 @@ module _ (key : RoundKey) where
       (λ (t : (i ≢ other) × (slice_get mid i ≡ Some z)).
       ⊎_elim
       (λ (u : (i ≡ id) × (both ≡ z)). inl (u.0, sym u.1))
-      (λ (u : (i ≢ id) × (slice_get s.views i ≡ Some z)). inr (u.0, record { there = u.1; live = is.live }))
+      (λ (u : (i ≢ id) × (slice_get s.views i ≡ Some z)).
+      inr (u.0, record { there = u.1; live = is.live }))
       (at_set s.views id i both z t.1))
       (at_set mid other i spent_seat z is.there) in
       let fits_of : (v : View) → Whose vs v → ViewFits d (table_core key s) h.sound.count v =
@@ -357,7 +371,8 @@ module _ (key : RoundKey) where
       (λ (t : (w.at ≡ id) × (w.seat ≡ both)).
       ⊎_elim
       (λ (own : v ≡ w.seat.core).
-      subst (ViewFits d (table_core key s) h.sound.count) (sym (own ∙ ap (λ (u : SeatKnows). u.core) t.1)) own_fits)
+      subst (ViewFits d (table_core key s) h.sound.count)
+      (sym (own ∙ ap (λ (u : SeatKnows). u.core) t.1)) own_fits)
       (λ (rest : (1 < w.seat.share) × (v ≡ other_view w.seat.core.done)).
       subst (ViewFits d (table_core key s) h.sound.count)
       (sym (rest.1 ∙ ap other_view (ap (λ (u : SeatKnows). u.core.done) t.1 ∙ o.done))) others_fit)
@@ -396,7 +411,8 @@ module _ (key : RoundKey) where
             ⊎_elim
             (λ (u : (j ≡ id) × (c ≡ both)). differ (t.0 ∙ sym u.0))
             (λ (u : (j ≢ id) × IsLive s.views j c).
-            h.apart id j x c mine u.1 (λ q. u.0 (sym q)) (ap (λ (v : SeatKnows). v.number) (sym t.1) ∙ same))
+            h.apart id j x c mine u.1 (λ q. u.0 (sym q))
+            (ap (λ (v : SeatKnows). v.number) (sym t.1) ∙ same))
             (origin j c cj))
             (λ (t : (i ≢ id) × IsLive s.views i a).
             ⊎_elim
@@ -408,7 +424,9 @@ module _ (key : RoundKey) where
         last = λ i j a c ai cj differ wide unfinished.
             ⊎_elim
             (λ (t : (i ≡ id) × (a ≡ both)).
-            absurd (let is_done : a.core.done ≡ true = ap (λ (v : SeatKnows). v.core.done) t.1 ∙ o.done in cc))
+            absurd
+            (let is_done : a.core.done ≡ true = ap (λ (v : SeatKnows). v.core.done) t.1 ∙ o.done in
+            cc))
             (λ (t : (i ≢ id) × IsLive s.views i a).
             ⊎_elim
             (λ (u : (j ≡ id) × (c ≡ both)).

@@ -34,8 +34,8 @@ pub record ClaimTold (m : SeatMe) (found : ℕ) (n : SeatMe) : Type 0 where
   pub range : IsInRange n.0.dict n.0.core
   pub earlier : AreEarlier m.0.core.own found
 
--- the view after a reading of the next entry's seat word: the entry is met where the count found lies
--- below the quota, and else passed
+-- the view after a reading of the next entry's seat word: the entry is met where the count found
+-- lies below the quota, and else passed
 abbrev pub read_by : Dictatorship → View → Option Claiming → ℕ → View
 read_by d v None found = v
 read_by d v (Some x) found =

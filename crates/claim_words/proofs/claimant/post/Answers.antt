@@ -11,4 +11,9 @@ store-requires c =
     let programmes = c.programmes.ensures.count ∙ ap (λ d. length d.quota) c.requires.dict in
     let words = round.words_are in
     let turn = next.turn in
-    (c.requires.seat.table, omega arith, post_allowed round.table.shared.key _ _ _ _ _ _ _ _ me.live me.narrow next.may (omega arith) refl)
+    (
+      c.requires.seat.table,
+      omega arith,
+      post_allowed round.table.shared.key _ _ _ _ _ _ _ _ me.live me.narrow next.may
+          (omega arith) refl,
+    )
