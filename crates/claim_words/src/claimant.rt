@@ -15,10 +15,8 @@ pub fn claim(round: &SharedRound, me: &mut WorkSeat) -> Option<u32>
     ensures stays { Stays me.old me.new }
     ensures event { Claimed me.old me.new result }
 {
-    let found = round
-        .table
-        .shared
-        .fetch_add::<ClaimStep>(&mut me.seat, 0, 1);
+    let words = &round.table.shared;
+    let found = words.fetch_add::<ClaimStep>(&mut me.seat, 0, 1);
     if found >= round.turns as u64 {
         return None;
     }
@@ -44,8 +42,8 @@ pub fn read_entry(round: &SharedRound, dict: &Dict, me: &mut WorkSeat) -> bool
         unreachable!()
     };
     let programme = dict.list(claim.turn)[claim.passed as usize];
-    let word = 2 + programme as usize;
-    let found = round.table.shared.load::<ReadStep>(&mut me.seat, word);
+    let words = &round.table.shared;
+    let found = words.load::<ReadStep>(&mut me.seat, 2 + programme as usize);
     let full = found >= dict.quota(programme) as u64;
     me.claim = Some(if full {
         ClaimCopy {
@@ -69,12 +67,10 @@ pub fn post(round: &SharedRound, dict: &Dict, me: &mut WorkSeat) -> u32
     let Some(claim) = me.claim else {
         unreachable!()
     };
+    let words = &round.table.shared;
     let word = 2 + dict.programmes() as usize + claim.turn as usize;
     let cell = 2 * claim.passed as u64 + 1;
-    round
-        .table
-        .shared
-        .store::<PostStep>(&mut me.seat, word, cell);
+    words.store::<PostStep>(&mut me.seat, word, cell);
     me.claim = None;
     claim.passed
 }

@@ -13,8 +13,7 @@ load-found-requires c =
     let list = c.list.ensures ∙ ap (λ d. list_at d x.turn) c.requires.dict in
     let programme = ap (λ l. slice_index_or l x.passed 0) list in
     let inside = next.programme in
-    let words = round.words_are in
-    (
+    let words = round.words_are in (
       c.requires.seat.table,
       omega arith,
       read_allowed round.table.shared.key _ _ _ _ _ _ me.live me.narrow c.requires.seat.dict
