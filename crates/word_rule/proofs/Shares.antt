@@ -51,7 +51,7 @@ module _ (d : Dictatorship) (c : Core) (vs : List View) where
       → ((p : ℕ) → sum_by (seat_bit d p) vs ≡ sum_by (seat_bit d p) c.views)
       → ((i : ℕ) (v : View) → slice_get vs i ≡ Some v → ViewFits d c s.count v)
       → Sound d regrouped
-  resound s same_holds same_ends same_claims same_seats each =
+  resound s same_hold same_done same_claim same_seat each =
       record {
         count = s.count;
         mark =
@@ -59,20 +59,20 @@ module _ (d : Dictatorship) (c : Core) (vs : List View) where
               within = s.mark.within;
               behind = s.mark.behind;
               free = s.mark.free;
-              holders = same_holds ∙ s.mark.holders;
+              holders = same_hold ∙ s.mark.holders;
             };
         cells = s.cells;
         seats =
             record {
               each_programme = s.seats.each_programme;
-              counts = λ p l. let n = s.seats.counts p l in let e = same_seats p in omega arith;
+              counts = λ p l. let a = s.seats.counts p l in let e = same_seat p in omega arith;
             };
         posts = s.posts;
         claims =
             record {
-              claimed = λ k l m. same_claims k ∙ s.claims.claimed k l m;
+              claimed = λ k l m. same_claim k ∙ s.claims.claimed k l m;
               untouched = s.claims.untouched;
-              few = let few = s.claims.few in omega arith;
+              few = let a = s.claims.few in omega arith;
             };
         views = λ i v at. refits s.count v (each i v at);
       }
@@ -311,6 +311,7 @@ module _ (key : RoundKey) where
             };
         claim = λ x e. absurd (cc (e));
         hold = λ g e. absurd (cc (e));
+        past = λ e. f.past done;
         own = own_nil key.dict.value (table_core key s);
         past = λ e. f.past done;
       }
