@@ -1,27 +1,23 @@
 -- A claimant's atomic steps keep the rule: a draw, a reading and a post are each their event.
-use Rattle.std.proofs.Common.{◌≡◌, ℕ, zero, suc, ◌+◌, ◌*◌, ◌/◌, ◌%◌, ◌^◌, ◌<◌, ◌≤◌, Bool, true, false, List, [], ◌∷◌, length, set, get_or, replicate, nat_lt, Option, Some, None, IsSome, sym, refl, ap, ⊎_elim, subst, ◌∙◌, arith, length-set, get_or-set_other}
-use Rattle.std.specs.Prelude.{slice_get}
+use Rattle.std.proofs.Common.{◌≡◌, ℕ, zero, suc, ◌+◌, ◌*◌, ◌/◌, ◌%◌, ◌^◌, ◌<◌, ◌≤◌, Bool, true, false, List, [], ◌∷◌, set, get_or, nat_lt, Option, None, IsSome, sym, refl, ap, ⊎_elim, subst, ◌∙◌, arith, length-set, get_or-set_other}
 use Rattle.std.specs.List.{sum_by}
 use Rattle.std.proofs.lemmas.List.{set-get_or}
 use Rattle.std.proofs.lemmas.List.Sums.{sum_by-cons}
 use Rattle.std.proofs.Math.Nat.{mod-eq_of_lt}
-use Rattle.atomic_table.specs.Table.{State, keeps, Allows}
+use Rattle.atomic_table.specs.Table.{keeps, Allows}
 use Rattle.market.specs.Dictatorships.{Dictatorship}
-use Rattle.interleaving_core.specs.declared.parts.Cell.{Cell}
 use Rattle.interleaving_core.specs.declared.parts.Cell.TheVariants.{Posted}
-use Rattle.interleaving_core.specs.declared.parts.Claiming.{Claiming}
-use Rattle.interleaving_core.specs.declared.parts.OwnTurn.{OwnTurn}
-use Rattle.interleaving_core.specs.Core.{View, Core, turn_count, entry, quota_of, seats_of, claim_at}
-use Rattle.interleaving_core.specs.Events.{Claims, Reads, Posts, Allowed, claimed, claimed_if, read_if, posted, after}
-use Rattle.interleaving_core.specs.Sound.{bit, ends, OwnTurnFits, OwnTurnsFit}
+use Rattle.interleaving_core.specs.Core.{View, Core, turn_count, entry, quota_of, seats_of}
+use Rattle.interleaving_core.specs.Events.{Claims, Reads, Posts, Allowed, claimed, read_if, posted, after}
+use Rattle.interleaving_core.specs.Sound.{bit, ends, OwnTurnsFit}
 use Rattle.word_rule.specs.Layout.{cell_of, core_of, programme_count}
 use Rattle.word_rule.specs.Views.{SeatKnows, with_core, other_view, shared_views, core_views}
-use Rattle.word_rule.specs.Rule.{IsLive, Belongs, IsSoundTable, share_of, table_core}
-use Rattle.word_rule.specs.Steps.{SeatMe, me_with, read_by, AreEarlier, ClaimTold, ReadTold, PostTold}
+use Rattle.word_rule.specs.Rule.{IsLive, IsSoundTable, share_of, table_core}
+use Rattle.word_rule.specs.Steps.{SeatMe, read_by, AreEarlier, ClaimTold, ReadTold, PostTold}
 use Rattle.word_rule.specs.declared.rule.RoundKey.{RoundKey}
 use Rattle.word_rule.proofs.CoreViews.{there, place, weight, sum_views, shared_sum}
 use Rattle.word_rule.proofs.Words.{cell_posted, seat_word, claim_word, cell_word}
-use Rattle.word_rule.proofs.Keeps.{IsSameSeat, live_after, seat_in_range, seat_fits, views_after, event_keeps}
+use Rattle.word_rule.proofs.Keeps.{IsSameSeat, live_after, seat_in_range, seat_fits, event_keeps}
 
 -- no seat gives more done views than its share
 few_ends : (n : ℕ) (v : View) → sum_by ends (shared_views n v) ≤ n
@@ -105,8 +101,7 @@ module _ (key : RoundKey) where
       }) in
       let fit = seat_fits key s h id x live in
       let kept = event_keeps key s h id x y (set s.words 0 next) Claims live same may (length-set s.words 0 next) is
-      (omega arith) (let told = b.behind in omega arith) in
-      (
+      (omega arith) (let told = b.behind in omega arith) in (
         y,
         keeps,
         tt,
@@ -146,8 +141,7 @@ module _ (key : RoundKey) where
       ∙ ap (λ (v : View). core_of d s.words (set (core_views s.views) (place s.views id) v)) (by ∙ ap seen_view seen) in
       let mark : get_or (set s.words i found) 1 0 ≡ get_or s.words 1 0 = ap (λ (l : List ℕ). get_or l 1 0) as_was in
       let kept = event_keeps key s h id x y (set s.words i found) (Reads k j) live same may (length-set s.words i found) leads
-      (omega arith) (let told = (h.each id x live).behind in omega arith) in
-      (
+      (omega arith) (let told = (h.each id x live).behind in omega arith) in (
         y,
         keeps,
         tt,
@@ -177,8 +171,7 @@ module _ (key : RoundKey) where
       let mark : get_or (set s.words i word) 1 0 ≡ get_or s.words 1 0 =
       get_or-set_other s.words i 1 word 0 (λ e. omega arith) in
       let kept = event_keeps key s h id x y (set s.words i word) (Posts k j met) live same may (length-set s.words i word) leads
-      (omega arith) (let told = (h.each id x live).behind in omega arith) in
-      (
+      (omega arith) (let told = (h.each id x live).behind in omega arith) in (
         y,
         keeps,
         tt,

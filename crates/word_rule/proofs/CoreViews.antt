@@ -1,11 +1,11 @@
 -- The views of the core that the seats of a table give: where a seat's own view stands among them,
 -- whose each of them is, and what their sums are.
-use Rattle.std.proofs.Common.{◌≡◌, ℕ, zero, suc, ◌+◌, ◌*◌, ◌<◌, ◌≤◌, ◌⊎◌, Bool, List, [], ◌∷◌, ◌++◌, length, set, replicate, Option, Some, None, sym, refl, ap, inl, inr, ⊎_elim, subst, ◌∙◌, suc-mul, arith}
+use Rattle.std.proofs.Common.{◌≡◌, ℕ, zero, suc, ◌+◌, ◌*◌, ◌<◌, ◌⊎◌, Bool, List, [], ◌∷◌, ◌++◌, length, set, replicate, Some, sym, refl, ap, inl, inr, ⊎_elim, subst, ◌∙◌, suc-mul, arith}
 use Rattle.std.specs.Prelude.{slice_get}
 use Rattle.std.specs.List.{sum_by}
 use Rattle.std.proofs.lemmas.List.Sums.{sum_by-cons, sum_by-append}
 use Rattle.std.proofs.lemmas.List.Folds.{sum_by-replicate}
-use mathlib.Core.Option.{some, none, some-injective, some-ne-none}
+use mathlib.Core.Option.{some, some-injective, some-ne-none}
 use lib.ListN.{get_elem?}
 use Rattle.interleaving_core.specs.Core.{View}
 use Rattle.interleaving_core.proofs.Places.{at_replicate}
@@ -125,11 +125,11 @@ whose [] p v e = absurd (cc (e))
 whose (x ∷ xs) p v e =
     ⊎_elim
     (λ (a : slice_get (shared_views x.share x.core) p ≡ Some v).
-        let t = of_shared x.share p x.core v a in
-        record { at = 0; seat = x; live = record { there = refl; live = t.0 }; which = t.1 })
+    let t = of_shared x.share p x.core v a in
+    record { at = 0; seat = x; live = record { there = refl; live = t.0 }; which = t.1 })
     (λ (a : (q : ℕ) × (slice_get (core_views xs) q ≡ Some v)).
-        let t = whose xs a.0 v a.1 in
-        record { at = suc t.at; seat = t.seat; live = record { there = t.live.there; live = t.live.live }; which = t.which })
+    let t = whose xs a.0 v a.1 in
+    record { at = suc t.at; seat = t.seat; live = record { there = t.live.there; live = t.live.live }; which = t.which })
     (in_either (shared_views x.share x.core) (core_views xs) p v e)
 
 -- what a seat adds to a sum over the views of the core

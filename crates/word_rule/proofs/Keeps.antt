@@ -2,15 +2,14 @@
 -- words and views are a sound core state. The event is allowed by what the seat's own view says, so the
 -- state after it is sound; and the table after the step shows that state, since the step changes one
 -- word and one view, as the event does.
-use Rattle.std.proofs.Common.{◌≡◌, ℕ, zero, suc, ◌+◌, ◌/◌, ◌<◌, ◌≤◌, ◌≢◌, ◌⊎◌, Bool, true, false, List, [], ◌∷◌, length, set, get_or, replicate, Option, Some, None, sym, refl, ap, inl, inr, ⊎_elim, subst, ◌∙◌, arith}
+use Rattle.std.proofs.Common.{◌≡◌, ℕ, zero, suc, ◌/◌, ◌<◌, ◌≤◌, ◌≢◌, true, List, [], ◌∷◌, length, set, get_or, Some, sym, refl, ap, inr, ⊎_elim, subst, ◌∙◌, arith}
 use Rattle.std.specs.Prelude.{slice_get}
-use Rattle.std.specs.List.{sum_by}
 use Rattle.atomic_table.specs.Table.{State}
 use Rattle.market.specs.Dictatorships.{Dictatorship}
 use Rattle.interleaving_core.specs.Core.{View, Core}
 use Rattle.interleaving_core.specs.Events.{Action, Allowed, after}
 use Rattle.interleaving_core.specs.Sound.{ViewFits, Sound}
-use Rattle.interleaving_core.proofs.Places.{at_set, each_set, sum_set}
+use Rattle.interleaving_core.proofs.Places.{at_set, sum_set}
 use Rattle.interleaving_core.proofs.Keeps as core
 use Rattle.word_rule.specs.Layout.{core_of}
 use Rattle.word_rule.specs.Views.{SeatKnows, core_views}
@@ -63,24 +62,24 @@ was : (l : List SeatKnows) (id : ℕ) (x y : SeatKnows) → IsLive l id x → Is
 was l id x y at same i a is =
     ⊎_elim
     (λ (t : (i ≡ id) × (y ≡ a)).
-        let share : x.share ≡ a.share = sym same.share ∙ ap (λ (u : SeatKnows). u.share) t.1 in
-        record {
-          seat = x;
-          live = record { there = ap (slice_get l) t.0 ∙ at.there; live = at.live };
-          number = sym same.number ∙ ap (λ (u : SeatKnows). u.number) t.1;
-          share = share;
-          done = λ more.
-              let q = same.alone (omega arith) in
-              q.0 ∙ (sym q.1 ∙ ap (λ (u : SeatKnows). u.core.done) t.1);
-        })
+    let share : x.share ≡ a.share = sym same.share ∙ ap (λ (u : SeatKnows). u.share) t.1 in
+    record {
+      seat = x;
+      live = record { there = ap (slice_get l) t.0 ∙ at.there; live = at.live };
+      number = sym same.number ∙ ap (λ (u : SeatKnows). u.number) t.1;
+      share = share;
+      done = λ more.
+          let q = same.alone (omega arith) in
+          q.0 ∙ (sym q.1 ∙ ap (λ (u : SeatKnows). u.core.done) t.1);
+    })
     (λ (t : (i ≢ id) × (slice_get l i ≡ Some a)).
-        record {
-          seat = a;
-          live = record { there = t.1; live = is.live };
-          number = refl;
-          share = refl;
-          done = λ _. refl;
-        })
+    record {
+      seat = a;
+      live = record { there = t.1; live = is.live };
+      number = refl;
+      share = refl;
+      done = λ _. refl;
+    })
     (at_set l id i y a is.there)
 
 module _ (key : RoundKey) where
@@ -131,16 +130,16 @@ module _ (key : RoundKey) where
         each = λ i a is.
             ⊎_elim
             (λ (t : (i ≡ id) × (y ≡ a)).
-                subst (Belongs key (get_or words 1 0 / 2)) t.1 record {
-                  dict = same.dict ∙ b.dict;
-                  workers = same.workers ∙ b.workers;
-                  wide = λ more. inr (same.alone (omega arith)).1;
-                  behind = behind;
-                })
+            subst (Belongs key (get_or words 1 0 / 2)) t.1 record {
+              dict = same.dict ∙ b.dict;
+              workers = same.workers ∙ b.workers;
+              wide = λ more. inr (same.alone (omega arith)).1;
+              behind = behind;
+            })
             (λ (t : (i ≢ id) × (slice_get s.views i ≡ Some a)).
-                let f = h.each i a record { there = t.1; live = is.live } in
-                let told = f.behind in
-                record { dict = f.dict; workers = f.workers; wide = f.wide; behind = omega arith })
+            let f = h.each i a record { there = t.1; live = is.live } in
+            let told = f.behind in
+            record { dict = f.dict; workers = f.workers; wide = f.wide; behind = omega arith })
             (at_set s.views id i y a is.there);
         apart = λ i j a c ai cj other same_number.
             let p = was s.views id x y at same i a ai in

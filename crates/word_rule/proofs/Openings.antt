@@ -1,22 +1,20 @@
 -- The opening words with one seat that stands for every worker are the opening state of the core, and so
 -- they are with the seats that it is split into.
-use Rattle.std.proofs.Common.{◌≡◌, ℕ, zero, suc, ◌+◌, ◌/◌, ◌<◌, ◌≤◌, ◌≢◌, Bool, false, List, [], ◌∷◌, ◌++◌, length, map, take, drop, get_or, replicate, Option, Some, None, sym, refl, ap, inl, subst, ◌∙◌, arith, append-nil, length-append}
+use Rattle.std.proofs.Common.{◌≡◌, ℕ, zero, suc, ◌+◌, ◌<◌, ◌≤◌, false, List, [], ◌∷◌, ◌++◌, length, map, take, drop, replicate, Some, sym, refl, ap, inl, subst, ◌∙◌, arith, append-nil, length-append}
 use Rattle.std.specs.Prelude.{slice_get}
-use Rattle.std.specs.List.{sum_by}
 use Rattle.std.proofs.Math.ListN.{length-replicate}
 use Rattle.std.proofs.Math.Seq.{take-append_seam, drop-append_seam}
 use Rattle.std.proofs.lemmas.List.Sums.{sum_by-cons}
-use Rattle.atomic_table.specs.Table.{State, opening as table_opening}
+use Rattle.atomic_table.specs.Table.{opening as table_opening}
 use Rattle.market.specs.Dictatorships.{Dictatorship, IsValidDictatorship}
-use Rattle.interleaving_core.specs.declared.parts.Cell.{Cell}
 use Rattle.interleaving_core.specs.declared.parts.Cell.TheVariants.{Empty}
-use Rattle.interleaving_core.specs.Core.{View, Core, fresh_view, opening, turn_count}
+use Rattle.interleaving_core.specs.Core.{View, fresh_view, opening, turn_count}
 use Rattle.interleaving_core.specs.Sound.{Sound}
 use Rattle.interleaving_core.proofs.Keeps.{begins}
 use Rattle.word_rule.specs.Layout.{cell_of, core_of, first_words, programme_count, word_count}
-use Rattle.word_rule.specs.Views.{SeatKnows, shared_views, core_views, first_seat}
-use Rattle.word_rule.specs.Rule.{IsLive, Belongs, IsSoundTable, share_of, first_of}
-use Rattle.word_rule.specs.Rounds.{knows, IsNew, AllNew, shares_of}
+use Rattle.word_rule.specs.Views.{SeatKnows, shared_views, core_views}
+use Rattle.word_rule.specs.Rule.{Belongs, IsSoundTable, share_of, first_of}
+use Rattle.word_rule.specs.Rounds.{knows, AllNew, shares_of}
 use Rattle.word_rule.specs.declared.rule.RoundKey.{RoundKey}
 use Rattle.word_rule.specs.declared.seat.SharedRound.{SharedRound}
 use Rattle.word_rule.specs.declared.seat.WorkSeat.{WorkSeat}

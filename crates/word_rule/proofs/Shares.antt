@@ -1,7 +1,7 @@
 -- A split and a join keep the rule. They move shares between seats; the views of the core stay those of
 -- as many workers at the opening, or done, as before, so that each sum over the views stays, and what is
 -- known of each view.
-use Rattle.std.proofs.Common.{◌≡◌, ℕ, zero, suc, ◌+◌, ◌-◌, ◌*◌, ◌/◌, ◌<◌, ◌≤◌, ◌≢◌, ◌⊎◌, Bool, true, false, List, [], ◌∷◌, ◌++◌, length, set, get_or, replicate, Option, Some, None, sym, refl, ap, inl, inr, ⊎_elim, subst, ◌∙◌, add-mul, suc-mul, arith, length-set}
+use Rattle.std.proofs.Common.{◌≡◌, ℕ, zero, suc, ◌+◌, ◌-◌, ◌*◌, ◌/◌, ◌<◌, ◌≢◌, ◌⊎◌, Bool, true, false, List, [], ◌∷◌, ◌++◌, length, set, get_or, Some, None, sym, refl, ap, inl, inr, ⊎_elim, subst, ◌∙◌, add-mul, suc-mul, arith, length-set}
 use Rattle.std.specs.Prelude.{slice_get}
 use Rattle.std.specs.List.{sum_by}
 use Rattle.std.proofs.lemmas.List.Sums.{sum_by-append, sum_by-cons}
@@ -13,7 +13,6 @@ use Rattle.interleaving_core.specs.Core.{View, Core, fresh_view}
 use Rattle.interleaving_core.specs.Sound.{bit, some_bit, is_claim_of, seated_by, holds, ends, claims_turn, seated, PhaseFits, ViewFits, Sound}
 use Rattle.interleaving_core.proofs.Places.{at_set, at_snoc, sum_set}
 use Rattle.interleaving_core.proofs.OwnTurns.{own_stays, own_nil}
-use Rattle.word_rule.specs.Layout.{core_of}
 use Rattle.word_rule.specs.Views.{SeatKnows, ended_view, other_view, shared_views, core_views, kept_part, new_part, joined, spent_seat}
 use Rattle.word_rule.specs.Rule.{IsLive, Belongs, IsSoundTable, share_of, table_core}
 use Rattle.word_rule.specs.declared.rule.RoundKey.{RoundKey}
@@ -109,7 +108,7 @@ module _ (key : RoundKey) where
       ⊎_elim
       (λ (own : v ≡ x.core). subst (Fits s h) (sym own) (seat_fits key s h i x at))
       (λ (other : (1 < x.share) × (v ≡ other_view x.core.done)).
-          subst (Fits s h) (sym other.1) (other_fits s h i x at other.0))
+      subst (Fits s h) (sym other.1) (other_fits s h i x at other.0))
       which
 
   pub split_keeps : (id : ℕ) (x : SeatKnows) → x.core ≡ fresh_view → 1 < x.share
@@ -126,57 +125,57 @@ module _ (key : RoundKey) where
       let fresh_fits : Fits s h fresh_view = subst (Fits s h) fresh (seat_fits key s h id x mine) in
       let sums : (f : View → ℕ) → sum_by f (core_views vs) ≡ sum_by f (core_views s.views) =
       λ f.
-          let a = sum_views f vs in
-          let c = sum_views f s.views in
-          let p = sum_by-append (weight f) (set s.views id left) (right ∷ []) in
-          let o = sum_by-cons (weight f) right [] in
-          let q = sum_set (weight f) s.views id x left mine.there in
-          let r : weight f left + weight f right ≡ weight f x = split_weight f x.share m x.core fresh up (omega arith) in
-          omega arith in
+      let a = sum_views f vs in
+      let c = sum_views f s.views in
+      let p = sum_by-append (weight f) (set s.views id left) (right ∷ []) in
+      let o = sum_by-cons (weight f) right [] in
+      let q = sum_set (weight f) s.views id x left mine.there in
+      let r : weight f left + weight f right ≡ weight f x = split_weight f x.share m x.core fresh up (omega arith) in
+      omega arith in
       let origin : (i : ℕ) (y : SeatKnows) → IsLive vs i y
       → ((i ≡ id) × (left ≡ y)) ⊎ (((i ≢ id) × IsLive s.views i y) ⊎ ((i ≡ length s.views) × (right ≡ y))) =
       λ i y is.
-          ⊎_elim
-          (λ (p : slice_get (set s.views id left) i ≡ Some y).
-              ⊎_elim
-              (λ (q : (i ≡ id) × (left ≡ y)). inl q)
-              (λ (q : (i ≢ id) × (slice_get s.views i ≡ Some y)). inr (inl (q.0, record { there = q.1; live = is.live })))
-              (at_set s.views id i left y p))
-          (λ (p : (i ≡ length (set s.views id left)) × (right ≡ y)). inr (inr (p.0 ∙ length-set s.views id left, p.1)))
-          (at_snoc (set s.views id left) right y i is.there) in
+      ⊎_elim
+      (λ (p : slice_get (set s.views id left) i ≡ Some y).
+      ⊎_elim
+      (λ (q : (i ≡ id) × (left ≡ y)). inl q)
+      (λ (q : (i ≢ id) × (slice_get s.views i ≡ Some y)). inr (inl (q.0, record { there = q.1; live = is.live })))
+      (at_set s.views id i left y p))
+      (λ (p : (i ≡ length (set s.views id left)) × (right ≡ y)). inr (inr (p.0 ∙ length-set s.views id left, p.1)))
+      (at_snoc (set s.views id left) right y i is.there) in
       let fits_of : (v : View) → Whose vs v → Fits s h v =
       λ v w.
-          ⊎_elim
-          (λ (p : (w.at ≡ id) × (left ≡ w.seat)).
-              ⊎_elim
-              (λ (own : v ≡ w.seat.core).
-                  subst (Fits s h) (ap (λ (z : SeatKnows). z.core) p.1 ∙ sym own) (seat_fits key s h id x mine))
-              (λ (other : (1 < w.seat.share) × (v ≡ other_view w.seat.core.done)).
-                  let one : 1 ≡ w.seat.share = ap share_of p.1 in
-                  let l = other.0 in
-                  absurd (omega arith))
-              w.which)
-          (λ rest.
-              ⊎_elim
-              (λ (p : (w.at ≢ id) × IsLive s.views w.at w.seat). old_fits s h w.at w.seat v p.1 w.which)
-              (λ (p : (w.at ≡ length s.views) × (right ≡ w.seat)).
-                  ⊎_elim
-                  (λ (own : v ≡ w.seat.core). subst (Fits s h) (ap (λ (z : SeatKnows). z.core) p.1 ∙ sym own) fresh_fits)
-                  (λ (other : (1 < w.seat.share) × (v ≡ other_view w.seat.core.done)).
-                      subst (Fits s h) (ap (λ (z : SeatKnows). other_view z.core.done) p.1 ∙ sym other.1) fresh_fits)
-                  w.which)
-              rest)
-          (origin w.at w.seat w.live) in
+      ⊎_elim
+      (λ (p : (w.at ≡ id) × (left ≡ w.seat)).
+      ⊎_elim
+      (λ (own : v ≡ w.seat.core).
+      subst (Fits s h) (ap (λ (z : SeatKnows). z.core) p.1 ∙ sym own) (seat_fits key s h id x mine))
+      (λ (other : (1 < w.seat.share) × (v ≡ other_view w.seat.core.done)).
+      let one : 1 ≡ w.seat.share = ap share_of p.1 in
+      let l = other.0 in
+      absurd (omega arith))
+      w.which)
+      (λ rest.
+      ⊎_elim
+      (λ (p : (w.at ≢ id) × IsLive s.views w.at w.seat). old_fits s h w.at w.seat v p.1 w.which)
+      (λ (p : (w.at ≡ length s.views) × (right ≡ w.seat)).
+      ⊎_elim
+      (λ (own : v ≡ w.seat.core). subst (Fits s h) (ap (λ (z : SeatKnows). z.core) p.1 ∙ sym own) fresh_fits)
+      (λ (other : (1 < w.seat.share) × (v ≡ other_view w.seat.core.done)).
+      subst (Fits s h) (ap (λ (z : SeatKnows). other_view z.core.done) p.1 ∙ sym other.1) fresh_fits)
+      w.which)
+      rest)
+      (origin w.at w.seat w.live) in
       -- by its number a live seat is the one split, the new one, or one of a lesser number
       let lower : (j : ℕ) (y : SeatKnows) → j ≢ id → IsLive s.views j y → y.number < x.number =
       λ j y other is. h.last id j x y mine is (λ q. other (sym q)) more not_done in
       let numbered : (i : ℕ) (y : SeatKnows) → IsLive vs i y
       → ((i ≡ id) × (y.number ≡ x.number) × (y.share ≡ 1)) ⊎ (((i ≢ id) × IsLive s.views i y) ⊎ ((i ≡ length s.views) × (y.number ≡ x.number + 1))) =
       λ i y is.
-          ⊎_elim
-          (λ p. inl (p.0, ap (λ (z : SeatKnows). z.number) (sym p.1), ap share_of (sym p.1)))
-          (λ r. inr (⊎_elim (λ p. inl p) (λ p. inr (p.0, ap (λ (z : SeatKnows). z.number) (sym p.1))) r))
-          (origin i y is) in
+      ⊎_elim
+      (λ p. inl (p.0, ap (λ (z : SeatKnows). z.number) (sym p.1), ap share_of (sym p.1)))
+      (λ r. inr (⊎_elim (λ p. inl p) (λ p. inr (p.0, ap (λ (z : SeatKnows). z.number) (sym p.1))) r))
+      (origin i y is) in
       record {
         valid = h.valid;
         team = h.team;
@@ -192,79 +191,79 @@ module _ (key : RoundKey) where
         each = λ i y is.
             ⊎_elim
             (λ (p : (i ≡ id) × (left ≡ y)).
-                subst (Belongs key (get_or s.words 1 0 / 2)) p.1 record {
-                  dict = b.dict;
-                  workers = b.workers;
-                  wide = λ z. absurd (omega arith);
-                  behind = b.behind;
-                })
+            subst (Belongs key (get_or s.words 1 0 / 2)) p.1 record {
+              dict = b.dict;
+              workers = b.workers;
+              wide = λ z. absurd (omega arith);
+              behind = b.behind;
+            })
             (λ rest.
-                ⊎_elim
-                (λ (p : (i ≢ id) × IsLive s.views i y). h.each i y p.1)
-                (λ (p : (i ≡ length s.views) × (right ≡ y)).
-                    subst (Belongs key (get_or s.words 1 0 / 2)) p.1 record {
-                      dict = b.dict;
-                      workers = b.workers;
-                      wide = λ z. inl refl;
-                      behind = omega arith;
-                    })
-                rest)
+            ⊎_elim
+            (λ (p : (i ≢ id) × IsLive s.views i y). h.each i y p.1)
+            (λ (p : (i ≡ length s.views) × (right ≡ y)).
+            subst (Belongs key (get_or s.words 1 0 / 2)) p.1 record {
+              dict = b.dict;
+              workers = b.workers;
+              wide = λ z. inl refl;
+              behind = omega arith;
+            })
+            rest)
             (origin i y is);
         apart = λ i j a c ai cj other same.
             ⊎_elim
             (λ p.
-                ⊎_elim
-                (λ q. other (p.0 ∙ sym q.0))
-                (λ r.
-                    ⊎_elim
-                    (λ q. let u = lower j c q.0 q.1 in let v = p.1 in absurd (omega arith))
-                    (λ q. let v = p.1 in let w = q.1 in absurd (omega arith))
-                    r)
-                (numbered j c cj))
+            ⊎_elim
+            (λ q. other (p.0 ∙ sym q.0))
+            (λ r.
+            ⊎_elim
+            (λ q. let u = lower j c q.0 q.1 in let v = p.1 in absurd (omega arith))
+            (λ q. let v = p.1 in let w = q.1 in absurd (omega arith))
+            r)
+            (numbered j c cj))
             (λ t.
-                ⊎_elim
-                (λ p.
-                    let u = lower i a p.0 p.1 in
-                    ⊎_elim
-                    (λ q. let v = q.1 in absurd (omega arith))
-                    (λ r.
-                        ⊎_elim
-                        (λ q. h.apart i j a c p.1 q.1 other same)
-                        (λ q. let v = q.1 in absurd (omega arith))
-                        r)
-                    (numbered j c cj))
-                (λ p.
-                    let w = p.1 in
-                    ⊎_elim
-                    (λ q. let v = q.1 in absurd (omega arith))
-                    (λ r.
-                        ⊎_elim
-                        (λ q. let u = lower j c q.0 q.1 in absurd (omega arith))
-                        (λ q. other (p.0 ∙ sym q.0))
-                        r)
-                    (numbered j c cj))
-                t)
+            ⊎_elim
+            (λ p.
+            let u = lower i a p.0 p.1 in
+            ⊎_elim
+            (λ q. let v = q.1 in absurd (omega arith))
+            (λ r.
+            ⊎_elim
+            (λ q. h.apart i j a c p.1 q.1 other same)
+            (λ q. let v = q.1 in absurd (omega arith))
+            r)
+            (numbered j c cj))
+            (λ p.
+            let w = p.1 in
+            ⊎_elim
+            (λ q. let v = q.1 in absurd (omega arith))
+            (λ r.
+            ⊎_elim
+            (λ q. let u = lower j c q.0 q.1 in absurd (omega arith))
+            (λ q. other (p.0 ∙ sym q.0))
+            r)
+            (numbered j c cj))
+            t)
             (numbered i a ai);
         last = λ i j a c ai cj other wide unfinished.
             ⊎_elim
             (λ p. let v = p.2 in absurd (omega arith))
             (λ t.
-                ⊎_elim
-                (λ p.
-                    let u = lower i a p.0 p.1 in
-                    let v = h.last i id a x p.1 mine p.0 wide unfinished in
-                    absurd (omega arith))
-                (λ p.
-                    let w = p.1 in
-                    ⊎_elim
-                    (λ q. let v = q.1 in omega arith)
-                    (λ r.
-                        ⊎_elim
-                        (λ q. let u = lower j c q.0 q.1 in omega arith)
-                        (λ q. absurd (other (p.0 ∙ sym q.0)))
-                        r)
-                    (numbered j c cj))
-                t)
+            ⊎_elim
+            (λ p.
+            let u = lower i a p.0 p.1 in
+            let v = h.last i id a x p.1 mine p.0 wide unfinished in
+            absurd (omega arith))
+            (λ p.
+            let w = p.1 in
+            ⊎_elim
+            (λ q. let v = q.1 in omega arith)
+            (λ r.
+            ⊎_elim
+            (λ q. let u = lower j c q.0 q.1 in omega arith)
+            (λ q. absurd (other (p.0 ∙ sym q.0)))
+            r)
+            (numbered j c cj))
+            t)
             (numbered i a ai);
       }
 
@@ -322,43 +321,43 @@ module _ (key : RoundKey) where
       let sums : (f : View → ℕ) → f x.core ≡ f ended_view → f y.core ≡ f ended_view
       → sum_by f (core_views vs) ≡ sum_by f (core_views s.views) =
       λ f ex ey.
-          let a = sum_views f vs in
-          let q = sum_views f s.views in
-          let r = sum_set (weight f) mid other y spent_seat in_mid in
-          let t = sum_set (weight f) s.views id x both mine.there in
-          let wx = idle_weight f x o ex in
-          let wy = idle_weight f y p ey in
-          let wb = idle_weight f both idle_both ex in
-          let add : (x.share + y.share) * f ended_view ≡ x.share * f ended_view + y.share * f ended_view =
-          add-mul x.share y.share (f ended_view) in
-          omega arith in
+      let a = sum_views f vs in
+      let q = sum_views f s.views in
+      let r = sum_set (weight f) mid other y spent_seat in_mid in
+      let t = sum_set (weight f) s.views id x both mine.there in
+      let wx = idle_weight f x o ex in
+      let wy = idle_weight f y p ey in
+      let wb = idle_weight f both idle_both ex in
+      let add : (x.share + y.share) * f ended_view ≡ x.share * f ended_view + y.share * f ended_view =
+      add-mul x.share y.share (f ended_view) in
+      omega arith in
       let origin : (i : ℕ) (z : SeatKnows) → IsLive vs i z
       → ((i ≡ id) × (z ≡ both)) ⊎ ((i ≢ id) × IsLive s.views i z) =
       λ i z is.
-          ⊎_elim
-          (λ (t : (i ≡ other) × (spent_seat ≡ z)).
-              let none_left : 0 ≡ z.share = ap share_of t.1 in
-              let l = is.live in
-              absurd (omega arith))
-          (λ (t : (i ≢ other) × (slice_get mid i ≡ Some z)).
-              ⊎_elim
-              (λ (u : (i ≡ id) × (both ≡ z)). inl (u.0, sym u.1))
-              (λ (u : (i ≢ id) × (slice_get s.views i ≡ Some z)). inr (u.0, record { there = u.1; live = is.live }))
-              (at_set s.views id i both z t.1))
-          (at_set mid other i spent_seat z is.there) in
+      ⊎_elim
+      (λ (t : (i ≡ other) × (spent_seat ≡ z)).
+      let none_left : 0 ≡ z.share = ap share_of t.1 in
+      let l = is.live in
+      absurd (omega arith))
+      (λ (t : (i ≢ other) × (slice_get mid i ≡ Some z)).
+      ⊎_elim
+      (λ (u : (i ≡ id) × (both ≡ z)). inl (u.0, sym u.1))
+      (λ (u : (i ≢ id) × (slice_get s.views i ≡ Some z)). inr (u.0, record { there = u.1; live = is.live }))
+      (at_set s.views id i both z t.1))
+      (at_set mid other i spent_seat z is.there) in
       let fits_of : (v : View) → Whose vs v → ViewFits d (table_core key s) h.sound.count v =
       λ v w.
-          ⊎_elim
-          (λ (t : (w.at ≡ id) × (w.seat ≡ both)).
-              ⊎_elim
-              (λ (own : v ≡ w.seat.core).
-                  subst (ViewFits d (table_core key s) h.sound.count) (sym (own ∙ ap (λ (u : SeatKnows). u.core) t.1)) own_fits)
-              (λ (rest : (1 < w.seat.share) × (v ≡ other_view w.seat.core.done)).
-                  subst (ViewFits d (table_core key s) h.sound.count)
-                  (sym (rest.1 ∙ ap other_view (ap (λ (u : SeatKnows). u.core.done) t.1 ∙ o.done))) others_fit)
-              w.which)
-          (λ (t : (w.at ≢ id) × IsLive s.views w.at w.seat). old_fits key s h w.at w.seat v t.1 w.which)
-          (origin w.at w.seat w.live) in
+      ⊎_elim
+      (λ (t : (w.at ≡ id) × (w.seat ≡ both)).
+      ⊎_elim
+      (λ (own : v ≡ w.seat.core).
+      subst (ViewFits d (table_core key s) h.sound.count) (sym (own ∙ ap (λ (u : SeatKnows). u.core) t.1)) own_fits)
+      (λ (rest : (1 < w.seat.share) × (v ≡ other_view w.seat.core.done)).
+      subst (ViewFits d (table_core key s) h.sound.count)
+      (sym (rest.1 ∙ ap other_view (ap (λ (u : SeatKnows). u.core.done) t.1 ∙ o.done))) others_fit)
+      w.which)
+      (λ (t : (w.at ≢ id) × IsLive s.views w.at w.seat). old_fits key s h w.at w.seat v t.1 w.which)
+      (origin w.at w.seat w.live) in
       record {
         valid = h.valid;
         team = h.team;
@@ -377,40 +376,40 @@ module _ (key : RoundKey) where
         each = λ i z is.
             ⊎_elim
             (λ (t : (i ≡ id) × (z ≡ both)).
-                subst (Belongs key (get_or s.words 1 0 / 2)) (sym t.1) record {
-                  dict = b.dict;
-                  workers = b.workers;
-                  wide = λ _. inr o.done;
-                  behind = b.behind;
-                })
+            subst (Belongs key (get_or s.words 1 0 / 2)) (sym t.1) record {
+              dict = b.dict;
+              workers = b.workers;
+              wide = λ _. inr o.done;
+              behind = b.behind;
+            })
             (λ (t : (i ≢ id) × IsLive s.views i z). h.each i z t.1)
             (origin i z is);
         apart = λ i j a c ai cj differ same.
             ⊎_elim
             (λ (t : (i ≡ id) × (a ≡ both)).
-                ⊎_elim
-                (λ (u : (j ≡ id) × (c ≡ both)). differ (t.0 ∙ sym u.0))
-                (λ (u : (j ≢ id) × IsLive s.views j c).
-                    h.apart id j x c mine u.1 (λ q. u.0 (sym q)) (ap (λ (v : SeatKnows). v.number) (sym t.1) ∙ same))
-                (origin j c cj))
+            ⊎_elim
+            (λ (u : (j ≡ id) × (c ≡ both)). differ (t.0 ∙ sym u.0))
+            (λ (u : (j ≢ id) × IsLive s.views j c).
+            h.apart id j x c mine u.1 (λ q. u.0 (sym q)) (ap (λ (v : SeatKnows). v.number) (sym t.1) ∙ same))
+            (origin j c cj))
             (λ (t : (i ≢ id) × IsLive s.views i a).
-                ⊎_elim
-                (λ (u : (j ≡ id) × (c ≡ both)).
-                    h.apart i id a x t.1 mine t.0 (same ∙ ap (λ (v : SeatKnows). v.number) u.1))
-                (λ (u : (j ≢ id) × IsLive s.views j c). h.apart i j a c t.1 u.1 differ same)
-                (origin j c cj))
+            ⊎_elim
+            (λ (u : (j ≡ id) × (c ≡ both)).
+            h.apart i id a x t.1 mine t.0 (same ∙ ap (λ (v : SeatKnows). v.number) u.1))
+            (λ (u : (j ≢ id) × IsLive s.views j c). h.apart i j a c t.1 u.1 differ same)
+            (origin j c cj))
             (origin i a ai);
         last = λ i j a c ai cj differ wide unfinished.
             ⊎_elim
             (λ (t : (i ≡ id) × (a ≡ both)).
-                absurd (let is_done : a.core.done ≡ true = ap (λ (v : SeatKnows). v.core.done) t.1 ∙ o.done in cc))
+            absurd (let is_done : a.core.done ≡ true = ap (λ (v : SeatKnows). v.core.done) t.1 ∙ o.done in cc))
             (λ (t : (i ≢ id) × IsLive s.views i a).
-                ⊎_elim
-                (λ (u : (j ≡ id) × (c ≡ both)).
-                    let n = h.last i id a x t.1 mine t.0 wide unfinished in
-                    let e : c.number ≡ x.number = ap (λ (v : SeatKnows). v.number) u.1 in
-                    omega arith)
-                (λ (u : (j ≢ id) × IsLive s.views j c). h.last i j a c t.1 u.1 differ wide unfinished)
-                (origin j c cj))
+            ⊎_elim
+            (λ (u : (j ≡ id) × (c ≡ both)).
+            let n = h.last i id a x t.1 mine t.0 wide unfinished in
+            let e : c.number ≡ x.number = ap (λ (v : SeatKnows). v.number) u.1 in
+            omega arith)
+            (λ (u : (j ≢ id) × IsLive s.views j c). h.last i j a c t.1 u.1 differ wide unfinished)
+            (origin j c cj))
             (origin i a ai);
       }

@@ -1,10 +1,10 @@
 -- How the core state that words show changes with one word, and how a word is read.
-use Rattle.std.proofs.Common.{◌≡◌, ℕ, zero, suc, ◌+◌, ◌-◌, ◌*◌, ◌/◌, ◌%◌, ◌<◌, ◌≤◌, Bool, true, false, List, [], ◌∷◌, ◌++◌, length, map, take, drop, set, get_or, replicate, eqb, eq-eqb, ne_eqb, sym, refl, ap, ◌∙◌, arith, get_or-set_same, get_or-set_other}
+use Rattle.std.proofs.Common.{◌≡◌, ℕ, zero, suc, ◌+◌, ◌*◌, ◌/◌, ◌%◌, ◌<◌, ◌≤◌, true, false, List, [], ◌∷◌, length, map, take, drop, set, get_or, eqb, eq-eqb, ne_eqb, refl, ap, ◌∙◌, arith, get_or-set_same, get_or-set_other}
 use Rattle.std.proofs.lemmas.List.{map-set, drop-set-lt, drop-set-add, get_or-drop, take-set-le}
 use Rattle.market.specs.Dictatorships.{Dictatorship}
 use Rattle.interleaving_core.specs.declared.parts.Cell.{Cell}
-use Rattle.interleaving_core.specs.declared.parts.Cell.TheVariants.{Empty, Posted, Committed}
-use Rattle.interleaving_core.specs.Core.{View, Core, seats_of}
+use Rattle.interleaving_core.specs.declared.parts.Cell.TheVariants.{Posted}
+use Rattle.interleaving_core.specs.Core.{View, seats_of}
 use Rattle.word_rule.specs.Layout.{cell_of, cell_by, core_of, programme_count}
 
 -- the word of a posted cell

@@ -1,11 +1,9 @@
 -- A round and its seats, as clauses speak of them.
-use Rattle.std.specs.Prelude.{◌≡◌, ℕ, ◌+◌, true, List, slice_get, Option, Some, None}
+use Rattle.std.specs.Prelude.{◌≡◌, ℕ, true, List, slice_get, Some, None}
 use Rattle.std.specs.List.{sum_by}
 use Rattle.atomic_table.specs.Table.{State}
 use Rattle.market.specs.Dictatorships.{Dictatorship}
-use Rattle.interleaving_core.specs.declared.parts.Phase.{Phase}
-use Rattle.interleaving_core.specs.declared.parts.Holding.{Holding}
-use Rattle.interleaving_core.specs.Core.{View, fresh_view, hold_at}
+use Rattle.interleaving_core.specs.Core.{View, fresh_view}
 use Rattle.word_rule.specs.Views.{SeatKnows, core_views}
 use Rattle.word_rule.specs.Rule.{IsLive, IsSoundTable, share_of}
 use Rattle.word_rule.specs.declared.rule.RoundKey.{RoundKey}

@@ -1,8 +1,8 @@
 -- The one rule of a round's table.
-use Rattle.std.specs.Prelude.{◌≡◌, ◌≢◌, ◌⊎◌, ℕ, ◌+◌, ◌/◌, ◌<◌, ◌≤◌, true, false, List, length, slice_get, slice_index, Some}
+use Rattle.std.specs.Prelude.{◌≡◌, ◌≢◌, ◌⊎◌, ℕ, ◌/◌, ◌<◌, ◌≤◌, true, false, List, length, slice_get, slice_index, Some}
 use Rattle.std.specs.List.{sum_by}
 use Rattle.atomic_table.specs.Table.{State}
-use Rattle.market.specs.Dictatorships.{Dictatorship, IsValidDictatorship}
+use Rattle.market.specs.Dictatorships.{IsValidDictatorship}
 use Rattle.interleaving_core.specs.Core.{Core, fresh_view}
 use Rattle.interleaving_core.specs.Sound.{Sound}
 use Rattle.word_rule.specs.Layout.{core_of, word_count}

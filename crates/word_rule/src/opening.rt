@@ -53,8 +53,10 @@ fn opening_words(alloc: Global, dict: &Dict) -> Result<Vec<u64>, AllocError>
     let programmes = dict.programmes();
     let turns = dict.turns();
     let mut words = Vec::with_capacity(alloc, 2 + programmes as usize + turns as usize)?;
-    words.push_reserved(0);
-    words.push_reserved(0);
+    let claim_number = 0;
+    let free_mark = 0;
+    words.push_reserved(claim_number);
+    words.push_reserved(free_mark);
     push_fills(&mut words, dict);
     push_empty_cells(&mut words, turns);
     Ok(words)
@@ -150,5 +152,8 @@ fn join_two(round: &SharedRound, me: &mut WorkSeat, other: WorkSeat)
         phase: _,
         committed: _,
     } = other;
-    round.table.shared.join_seat::<ShareMove>(&mut me.seat, seat);
+    round
+        .table
+        .shared
+        .join_seat::<ShareMove>(&mut me.seat, seat);
 }

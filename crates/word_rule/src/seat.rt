@@ -1,12 +1,13 @@
 // The table of a round, and a worker's seat.
 
 ghost use Rattle.std.specs.Prelude.{◌≡◌, ◌+◌, ◌<◌, ◌≤◌, length, [], true};
+ghost use Rattle.market.specs.Dictatorships.{IsValidDictatorship};
 ghost use Rattle.interleaving_core.specs.Core.{turn_count};
 ghost use Rattle.word_rule.specs.Layout.{programme_count, word_count};
 ghost use Rattle.word_rule.specs.Copies.{IsInRange, holding_of};
 
 use crate::rule::{RoundSeat, RoundTable};
-use interleaving_core::{Claiming, Phase};
+use interleaving_core::{Claiming as ClaimCopy, Phase as PhaseCopy};
 
 /// The table of words of one round: a word for the claim number, one for the mark, one for each
 /// programme's seat count and one for each turn's cell. All workers share it.
@@ -18,7 +19,7 @@ pub struct SharedRound {
     ghost turns_are: { turns ≡ turn_count table.shared.key.dict.value },
     ghost programmes_are: { programmes ≡ programme_count table.shared.key.dict.value },
     ghost words_are: { table.shared.table_id.words ≡ word_count table.shared.key.dict.value },
-    ghost few: { (turns ≤ 3500000) × (programmes ≤ 120000) },
+    ghost valid: { IsValidDictatorship table.shared.key.dict.value },
     ghost no_slots: { table.shared.table_id.slots ≡ 0 },
     ghost staffed: { 0 < table.shared.key.workers },
 }
@@ -30,8 +31,8 @@ pub struct SharedRound {
 pub struct WorkSeat {
     pub seat: RoundSeat,
     pub number: u32,
-    pub claim: Option<Claiming>,
-    pub phase: Option<Phase>,
+    pub claim: Option<ClaimCopy>,
+    pub phase: Option<PhaseCopy>,
     pub committed: u32,
     ghost number_is: { number ≡ seat.me.0.number },
     ghost claim_is: { claim ≡ seat.me.0.core.claim },

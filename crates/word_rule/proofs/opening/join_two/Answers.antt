@@ -1,5 +1,5 @@
-use Rattle.std.proofs.Common.{rules, sym, ◌∙◌}
-use Rattle.word_rule.proofs.Shares.{IsIdle, join_keeps}
+use Rattle.std.proofs.Common.{rules}
+use Rattle.word_rule.proofs.Shares.{join_keeps}
 use Rattle.word_rule.proofs.opening.join_two.Goals as goal
 
 pub join_seat-requires : goal.join_seat-requires

@@ -1,5 +1,5 @@
-use Rattle.std.proofs.Common.{arith, rules, ap, sym, ◌∙◌, ◌≡◌, ◌+◌, ◌<◌, length, subst}
-use Rattle.word_rule.specs.Rounds.{IsNew, IsSeatOf}
+use Rattle.std.proofs.Common.{arith, rules, ap, ◌∙◌, length}
+use Rattle.word_rule.specs.Rounds.{IsNew}
 use Rattle.word_rule.proofs.Shares.{split_keeps}
 use Rattle.word_rule.proofs.Seats.{new_snoc, count_snoc}
 use Rattle.word_rule.proofs.opening.split_all.Goals as goal
