@@ -17,11 +17,11 @@ use Rattle.word_rule.specs.declared.seat.SharedRound.{SharedRound}
 use Rattle.word_rule.specs.declared.seat.WorkSeat.{WorkSeat}
 use Rattle.commit_book.specs.Book.{place_of, MayLook, MayWeigh, MaySeat, MaySeal, MayRelease}
 
-abbrev phase_in : Option Holding → Phase
+abbrev pub phase_in : Option Holding → Phase
 phase_in None = Idle
 phase_in (Some h) = h.phase
 
-abbrev count_in : Option Holding → ℕ
+abbrev pub count_in : Option Holding → ℕ
 count_in None = 0
 count_in (Some h) = h.committed
 

@@ -11,6 +11,10 @@ use Rattle.word_rule.specs.Holder.{is_odd, tried, released_with}
 use Rattle.word_rule.specs.Rounds.{knows}
 use Rattle.word_rule.specs.declared.seat.WorkSeat.{WorkSeat}
 
+-- the seat as holder of the mark, with so many turns committed and in this phase
+abbrev pub as_holder : SeatKnows → ℕ → Phase → SeatKnows
+as_holder x committed phase = with_core x (with_hold x.core (hold_at committed phase))
+
 -- the place of a phase, 0 where it has none
 abbrev pub place_of : Phase → ℕ
 place_of (Scan j) = j
@@ -65,7 +69,7 @@ pub record Tried (old new : WorkSeat) (answer : Bool) : Type 0 where
 -- share finds a place
 pub record Saw (old new : SeatKnows) (committed : ℕ) (answer : Option ℕ) : Type 0 where
   pub found : Cell
-  pub view : new ≡ with_core old (with_hold old.core (hold_at committed (looked found)))
+  pub view : new ≡ as_holder old committed (looked found)
   pub answered : MatchOption answer (found ≡ Empty) (λ place. found ≡ Posted place)
   pub posted : old.share ≡ old.workers → old.core.done ≡ true → IsSome answer
 
@@ -84,9 +88,8 @@ pub record Weighed (old new : WorkSeat) (answer : Bool) : Type 0 where
   pub place : ℕ
   pub found : ℕ
   pub scan : (knows old).core.hold ≡ hold_at committed (Scan place)
-  pub view : knows new ≡ with_core (knows old)
-      (with_hold (knows old).core (hold_at committed
-      (weighed_if (nat_lt found (quota_of (knows old).dict (entry (knows old).dict committed place))) place)))
+  pub view : knows new ≡ as_holder (knows old) committed
+      (weighed_if (nat_lt found (quota_of (knows old).dict (entry (knows old).dict committed place))) place)
   pub answered : answer ≡ nat_le (quota_of (knows old).dict (entry (knows old).dict committed place)) found
 
 -- a seat taken: there is a seat count found at this step; the answer is whether one more has reached the
@@ -96,16 +99,14 @@ pub record SeatTaken (old new : WorkSeat) (answer : Bool) : Type 0 where
   pub place : ℕ
   pub found : ℕ
   pub ready : (knows old).core.hold ≡ hold_at committed (Ready place)
-  pub view : knows new ≡ with_core (knows old)
-      (with_hold (knows old).core (hold_at committed (Seated place answer)))
+  pub view : knows new ≡ as_holder (knows old) committed (Seated place answer)
   pub answered : answer ≡ nat_le (quota_of (knows old).dict (entry (knows old).dict committed place)) (found + 1)
 
 -- a commit: the answer is the turn, and one turn more is committed
 pub record Sealed (old new : WorkSeat) (answer : ℕ) : Type 0 where
   pub phase : Phase
   pub hold : (knows old).core.hold ≡ hold_at answer phase
-  pub view : knows new ≡ with_core (knows old)
-      (with_hold (knows old).core (hold_at (answer + 1) Idle))
+  pub view : knows new ≡ as_holder (knows old) (answer + 1) Idle
 
 -- a release: the mark is free with the number of committed turns
 pub record Released (old new : WorkSeat) : Type 0 where

@@ -7,5 +7,8 @@
 
 // The six calls of the mark's holder.
 mod book;
+// The call that takes the mark, commits posted turns and gives the mark back.
+mod prefix;
 
 pub use book::{look, release, seal, seat, take, weigh};
+pub use prefix::commit_prefix;
