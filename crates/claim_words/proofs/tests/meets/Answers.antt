@@ -1,0 +1,21 @@
+use Rattle.std.proofs.Common.{◌≡◌, ℕ, zero, suc, ◌<◌, length, sym, ◌∙◌, subst, arith}
+use Rattle.market.specs.Dictatorships.{Dictatorship, list_at}
+use Rattle.market.specs.Examples.{two_turns}
+use Rattle.claim_words.proofs.tests.meets.Goals as goal
+
+-- both turns list a programme
+listed : (turn : ℕ) → turn < 2 → 0 < length (list_at two_turns turn)
+unfolding list_at
+listed zero l = omega arith
+listed (suc zero) l = omega arith
+listed (suc (suc turn)) l = absurd (omega arith)
+
+pub read_entry-requires-clause-may : goal.read_entry-requires-clause-may
+read_entry-requires-clause-may g c =
+    let r = c.requires in
+    let dict : c.args.me.now.seat.me.0.dict ≡ two_turns = r.seat.dict ∙ (sym r.dict ∙ r.of_two) in
+    record {
+      turn = c.args.turn;
+      place = 0;
+      allowed = (r.claim, subst (λ (d : Dictatorship). 0 < length (list_at d c.args.turn)) (sym dict) (listed c.args.turn r.turn));
+    }

@@ -1,0 +1,2 @@
+-- The definitions: when each call may be made, and what it does.
+pub mod Claimant

@@ -1,0 +1,80 @@
+// The steps of a claimant.
+
+ghost use Rattle.std.specs.Prelude.{◌≡◌};
+ghost use Rattle.word_rule.specs.Rounds.{IsSeatOf, Stays, dict_of};
+ghost use Rattle.claim_words.specs.Claimant.{MayClaim, MayRead, MayPost, Claimed, Read, Posted};
+
+use market::Dict;
+use word_rule::{ClaimCopy, ClaimStep, PostStep, ReadStep, SharedRound, WorkSeat};
+
+/// Draws the next turn. `None` comes exactly where the number drawn is at least the number of turns;
+/// the seat is then done.
+pub fn claim(round: &SharedRound, me: &mut WorkSeat) -> Option<u32>
+    requires seat { IsSeatOf round.now me.old }
+    requires may { MayClaim me.old }
+    ensures stays { Stays me.old me.new }
+    ensures event { Claimed me.old me.new result }
+{
+    let found = round
+        .table
+        .shared
+        .fetch_add::<ClaimStep>(&mut me.seat, 0, 1);
+    if found >= round.turns as u64 {
+        return None;
+    }
+    let turn = found as u32;
+    me.claim = Some(ClaimCopy {
+        turn,
+        passed: 0,
+        met: false,
+    });
+    Some(turn)
+}
+
+/// Reads the seat count of the next entry of the claimed turn's list. `true` comes exactly where it
+/// has reached the quota; the entry is then passed, and else met.
+pub fn read_entry(round: &SharedRound, dict: &Dict, me: &mut WorkSeat) -> bool
+    requires seat { IsSeatOf round.now me.old }
+    requires dict { dict.now ≡ dict_of round.now }
+    requires may { MayRead me.old }
+    ensures stays { Stays me.old me.new }
+    ensures event { Read me.old me.new result }
+{
+    let Some(claim) = me.claim else {
+        unreachable!()
+    };
+    let programme = dict.list(claim.turn)[claim.passed as usize];
+    let word = 2 + programme as usize;
+    let found = round.table.shared.load::<ReadStep>(&mut me.seat, word);
+    let full = found >= dict.quota(programme) as u64;
+    me.claim = Some(if full {
+        ClaimCopy {
+            passed: claim.passed + 1,
+            ..claim
+        }
+    } else {
+        ClaimCopy { met: true, ..claim }
+    });
+    full
+}
+
+/// Posts the claimed turn at the number of entries passed, and answers that place.
+pub fn post(round: &SharedRound, dict: &Dict, me: &mut WorkSeat) -> u32
+    requires seat { IsSeatOf round.now me.old }
+    requires dict { dict.now ≡ dict_of round.now }
+    requires may { MayPost me.old }
+    ensures stays { Stays me.old me.new }
+    ensures event { Posted me.old me.new result }
+{
+    let Some(claim) = me.claim else {
+        unreachable!()
+    };
+    let word = 2 + dict.programmes() as usize + claim.turn as usize;
+    let cell = 2 * claim.passed as u64 + 1;
+    round
+        .table
+        .shared
+        .store::<PostStep>(&mut me.seat, word, cell);
+    me.claim = None;
+    claim.passed
+}
