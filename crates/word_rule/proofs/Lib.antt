@@ -1,7 +1,9 @@
 pub mod CoreViews
 pub mod Words
+pub mod MarkWords
 pub mod Keeps
 pub mod Claimant
+pub mod Holder
 pub mod Shares
 pub mod Openings
 pub mod Alone

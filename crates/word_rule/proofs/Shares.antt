@@ -284,7 +284,7 @@ module _ (key : RoundKey) where
             (numbered i a ai);
       }
 
--- a seat that may be joined: it is done, and neither claims nor hold_bit
+-- a seat that may be joined: it is done, and neither claims nor holds
 pub record IsIdle (x : SeatKnows) : Type 0 where
   pub live : 0 < x.share
   pub done : x.core.done ≡ true
@@ -313,7 +313,6 @@ module _ (key : RoundKey) where
         hold = λ g e. absurd (cc (e));
         past = λ e. f.past done;
         own = own_nil key.dict.value (table_core key s);
-        past = λ e. f.past done;
       }
 
   pub join_keeps : (id : ℕ) (x : SeatKnows) (other : ℕ) (y : SeatKnows) → IsIdle x → IsIdle y
