@@ -1,21 +1,19 @@
 -- The holder's atomic steps keep the rule: a try on the mark, a look, a weighing, a seat taken, a commit
 -- and a release are each their event. A seat with every share has no other beside it, so it finds the
 -- mark free; and once it is done it finds each turn that is not committed posted.
-use Rattle.std.proofs.Common.{◌≡◌, ℕ, zero, suc, ◌+◌, ◌*◌, ◌/◌, ◌%◌, ◌^◌, ◌<◌, ◌≤◌, ◌≢◌, ◌⊎◌, Bool, true, false, List, [], ◌∷◌, length, set, get_or, take, drop, bit_or, nat_lt, nat_le, eqb, eq-eqb, ne_eqb, Option, Some, None, IsSome, sym, refl, ap, inl, inr, ⊎_elim, subst, ◌∙◌, arith, length-set, get_or-set_same, get_or-set_other}
+use Rattle.std.proofs.Common.{◌≡◌, ℕ, ◌+◌, ◌*◌, ◌/◌, ◌%◌, ◌^◌, ◌<◌, ◌≤◌, ◌⊎◌, Bool, true, false, List, length, set, get_or, bit_or, nat_lt, nat_le, eqb, ne_eqb, Some, None, IsSome, sym, refl, ap, inl, inr, ⊎_elim, subst, ◌∙◌, arith, length-set, get_or-set_same, get_or-set_other}
 use Rattle.std.specs.Prelude.{slice_get}
-use Rattle.std.specs.List.{sum_by}
 use Rattle.std.proofs.lemmas.List.{set-get_or}
 use Rattle.std.proofs.Math.Nat.{mod-eq_of_lt}
 use mathlib.Core.Logic.{dite}
 use native.Mathlib.Decide.{ℕ_discrete}
 use Rattle.atomic_table.specs.Table.{State, keeps, Allows}
-use Rattle.market.specs.Dictatorships.{Dictatorship, list_at, choice}
+use Rattle.market.specs.Dictatorships.{Dictatorship}
 use Rattle.interleaving_core.specs.declared.parts.Cell.{Cell}
 use Rattle.interleaving_core.specs.declared.parts.Cell.TheVariants.{Empty, Posted, Committed}
 use Rattle.interleaving_core.specs.declared.parts.Phase.{Phase}
-use Rattle.interleaving_core.specs.declared.parts.Phase.TheVariants.{Idle, Scan, Ready, Seated}
-use Rattle.interleaving_core.specs.declared.parts.Holding.{Holding}
-use Rattle.interleaving_core.specs.Core.{View, Core, turn_count, entry, quota_of, seats_of, cell_at, is_committed, hold_at}
+use Rattle.interleaving_core.specs.declared.parts.Phase.TheVariants.{Idle, Seated}
+use Rattle.interleaving_core.specs.Core.{View, turn_count, entry, quota_of, seats_of, cell_at, is_committed, hold_at}
 use Rattle.interleaving_core.specs.Events.{Action, Takes, Looks, Weighs, Seats, Seals, Releases, Allowed, with_hold, took, looked, weighed_if, after}
 use Rattle.interleaving_core.specs.Sound.{bit, some_bit, empty_bit, is_claim_of, holds, claims_turn}
 use Rattle.market.proofs.Turns.{taken-le-quota}
@@ -27,7 +25,7 @@ use Rattle.word_rule.specs.Rule.{IsLive, IsSoundTable, share_of, table_core}
 use Rattle.word_rule.specs.Steps.{SeatMe}
 use Rattle.word_rule.specs.Holder.{is_odd, posted_place, tried, TakeTold, look_by, LookTold, weigh_by, WeighTold, seat_by, SeatTold, seal_by, SealTold, released_with, ReleaseTold}
 use Rattle.word_rule.specs.declared.rule.RoundKey.{RoundKey}
-use Rattle.word_rule.proofs.CoreViews.{there, place, at_place, Whose, whose}
+use Rattle.word_rule.proofs.CoreViews.{there, place, at_place, whose}
 use Rattle.word_rule.proofs.Layouts.{seat_word, cell_word}
 use Rattle.word_rule.proofs.MarkWords.{cell_committed, or_one, cell_read, mark_word, count_word}
 use Rattle.word_rule.proofs.Keeps.{IsSameSeat, live_after, seat_in_range, seat_fits, table_after, event_keeps}

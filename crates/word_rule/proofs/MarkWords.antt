@@ -1,14 +1,13 @@
 -- How the core state that words show changes with the mark or with a seat count, and how a cell is read.
-use Rattle.std.proofs.Common.{◌≡◌, ℕ, zero, suc, ◌+◌, ◌-◌, ◌*◌, ◌/◌, ◌%◌, ◌<◌, ◌≤◌, Bool, true, false, List, length, map, take, drop, set, get_or, bit_or, eqb, eq-eqb, ne_eqb, sym, refl, ap, ◌∙◌, arith, get_or-set_same, get_or-set_other}
-use Rattle.std.proofs.lemmas.List.{map-set, drop-set-lt, drop-set-add, get_or-drop, take-set-le}
+use Rattle.std.proofs.Common.{◌≡◌, ℕ, zero, suc, ◌+◌, ◌-◌, ◌*◌, ◌/◌, ◌%◌, ◌<◌, ◌≤◌, true, false, List, length, map, take, drop, set, get_or, bit_or, eqb, eq-eqb, ne_eqb, sym, refl, ap, ◌∙◌, arith, get_or-set_same, get_or-set_other}
+use Rattle.std.proofs.lemmas.List.{drop-set-lt, drop-set-add, get_or-drop}
 use Rattle.std.proofs.Math.Seq.{take-set-lt}
 use Rattle.std.proofs.Math.ListN.{get_or-map}
 use Rattle.std.proofs.lemmas.Nat.{or_shr, or_mod}
 use Rattle.std.specs.Int.Bits.{or_zero_r}
 use Rattle.market.specs.Dictatorships.{Dictatorship}
-use Rattle.interleaving_core.specs.declared.parts.Cell.{Cell}
-use Rattle.interleaving_core.specs.declared.parts.Cell.TheVariants.{Empty, Posted, Committed}
-use Rattle.interleaving_core.specs.Core.{View, Core, cell_at}
+use Rattle.interleaving_core.specs.declared.parts.Cell.TheVariants.{Committed}
+use Rattle.interleaving_core.specs.Core.{View, cell_at}
 use Rattle.word_rule.specs.Layout.{cell_of, cell_by, core_of, programme_count}
 
 -- the word of a committed cell

@@ -1,21 +1,16 @@
 -- What the words of a round that is over show.
-use Rattle.std.specs.Prelude.{◌≡◌, ℕ, ◌+◌, ◌/◌, ◌<◌, ◌≤◌, List, length, slice_index}
-use Rattle.market.specs.Dictatorships.{Dictatorship, IsValidDictatorship, choice}
-use Rattle.interleaving_core.specs.declared.parts.Cell.TheVariants.{Committed}
-use Rattle.interleaving_core.specs.Core.{turn_count}
-use Rattle.word_rule.specs.Layout.{cell_of, programme_count, word_count}
+use Rattle.std.specs.Prelude.{ℕ, ◌+◌, ◌-◌, ◌/◌, ◌<◌, ◌≤◌, List, length, map, take, drop, slice_index}
 
--- a round that is over: its dictatorship, and how many of its turns are committed
-pub record RoundEnd : Type 0 where
-  pub dict : Dictatorship
-  pub committed : ℕ
+-- the place that a committed cell's word shows
+abbrev pub shown_place : ℕ → ℕ
+shown_place word = word / 2 - 1
 
--- the words of such a round: the mark has the number of committed turns, and the cell of each of these
--- shows its choice
-pub record Shows (words : List ℕ) (d : Dictatorship) (committed : ℕ) : Type 0 where
-  pub valid : IsValidDictatorship d
-  pub wide : length words ≡ word_count d
-  pub mark : slice_index words 1 / 2 ≡ committed
-  pub within : committed ≤ turn_count d
-  pub choices : (k : ℕ) → k < committed
-      → cell_of (slice_index words (2 + programme_count d + k)) ≡ Committed (choice d k)
+-- the places that so many cells show, from this word on
+abbrev pub shown_places : List ℕ → ℕ → ℕ → List ℕ
+shown_places words first count = map shown_place (take count (drop first words))
+
+-- so many words from this one on show a committed cell, at a place of a list or at its length
+pub record AreCommitted (words : List ℕ) (first count : ℕ) : Type 0 where
+  pub wide : first + count ≤ length words
+  pub least : (k : ℕ) → k < count → 2 ≤ slice_index words (first + k)
+  pub most : (k : ℕ) → k < count → shown_place (slice_index words (first + k)) ≤ 48

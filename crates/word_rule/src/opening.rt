@@ -41,7 +41,6 @@ pub fn open_round(
         table,
         turns,
         programmes,
-        dict: Snapshot::of(dict),
     };
     split_all(&round, first, workers, &mut seats);
     Ok((round, seats))

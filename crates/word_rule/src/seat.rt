@@ -8,8 +8,6 @@ ghost use Rattle.word_rule.specs.Copies.{IsInRange, holding_of};
 
 use crate::rule::{RoundSeat, RoundTable};
 use interleaving_core::{Claiming as ClaimCopy, Phase as PhaseCopy};
-use market::Dict;
-use std::snapshot::Snapshot;
 
 /// The table of words of one round: a word for the claim number, one for the mark, one for each
 /// programme's seat count and one for each turn's cell. All workers share it.
@@ -18,8 +16,6 @@ pub struct SharedRound {
     pub table: RoundTable,
     pub turns: u32,
     pub programmes: u32,
-    pub(crate) dict: Snapshot<Dict>,
-    ghost dict_is: { dict.value ≡ table.shared.key.dict.value },
     ghost turns_are: { turns ≡ turn_count table.shared.key.dict.value },
     ghost programmes_are: { programmes ≡ programme_count table.shared.key.dict.value },
     ghost words_are: { table.shared.table_id.words ≡ word_count table.shared.key.dict.value },
