@@ -26,7 +26,7 @@ use Rattle.word_rule.specs.Steps.{SeatMe}
 use Rattle.word_rule.specs.Holder.{is_odd, posted_place, tried, TakeTold, look_by, LookTold, weigh_by, WeighTold, seat_by, SeatTold, seal_by, SealTold, released_with, ReleaseTold}
 use Rattle.word_rule.specs.declared.rule.RoundKey.{RoundKey}
 use Rattle.word_rule.proofs.CoreViews.{there, place, at_place, whose}
-use Rattle.word_rule.proofs.Words.{seat_word, cell_word}
+use Rattle.word_rule.proofs.Layouts.{seat_word, cell_word}
 use Rattle.word_rule.proofs.MarkWords.{cell_committed, or_one, cell_read, mark_word, count_word}
 use Rattle.word_rule.proofs.Keeps.{IsSameSeat, live_after, seat_in_range, seat_fits, table_after, event_keeps}
 

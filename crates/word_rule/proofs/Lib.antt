@@ -1,5 +1,5 @@
 pub mod CoreViews
-pub mod Words
+pub mod Layouts
 pub mod MarkWords
 pub mod Keeps
 pub mod Claimant
@@ -7,4 +7,5 @@ pub mod Holder
 pub mod Shares
 pub mod Openings
 pub mod Alone
+pub mod Endings
 pub mod Seats

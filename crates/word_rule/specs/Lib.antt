@@ -13,3 +13,5 @@ pub mod Steps
 pub mod Holder
 -- a round and its seats, as clauses speak of them
 pub mod Rounds
+-- what the words of a round that is over show
+pub mod Closing
