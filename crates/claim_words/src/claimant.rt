@@ -2,7 +2,7 @@
 
 ghost use Rattle.std.specs.Prelude.{◌≡◌};
 ghost use Rattle.word_rule.specs.Rounds.{IsSeatOf, Stays, dict_of};
-ghost use Rattle.claim_words.specs.Claimant.{MayClaim, MayRead, MayPost, Claimed, Read, Posted};
+ghost use Rattle.claim_words.specs.Claimant.{MayClaim, MayRead, MayPost, IsClaim, IsRead, IsPost};
 
 use market::Dict;
 use word_rule::{ClaimCopy, ClaimStep, PostStep, ReadStep, SharedRound, WorkSeat};
@@ -13,7 +13,7 @@ pub fn claim(round: &SharedRound, me: &mut WorkSeat) -> Option<u32>
     requires seat { IsSeatOf round.now me.old }
     requires may { MayClaim me.old }
     ensures stays { Stays me.old me.new }
-    ensures event { Claimed me.old me.new result }
+    ensures event { IsClaim me.old me.new result }
 {
     let words = &round.table.shared;
     let found = words.fetch_add::<ClaimStep>(&mut me.seat, 0, 1);
@@ -36,7 +36,7 @@ pub fn read_entry(round: &SharedRound, dict: &Dict, me: &mut WorkSeat) -> bool
     requires dict { dict.now ≡ dict_of round.now }
     requires may { MayRead me.old }
     ensures stays { Stays me.old me.new }
-    ensures event { Read me.old me.new result }
+    ensures event { IsRead me.old me.new result }
 {
     let Some(claim) = me.claim else {
         unreachable!()
@@ -62,7 +62,7 @@ pub fn post(round: &SharedRound, dict: &Dict, me: &mut WorkSeat) -> u32
     requires dict { dict.now ≡ dict_of round.now }
     requires may { MayPost me.old }
     ensures stays { Stays me.old me.new }
-    ensures event { Posted me.old me.new result }
+    ensures event { IsPost me.old me.new result }
 {
     let Some(claim) = me.claim else {
         unreachable!()

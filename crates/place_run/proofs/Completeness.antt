@@ -1,10 +1,8 @@
 -- Three held files without a fault say their tables, so that the outcome is the text of their
 -- placement; a whole run
 -- has written it.
-use Rattle.std.proofs.Common.{◌≡◌, ℕ, ◌^◌, ◌≤◌, List, [], refl, sym, ap, ◌∙◌, subst, append-nil, inl, inr, Option, Some, None, Result, Ok}
+use Rattle.std.proofs.Common.{◌≡◌, ℕ, ◌^◌, ◌≤◌, List, [], refl, sym, ap, ◌∙◌, subst, append-nil, inl, inr, Option, Some, None, Ok}
 use Rattle.std.specs.Prelude.{length}
-use Rattle.command_words.specs.Words.{command_of}
-use Rattle.command_words.specs.declared.words.Command.TheVariants.{Place}
 use Rattle.place_base.specs.declared.fault.FileFault as fault
 use Rattle.place_base.specs.declared.fault.FileKind.{FileKind}
 use Rattle.place_edges.specs.Shelf.{Files}

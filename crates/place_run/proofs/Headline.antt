@@ -1,12 +1,9 @@
 -- What three files say that were read: they are held, they have no fault, and their tables are the
 -- parts of their
 -- market. So what is known of the market of the tables is known of the market of the files.
-use Rattle.std.proofs.Common.{◌≡◌, ℕ, ◌^◌, ◌<◌, ◌≤◌, List, refl, sym, subst, ap, ◌∙◌, arith, Option, Some, None, Result, Ok, Err, ⊎_elim}
-use Rattle.std.specs.Prelude.{length, nat_lt}
-use Rattle.std.proofs.lemmas.Bool.{cases_lt, cond-true, lt-ltb}
-use Rattle.market.specs.Comparisons.{IsWorstStable}
-use Rattle.market.specs.Mechanism.{mechanism_placement}
-use Rattle.market.specs.Problems.{IsValid}
+use Rattle.std.proofs.Common.{◌≡◌, ℕ, ◌^◌, ◌<◌, ◌≤◌, List, refl, sym, subst, ◌∙◌, Option, Some, None, Ok, Err, ⊎_elim}
+use Rattle.std.specs.Prelude.{length}
+use Rattle.std.proofs.lemmas.Bool.{cases_lt}
 use Rattle.place_base.specs.declared.fault.FileFault.{FileFault}
 use Rattle.place_base.specs.declared.fault.FileKind.{FileKind}
 use Rattle.place_base.specs.declared.fault.FileKind.TheVariants as file

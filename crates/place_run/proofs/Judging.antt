@@ -4,7 +4,7 @@ use Rattle.std.specs.Prelude.{length, IsErrAnd}
 use Rattle.std.proofs.lemmas.Bool.{cond-true, cond-false, le-ltb, lt-ltb}
 use Rattle.place_base.specs.declared.fault.FileFault.{FileFault}
 use Rattle.place_base.specs.declared.fault.FileKind.{FileKind}
-use Rattle.place_edges.specs.Shelf.{Files, HasBytes, HasMore}
+use Rattle.place_edges.specs.Shelf.{Files, HasBytes}
 use Rattle.record_files.specs.FirstFaults.{IsTableRead}
 use Rattle.record_files.specs.declared.table_stop.TableStop.{TableStop}
 use Rattle.record_files.specs.declared.table_stop.TableStop.TheVariants as stopped

@@ -1,7 +1,7 @@
 -- The parts of three tables make a valid market, since each table keeps its own limits and refers
 -- only to the others'
 -- entries; and what its placement gives each candidate is one of its programmes.
-use Rattle.std.proofs.Common.{◌≡◌, ℕ, ◌<◌, ◌≤◌, List, [], length, get_or, refl, sym, subst, ap, ◌∙◌, arith, Option, Some, None, Result, Ok, Err, IfOk, ⊎_elim}
+use Rattle.std.proofs.Common.{◌≡◌, ℕ, ◌<◌, ◌≤◌, List, [], length, get_or, refl, sym, subst, ap, ◌∙◌, arith, Option, Some, Result, Ok, Err, IfOk, ⊎_elim}
 use Rattle.std.specs.Prelude.{All, map}
 use Rattle.std.proofs.lemmas.Bool.{cases_lt}
 use Rattle.std.proofs.lemmas.List.{get_or_past, length-map}

@@ -7,14 +7,14 @@ use Rattle.std.specs.List.{list_any}
 use Rattle.std.proofs.lemmas.Bool.{cond_both}
 use Rattle.place_base.specs.TypeName.{is_type_name}
 use Rattle.place_base.specs.declared.fault.FaultKind.{FaultKind}
-use Rattle.place_base.specs.declared.fault.FaultKind.TheVariants.{Header, FieldCount, NotNumber, OutOfRange, BadTypeName, Duplicate, UnknownProgramme, ListTooLong, TooManyRows, LineTooLong, FileTooLong}
+use Rattle.place_base.specs.declared.fault.FaultKind.TheVariants.{OutOfRange, BadTypeName, UnknownProgramme, ListTooLong, FileTooLong}
 use Rattle.place_base.specs.declared.fault.FileFault.{FileFault}
 use Rattle.place_base.specs.declared.fault.FileKind.{FileKind}
 use Rattle.place_base.specs.declared.fault.FileKind.TheVariants as file
-use Rattle.record_files.specs.FirstFaults.{fault_at, duplicate_at, fault_if, first_of, reading_fault, repeat_fault, long_fault, header_fault, first_row_fault, shape_fault, fault_behind, row_fault, least_fault, data_rows, first_fault}
+use Rattle.record_files.specs.FirstFaults.{fault_at, duplicate_at, fault_if, first_of, reading_fault, long_fault, first_row_fault, shape_fault, fault_behind, row_fault, least_fault, data_rows, first_fault}
 use Rattle.record_files.specs.Form.{Form}
 use Rattle.record_files.specs.Numbers.{is_number, number_of, value}
-use Rattle.record_files.specs.Rows.{Row, rows, fields_of, field_at}
+use Rattle.record_files.specs.Rows.{Row, rows, field_at}
 use Rattle.record_files.specs.TypeNames.{type_name_of}
 use Rattle.programme_table.specs.Programmes as programmes
 use Rattle.candidate_table.specs.Candidates as candidates

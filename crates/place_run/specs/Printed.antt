@@ -1,5 +1,5 @@
 -- What is printed, and how it compares with every stable placement.
-use Rattle.std.specs.Prelude.{◌≡◌, ◌⊎◌, ℕ, List, Option, Some, None, Result, Ok, ⊤}
+use Rattle.std.specs.Prelude.{◌≡◌, ◌⊎◌, ℕ, List, Option, Some, None, Ok, ⊤}
 use Rattle.command_words.specs.Words.{command_of}
 use Rattle.command_words.specs.declared.words.Command.TheVariants.{Place}
 use Rattle.market.specs.Comparisons.{GivesAtLeast}

@@ -11,6 +11,7 @@ use Rattle.word_rule.specs.Rounds.{IsAlone}
 use Rattle.word_rule.specs.declared.rule.RoundKey.{RoundKey}
 use Rattle.word_rule.proofs.CoreViews.{whose}
 
+-- so no view claims or holds, where this seat does neither
 pub is_alone : (key : RoundKey) (x : SeatKnows) → x.share ≡ key.workers → x.core.done ≡ true
     → x.core.claim ≡ None → x.core.hold ≡ None → IsAlone key x
 is_alone key x every done claim hold s i h at j v in_core =

@@ -36,6 +36,7 @@ few_ends (suc n) v =
     times_le n true = omega arith
     times_le n false = omega arith
 
+-- so there are no more done views than workers
 pub ends_le : (l : List SeatKnows) → sum_by done_bit (core_views l) ≤ sum_by share_of l
 ends_le l = let e = sum_views done_bit l in omega (arith, each l)
   where

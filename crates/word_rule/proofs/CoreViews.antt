@@ -135,6 +135,7 @@ pub record Whose (l : List SeatKnows) (v : View) : Type 0 where
   pub live : IsLive l at seat
   pub which : (v ≡ seat.core) ⊎ ((1 < seat.share) × (v ≡ other_view seat.core.done))
 
+-- each view of the core is some seat's
 pub whose : (l : List SeatKnows) (p : ℕ) (v : View) → slice_get (core_views l) p ≡ Some v
     → Whose l v
 whose [] p v e = absurd (cc (e))
@@ -157,6 +158,7 @@ whose (x ∷ xs) p v e =
 abbrev pub weight : (View → ℕ) → SeatKnows → ℕ
 weight f x = sum_by f (shared_views x.share x.core)
 
+-- a sum over the views of the core, seat by seat
 pub sum_views : (f : View → ℕ) (l : List SeatKnows)
     → sum_by f (core_views l) ≡ sum_by (weight f) l
 sum_views f [] = refl

@@ -94,6 +94,7 @@ opens_with_first key valid some few =
     first x zero y e = refl
     first x (suc i) y e = absurd (cc (e))
 
+-- the same for words that are known to be the opening words
 pub table_opens : (key : RoundKey) (words : List ℕ) → words ≡ first_words key.dict.value
     → IsValidDictatorship key.dict.value → 0 < key.workers → key.workers ≤ 64
     → IsSoundTable key (table_opening words [] (first_of key))
@@ -122,6 +123,7 @@ new_shares (x ∷ xs) new =
     let sum = sum_by-cons (λ me. share_of (knows me)) x xs in
     omega (arith, new_shares xs (λ k me e. new (suc k) me e))
 
+-- so words and seats together are the opening state
 pub opens : (round : SharedRound) (d : Dictatorship) (workers : ℕ) (seats : List WorkSeat)
     → IsValidDictatorship d → AllNew round seats → length seats ≡ workers
     → core_of d (first_words d) (core_views (map knows seats)) ≡ opening d workers
@@ -130,6 +132,7 @@ opens round d workers seats valid new count =
     (new_views seats (λ k me e. let a = new k me e in (a.fresh, a.share))
     ∙ ap (λ (n : ℕ). replicate n fresh_view) count)
 
+-- and the seats stand for all workers
 pub opens_shares : (round : SharedRound) (workers : ℕ) (seats : List WorkSeat) → AllNew round seats
     → length seats ≡ workers → shares_of seats ≡ workers
 opens_shares round workers seats new count = new_shares seats (λ k me e. (new k me e).share) ∙ count

@@ -122,6 +122,7 @@ module _ (key : RoundKey) where
       subst (Fits s h) (sym other.1) (other_fits s h i x at other.0))
       which
 
+  -- a seat at the opening may be split
   pub split_keeps : (id : ℕ) (x : SeatKnows) → x.core ≡ fresh_view → 1 < x.share
       → Splits (IsSoundTable key) id x (kept_part x) (new_part x)
   split_keeps id x fresh more s h at =
@@ -315,6 +316,7 @@ module _ (key : RoundKey) where
         own = own_nil key.dict.value (table_core key s);
       }
 
+  -- seats that are over may be joined
   pub join_keeps : (id : ℕ) (x : SeatKnows) (other : ℕ) (y : SeatKnows) → IsIdle x → IsIdle y
       → Joins (IsSoundTable key) id x other y (joined x y) spent_seat
   join_keeps id x other y o p s h at apart at_other =

@@ -1,4 +1,4 @@
-use Rattle.std.proofs.Common.{List, ℕ, subst, ◌∙◌}
+use Rattle.std.proofs.Common.{subst, ◌∙◌}
 use Rattle.std.specs.Prelude.{Option, Ok}
 use Rattle.std.specs.String.{string_bytes}
 use Rattle.place_edges.specs.Shelf.{Files}

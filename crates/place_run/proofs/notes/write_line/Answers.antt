@@ -1,6 +1,3 @@
-use Rattle.std.proofs.Common.{OnErr}
-use Rattle.place_edges.specs.Sink.{AppendedPrefix}
-use Rattle.place_run.specs.Lines.{line_of}
 use Rattle.place_run.proofs.notes.write_line.Goals as goal
 
 pub returns-in-ReadFault-clause-prefix : goal.returns-in-ReadFault-clause-prefix

@@ -1,12 +1,11 @@
-use Rattle.std.proofs.Common.{◌≡◌, ◌<◌, ◌≤◌, ℕ, length, sym, subst, ap, ◌∙◌, arith}
+use Rattle.std.proofs.Common.{◌≡◌, ◌<◌, length, sym, subst, ap, ◌∙◌}
 use Rattle.std.proofs.lemmas.List.{length-map}
 use Rattle.std.proofs.lemmas.Result.{IfOk-weaker}
 use Rattle.market.specs.Problems.{Problem}
 use Rattle.market.specs.Stability.{held_by}
 use Rattle.programme_table.specs.Table.{codes_of}
-use Rattle.candidate_table.specs.Table.{numbers_of}
 use Rattle.place_run.specs.Steps.{IsPlaced}
-use Rattle.place_run.specs.ThreeFiles.{market_of, placement_text}
+use Rattle.place_run.specs.ThreeFiles.{market_of}
 use Rattle.place_run.proofs.Markets.{lists-of_market, programmes-of_market, outcome-placement, held-within, placed-text}
 use Rattle.place_run.proofs.placing.place.Goals as goal
 
