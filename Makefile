@@ -8,9 +8,9 @@ SOURCES := crates.txt $(shell find crates -name out -prune -o \( -name '*.rt' -o
 
 all: $(PROGRAM)
 
-# rt run proves and builds, and then runs the program on its stored words, which is no part of the build's messages
+# rt run proves and builds the program, and then runs it on files of its own
 $(PROGRAM): $(SOURCES)
-	cd crates/place_program && rt run </dev/null
+	cd crates/place_program && rt run -- place data/programmes.csv data/candidates.csv data/ranks.csv </dev/null
 	touch $@
 
 install: $(PROGRAM)

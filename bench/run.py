@@ -21,13 +21,26 @@ SIZES = {
     "small": (20_000, 500, 5, 60_000),
     "middle": (200_000, 5_000, 8, 1_100_000),
     "full": (3_500_000, 60_000, 16, 20_000_000),
-    # no programmes: lists are empty, so that nearly all the work is reading
-    "unlisted": (3_500_000, 0, 16, 20_000_000),
 }
+
+
+def without_lists(folder):
+    """The full market with empty preference lists: nearly all the work is then reading and checking."""
+    full = files_of("full")
+    os.makedirs(folder, exist_ok=True)
+    for at in (0, 2):
+        shutil.copyfile(full[at], os.path.join(folder, FILES[at]))
+    with open(full[1]) as listed, open(os.path.join(folder, FILES[1]), "w") as out:
+        out.write(next(listed))
+        out.writelines(row.split(",")[0] + ",\n" for row in listed)
 
 
 def files_of(size):
     folder = os.path.join(OUT, size)
+    if size == "unlisted":
+        if not os.path.exists(folder):
+            without_lists(folder)
+        return [os.path.join(folder, name) for name in FILES]
     if not os.path.exists(os.path.join(folder, "ranks.csv")):
         words = [str(number) for number in SIZES[size]]
         subprocess.run([sys.executable, os.path.join(HERE, "make_market.py"), *words, "7", folder], check=True)

@@ -2,7 +2,7 @@
 
 ghost use Rattle.std.specs.Prelude.{◌≡◌};
 ghost use Rattle.word_rule.specs.Rounds.{IsSeatOf, Stays, dict_of};
-ghost use Rattle.claim_words.specs.Claimant.{MayClaim, MayRead, MayPost, Claimed, Read, Posted};
+ghost use Rattle.claim_words.specs.Claimant.{MayClaim, MayRead, MayPost, IsClaim, IsRead, IsPost};
 
 use market::Dict;
 use word_rule::{ClaimCopy, ClaimStep, PostStep, ReadStep, SharedRound, WorkSeat};
@@ -13,12 +13,10 @@ pub fn claim(round: &SharedRound, me: &mut WorkSeat) -> Option<u32>
     requires seat { IsSeatOf round.now me.old }
     requires may { MayClaim me.old }
     ensures stays { Stays me.old me.new }
-    ensures event { Claimed me.old me.new result }
+    ensures event { IsClaim me.old me.new result }
 {
-    let found = round
-        .table
-        .shared
-        .fetch_add::<ClaimStep>(&mut me.seat, 0, 1);
+    let words = &round.table.shared;
+    let found = words.fetch_add::<ClaimStep>(&mut me.seat, 0, 1);
     if found >= round.turns as u64 {
         return None;
     }
@@ -38,14 +36,14 @@ pub fn read_entry(round: &SharedRound, dict: &Dict, me: &mut WorkSeat) -> bool
     requires dict { dict.now ≡ dict_of round.now }
     requires may { MayRead me.old }
     ensures stays { Stays me.old me.new }
-    ensures event { Read me.old me.new result }
+    ensures event { IsRead me.old me.new result }
 {
     let Some(claim) = me.claim else {
         unreachable!()
     };
     let programme = dict.list(claim.turn)[claim.passed as usize];
-    let word = 2 + programme as usize;
-    let found = round.table.shared.load::<ReadStep>(&mut me.seat, word);
+    let words = &round.table.shared;
+    let found = words.load::<ReadStep>(&mut me.seat, 2 + programme as usize);
     let full = found >= dict.quota(programme) as u64;
     me.claim = Some(if full {
         ClaimCopy {
@@ -64,17 +62,15 @@ pub fn post(round: &SharedRound, dict: &Dict, me: &mut WorkSeat) -> u32
     requires dict { dict.now ≡ dict_of round.now }
     requires may { MayPost me.old }
     ensures stays { Stays me.old me.new }
-    ensures event { Posted me.old me.new result }
+    ensures event { IsPost me.old me.new result }
 {
     let Some(claim) = me.claim else {
         unreachable!()
     };
+    let words = &round.table.shared;
     let word = 2 + dict.programmes() as usize + claim.turn as usize;
     let cell = 2 * claim.passed as u64 + 1;
-    round
-        .table
-        .shared
-        .store::<PostStep>(&mut me.seat, word, cell);
+    words.store::<PostStep>(&mut me.seat, word, cell);
     me.claim = None;
     claim.passed
 }

@@ -7,7 +7,7 @@ use Rattle.interleaving_core.specs.declared.parts.Phase.{Phase}
 use Rattle.interleaving_core.specs.declared.parts.Phase.TheVariants.{Idle, Halted, Scan, Ready, Seated}
 use Rattle.interleaving_core.specs.declared.parts.Holding.{Holding}
 use Rattle.interleaving_core.specs.Core.{turn_count, entry, is_committed, hold_at}
-use Rattle.interleaving_core.specs.Events.{Looks, Weighs, Seats, Seals, Releases, Allowed, CanSeal, looked}
+use Rattle.interleaving_core.specs.Events.{Looks, Weighs, Seats, Seals, Releases, Allowed, CanSeal, phase_after_look}
 use Rattle.word_rule.specs.Layout.{cell_of, cell_by}
 use Rattle.word_rule.specs.Copies.{holding_of}
 use Rattle.word_rule.specs.Steps.{SeatMe}
@@ -59,7 +59,7 @@ found_place d m n found k valid dict hold told some =
     let posted = posted_word found some told.uncommitted in
     let scan : n.0.core.hold ≡ hold_at k (Scan (found / 2)) =
     ap (λ (q : SeatMe). q.0.core.hold) told.seat
-    ∙ (ap (λ o. (look_by m.0.core o found).hold) hold ∙ ap (λ c. hold_at k (looked c)) posted) in
+    ∙ (ap (λ o. (look_by m.0.core o found).hold) hold ∙ ap (λ c. hold_at k (phase_after_look c)) posted) in
     let same : n.0.dict ≡ d = ap (λ (q : SeatMe). q.0.dict) told.seat ∙ dict in
     let turn = told.range.scanned k (found / 2) scan in
     let place = told.range.scanned_place k (found / 2) scan in

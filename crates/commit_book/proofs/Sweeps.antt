@@ -3,7 +3,7 @@ use Rattle.std.proofs.Common.{◌≡◌, ℕ, ◌+◌, ◌*◌, ◌/◌, ◌%◌
 use Rattle.interleaving_core.specs.declared.parts.Phase.{Phase}
 use Rattle.interleaving_core.specs.declared.parts.Phase.TheVariants.{Idle}
 use Rattle.interleaving_core.specs.Core.{turn_count, hold_at}
-use Rattle.interleaving_core.specs.Events.{looked}
+use Rattle.interleaving_core.specs.Events.{phase_after_look}
 use Rattle.word_rule.specs.Views.{SeatKnows}
 use Rattle.word_rule.specs.Holder.{is_odd, tried, released_with}
 use Rattle.word_rule.specs.Rounds.{knows}
@@ -77,9 +77,9 @@ module _ (old at mid new : WorkSeat) (number count : ℕ) where
             swept_with view (swept_by old at mid new number count Idle view idle free) (λ every done. omega arith)
         | no n ↦
             let saw = look.left (omega arith) in
-            let halted : knows mid ≡ as_holder (knows at) c (looked saw.found) =
-            saw.view ∙ ap (λ (k : ℕ). as_holder (knows at) k (looked saw.found)) same in
-            swept_with view (swept_by old at mid new number count (looked saw.found) view halted free) (λ every done.
+            let halted : knows mid ≡ as_holder (knows at) c (phase_after_look saw.found) =
+            saw.view ∙ ap (λ (k : ℕ). as_holder (knows at) k (phase_after_look saw.found)) same in
+            swept_with view (swept_by old at mid new number count (phase_after_look saw.found) view halted free) (λ every done.
             absurd
             (let some = saw.posted (ap (λ (x : SeatKnows). x.share) view ∙ (every ∙ ap (λ (x : SeatKnows). x.workers) (sym view))) (ap (λ (x : SeatKnows). x.core.done) view ∙ done) in
             cc (some)))

@@ -5,7 +5,7 @@ use Rattle.interleaving_core.specs.declared.parts.Cell.TheVariants.{Empty, Poste
 use Rattle.interleaving_core.specs.declared.parts.Phase.{Phase}
 use Rattle.interleaving_core.specs.declared.parts.Phase.TheVariants.{Idle, Scan, Ready, Seated}
 use Rattle.interleaving_core.specs.Core.{turn_count, entry, quota_of, hold_at}
-use Rattle.interleaving_core.specs.Events.{Takes, Weighs, Seats, Seals, Releases, Allowed, with_hold, looked, weighed_if}
+use Rattle.interleaving_core.specs.Events.{Takes, Weighs, Seats, Seals, Releases, Allowed, with_hold, phase_after_look, phase_after_weigh}
 use Rattle.word_rule.specs.Views.{SeatKnows, with_core}
 use Rattle.word_rule.specs.Holder.{is_odd, tried, released_with}
 use Rattle.word_rule.specs.Rounds.{knows}
@@ -69,7 +69,7 @@ pub record Tried (old new : WorkSeat) (answer : Bool) : Type 0 where
 -- share finds a place
 pub record Saw (old new : SeatKnows) (committed : ℕ) (answer : Option ℕ) : Type 0 where
   pub found : Cell
-  pub view : new ≡ as_holder old committed (looked found)
+  pub view : new ≡ as_holder old committed (phase_after_look found)
   pub answered : MatchOption answer (found ≡ Empty) (λ place. found ≡ Posted place)
   pub posted : old.share ≡ old.workers → old.core.done ≡ true → IsSome answer
 
@@ -89,7 +89,7 @@ pub record Weighed (old new : WorkSeat) (answer : Bool) : Type 0 where
   pub found : ℕ
   pub scan : (knows old).core.hold ≡ hold_at committed (Scan place)
   pub view : knows new ≡ as_holder (knows old) committed
-      (weighed_if (nat_lt found (quota_of (knows old).dict (entry (knows old).dict committed place))) place)
+      (phase_after_weigh (nat_lt found (quota_of (knows old).dict (entry (knows old).dict committed place))) place)
   pub answered : answer ≡ nat_le (quota_of (knows old).dict (entry (knows old).dict committed place)) found
 
 -- a seat taken: there is a seat count found at this step; the answer is whether one more has reached the

@@ -1,5 +1,5 @@
 -- The choice of a turn, from which entries of its list are full: by the least place that is not.
-use Rattle.std.proofs.Common.{◌≡◌, ℕ, suc, ◌+◌, ◌<◌, ◌≤◌, Bool, true, false, cond, length, nat_lt, eqb, refl, ap, ◌∙◌, arith}
+use Rattle.std.proofs.Common.{◌≡◌, ℕ, suc, ◌+◌, ◌<◌, ◌≤◌, Bool, true, false, cond, length, eqb, refl, ap, ◌∙◌, arith}
 use Rattle.std.specs.Prelude.{slice_get}
 use Rattle.std.proofs.lemmas.Bool.{lt-ltb, le-ltb}
 use Rattle.std.proofs.lemmas.List.Sums.{position_or_len_is}
@@ -40,6 +40,7 @@ pub takes_none : (d : Dictatorship) (k p : ℕ) → choice d k ≡ length (list_
 unfolding picked
 takes_none d k p e =
     let next = taken-suc d k p in
-    let is = ap (slice_get (list_at d k)) e ∙ slice_get_past (list_at d k) (length (list_at d k)) (omega arith) in
+    let is = ap (slice_get (list_at d k)) e
+    ∙ slice_get_past (list_at d k) (length (list_at d k)) (omega arith) in
     let none = ap (λ o. cond {A = ℕ} (is_programme p o) 1 0) is in
     omega arith

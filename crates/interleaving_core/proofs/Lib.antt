@@ -1,5 +1,11 @@
 pub mod Places
 pub mod Choices
 pub mod OwnTurns
+pub mod Views
+pub mod Holder
+pub mod ClaimantKeeps
+pub mod MarkKeeps
 pub mod Keeps
 pub mod Prefix
+pub mod Machines
+pub mod MachineEvents

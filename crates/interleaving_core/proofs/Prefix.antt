@@ -1,15 +1,14 @@
--- What a sound state has committed is the front of the dictatorship's choices: cell by cell, the first
+-- What a sound state has committed begins the dictatorship's choices: cell by cell, the first
 -- ones are committed with them, and no other is.
-use Rattle.std.proofs.Common.{◌≡◌, ℕ, zero, suc, ◌+◌, ◌<◌, ◌≤◌, Bool, true, false, List, [], ◌∷◌, ◌++◌, Option, Some, None, length, map, take, drop, get_or, sym, refl, ap, ◌∙◌, subst, arith}
-use Rattle.std.specs.Prelude.{count_by}
+use Rattle.std.proofs.Common.{◌≡◌, ℕ, zero, suc, ◌+◌, ◌<◌, ◌≤◌, false, List, [], ◌∷◌, ◌++◌, Some, None, length, map, drop, get_or, sym, refl, ap, ◌∙◌, arith}
 use Rattle.std.specs.List.{cons_option, filter_map, range_with_len}
 use Rattle.std.proofs.lemmas.List.{take-append-drop}
 use Rattle.std.proofs.lemmas.List.FromFn.{take-map-range_with_len}
 use Rattle.market.specs.Dictatorships.{Dictatorship, choice, choices, IsPrefixOf}
 use Rattle.interleaving_core.specs.declared.parts.Cell.{Cell}
 use Rattle.interleaving_core.specs.declared.parts.Cell.TheVariants.{Empty, Posted, Committed}
-use Rattle.interleaving_core.specs.Core.{Core, is_committed}
-use Rattle.interleaving_core.specs.Sound.{committed_place, committed_choices, Sound}
+use Rattle.interleaving_core.specs.Core.{Core, is_committed, committed_place, committed_choices}
+use Rattle.interleaving_core.specs.Sound.{Sound}
 
 not_placed : (x : Cell) → is_committed x ≡ false → committed_place x ≡ None
 not_placed Empty e = refl
@@ -33,7 +32,8 @@ front_places f (x ∷ xs) m (suc n) within is others =
     ap (λ o. cons_option o (filter_map committed_place xs)) first
     ∙ ap (λ rest. f m ∷ rest)
     (front_places f xs (m + 1) n (omega arith)
-    (λ k l. let e : m + suc k ≡ m + 1 + k = omega arith in is (suc k) (omega arith) ∙ ap (λ i. Committed (f i)) e)
+    (λ k l. let e : m + suc k ≡ m + 1 + k = omega arith in
+    is (suc k) (omega arith) ∙ ap (λ i. Committed (f i)) e)
     (λ k l. others (suc k) (omega arith)))
 
 -- the choices committed begin the dictatorship's choices
@@ -43,9 +43,13 @@ unfolding choices
 committed_prefix d c s =
     let n = length d.lists in
     let all = map (choice d) (range_with_len 0 n) in
-    let within = s.within in
-    let cells = s.cells_count in
+    let within = s.mark.within in
+    let cells = s.cells.each_turn in
     let front = front_places (choice d) c.cells 0 s.count (omega arith)
-    (λ k l. let e : 0 + k ≡ k = omega arith in s.below k l ∙ ap (λ i. Committed (choice d i)) (sym e)) s.above in
-    let is = front ∙ sym (take-map-range_with_len (choice d) 0 n s.count within) in
-    (drop s.count all, ap (λ (xs : List ℕ). xs ++ drop s.count all) is ∙ take-append-drop s.count all)
+    (λ k l. let e : 0 + k ≡ k = omega arith in
+    s.cells.below k l ∙ ap (λ i. Committed (choice d i)) (sym e)) s.cells.above in
+    let is = front ∙ sym (take-map-range_with_len (choice d) 0 n s.count within) in (
+      drop s.count all,
+      ap (λ (xs : List ℕ). xs ++ drop s.count all) is
+          ∙ take-append-drop s.count all,
+    )

@@ -1,15 +1,17 @@
 -- A core state: what the shared words hold and what each worker knows.
-use Rattle.std.specs.Prelude.{ℕ, ◌∷◌, Bool, true, false, List, [], length, replicate, nat_lt, slice_index, slice_index_or, Option, Some, None}
+use Rattle.std.specs.Prelude.{ℕ, Bool, true, false, List, [], length, replicate, nat_lt, slice_index, slice_index_or, Option, Some, None}
+use Rattle.std.specs.List.{filter_map}
 use Rattle.market.specs.Dictatorships.{Dictatorship, list_at}
 use Rattle.interleaving_core.specs.declared.parts.Cell.{Cell}
-use Rattle.interleaving_core.specs.declared.parts.Cell.TheVariants.{Empty, Posted, Committed}
+use Rattle.interleaving_core.specs.declared.parts.Cell.TheVariants.{Empty, Committed}
 use Rattle.interleaving_core.specs.declared.parts.Claiming.{Claiming}
 use Rattle.interleaving_core.specs.declared.parts.OwnTurn.{OwnTurn}
 use Rattle.interleaving_core.specs.declared.parts.Phase.{Phase}
 use Rattle.interleaving_core.specs.declared.parts.Holding.{Holding}
 
--- what one worker knows: the turn it claims, the turns it has drawn, in order, whether it found no turn
--- left to draw, whether it owes a try on the mark since its last post, and what it knows as holder of the mark
+-- what one worker knows: the turn it claims; the turns it has drawn, in order; whether it is
+-- done, since no turn was left to draw; whether it owes a try on the mark; and what it knows as
+-- holder of the mark
 pub record View : Type 0 where
   pub claim : Option Claiming
   pub own : List OwnTurn
@@ -17,8 +19,8 @@ pub record View : Type 0 where
   pub owes : Bool
   pub hold : Option Holding
 
--- the claim number, the mark with its number, the seat count of each programme, the cell of each turn, and
--- the view of each worker
+-- the claim number, which is how many draws were made; the mark, held or free, and its number;
+-- the seat count of each programme; the cell of each turn; and the view of each worker
 pub record Core : Type 0 where
   pub claim_number : ℕ
   pub mark_held : Bool
@@ -84,3 +86,12 @@ claim_at k j met = Some record { turn = k; passed = j; met = met }
 -- the mark held, with c turns committed
 abbrev pub hold_at : ℕ → Phase → Option Holding
 hold_at c phase = Some record { committed = c; phase = phase }
+
+-- the place that a cell is committed at
+abbrev pub committed_place : Cell → Option ℕ
+committed_place (Committed j) = Some j
+committed_place _ = None
+
+-- the choices committed, in the order of turns
+abbrev pub committed_choices : Core → List ℕ
+committed_choices c = filter_map committed_place c.cells

@@ -1,8 +1,8 @@
 -- The nine events: when each is allowed, what it leads to and what it tells.
-use Rattle.std.specs.Prelude.{◌≡◌, ℕ, ◌+◌, ◌<◌, ◌⊎◌, ◌++◌, Bool, true, false, nat_lt, nat_le, List, [], ◌∷◌, length, slice_set, slice_get, Option, Some, None}
+use Rattle.std.specs.Prelude.{◌≡◌, ℕ, ◌+◌, ◌<◌, ◌⊎◌, ◌++◌, Bool, true, false, nat_lt, nat_le, List, [], ◌∷◌, length, slice_set, Option, Some, None}
 use Rattle.market.specs.Dictatorships.{Dictatorship, list_at}
 use Rattle.interleaving_core.specs.declared.parts.Cell.{Cell}
-use Rattle.interleaving_core.specs.declared.parts.Cell.TheVariants.{Empty, Posted, Committed}
+use Rattle.interleaving_core.specs.declared.parts.Cell.TheVariants.{Posted, Committed}
 use Rattle.interleaving_core.specs.declared.parts.Claiming.{Claiming}
 use Rattle.interleaving_core.specs.declared.parts.OwnTurn.{OwnTurn}
 use Rattle.interleaving_core.specs.declared.parts.Phase.{Phase}
@@ -14,8 +14,9 @@ use Rattle.interleaving_core.specs.declared.events.Told.{Told}
 use Rattle.interleaving_core.specs.declared.events.Told.TheVariants as tells
 use Rattle.interleaving_core.specs.Core.{View, Core, turn_count, entry, quota_of, seats_of, is_open, cell_at, claim_at, hold_at}
 
--- an event with what its condition finds in the worker's view: the turn k or the number c of committed
--- turns, the place j, and where the condition leaves a choice, which part of it holds
+-- an event with what its condition finds in the worker's view: the turn (k, or for a holder the
+-- number of committed turns, c), the place j, and, where the condition has two parts, which one
+-- holds
 pub data Action : Type 0 where
   Claims : Action
   Reads : ℕ → ℕ → Action
@@ -65,6 +66,10 @@ Allowed d v (Seals c j phase) =
     (v.hold ≡ hold_at c phase) × CanSeal (length (list_at d c)) j phase
 Allowed d v (Releases c phase) = (v.hold ≡ hold_at c phase) × CanRelease (turn_count d) c phase
 
+-- no action of this event is allowed
+abbrev pub Refuses : Dictatorship → View → CoreEvent → Type 0
+Refuses d v event = (a : Action) → event_of a ≡ event → ¬ (Allowed d v a)
+
 -- the view with another claim
 abbrev pub with_claim : View → Option Claiming → View
 with_claim v claim = record v { claim = claim }
@@ -74,80 +79,80 @@ abbrev pub with_hold : View → Option Holding → View
 with_hold v hold = record v { hold = hold }
 
 -- by whether the number drawn is a turn: it is claimed, or the worker is done
-abbrev pub claimed_if : Bool → View → ℕ → View
-claimed_if true v k =
+abbrev pub after_claim_if : Bool → View → ℕ → View
+after_claim_if true v k =
     record v { claim = claim_at k 0 false; own = v.own ++ record { turn = k; place = None } ∷ [] }
-claimed_if false v k = record v { done = true }
+after_claim_if false v k = record v { done = true }
 
 -- the view after drawing this number
-abbrev pub claimed : Dictatorship → View → ℕ → View
-claimed d v k = claimed_if (nat_lt k (turn_count d)) v k
+abbrev pub after_claim : Dictatorship → View → ℕ → View
+after_claim d v k = after_claim_if (nat_lt k (turn_count d)) v k
 
 -- by whether the entry at place j has a seat left: it is met, or passed
-abbrev pub read_if : Bool → View → ℕ → ℕ → View
-read_if true v k j = with_claim v (claim_at k j true)
-read_if false v k j = with_claim v (claim_at k (j + 1) false)
+abbrev pub after_read : Bool → View → ℕ → ℕ → View
+after_read true v k j = with_claim v (claim_at k j true)
+after_read false v k j = with_claim v (claim_at k (j + 1) false)
 
 -- the last of these turns is posted at place j
-abbrev pub placed : List OwnTurn → ℕ → List OwnTurn
-placed [] j = []
-placed (x ∷ []) j = record { turn = x.turn; place = Some j } ∷ []
-placed (x ∷ y ∷ ys) j = x ∷ placed (y ∷ ys) j
+abbrev pub with_place : List OwnTurn → ℕ → List OwnTurn
+with_place [] j = []
+with_place (x ∷ []) j = record { turn = x.turn; place = Some j } ∷ []
+with_place (x ∷ y ∷ ys) j = x ∷ with_place (y ∷ ys) j
 
 -- the view after a post at place j
-abbrev pub posted : View → ℕ → View
-posted v j = record v { claim = None; own = placed v.own j; owes = true }
+abbrev pub after_post : View → ℕ → View
+after_post v j = record v { claim = None; own = with_place v.own j; owes = true }
 
 -- by whether the mark was held: the try is made, and else the mark is this worker's
-abbrev pub took : View → Bool → ℕ → View
-took v true c = record v { owes = false }
-took v false c = record v { owes = false; hold = hold_at c Idle }
+abbrev pub after_take : View → Bool → ℕ → View
+after_take v true c = record v { owes = false }
+after_take v false c = record v { owes = false; hold = hold_at c Idle }
 
 -- the phase after a look at this cell
-abbrev pub looked : Cell → Phase
-looked (Posted j) = Scan j
-looked _ = Halted
+abbrev pub phase_after_look : Cell → Phase
+phase_after_look (Posted j) = Scan j
+phase_after_look _ = Halted
 
 -- the phase after the entry at place j was weighed, by whether it has a seat left
-abbrev pub weighed_if : Bool → ℕ → Phase
-weighed_if true j = Ready j
-weighed_if false j = Scan (j + 1)
+abbrev pub phase_after_weigh : Bool → ℕ → Phase
+phase_after_weigh true j = Ready j
+phase_after_weigh false j = Scan (j + 1)
 
 -- whether a programme is full once one more seat is taken
-abbrev pub fills : Dictatorship → Core → ℕ → Bool
-fills d c p = nat_le (quota_of d p) (seats_of c p + 1)
+abbrev pub is_last_seat : Dictatorship → Core → ℕ → Bool
+is_last_seat d c p = nat_le (quota_of d p) (seats_of c p + 1)
 
--- the state after the worker i, whose view is v, acts so; what is not named stays
+-- the view of a worker after it acts so
+abbrev pub view_after : Dictatorship → Core → View → Action → View
+view_after d c v Claims = after_claim d v c.claim_number
+view_after d c v (Reads k j) = after_read (is_open d c (entry d k j)) v k j
+view_after d c v (Posts k j met) = after_post v j
+view_after d c v Takes = after_take v c.mark_held c.mark_number
+view_after d c v (Looks h) = with_hold v (hold_at h (phase_after_look (cell_at c h)))
+view_after d c v (Weighs h j) =
+    with_hold v (hold_at h (phase_after_weigh (is_open d c (entry d h j)) j))
+view_after d c v (Seats h j) =
+    with_hold v (hold_at h (Seated j (is_last_seat d c (entry d h j))))
+view_after d c v (Seals h j phase) = with_hold v (hold_at (h + 1) Idle)
+view_after d c v (Releases h phase) = with_hold v None
+
+-- what is shared, after an action: three only read, and each other writes one word
+abbrev pub words_after : Dictatorship → Core → Action → Core
+words_after d c Claims = record c { claim_number = c.claim_number + 1 }
+words_after d c (Reads k j) = c
+words_after d c (Posts k j met) = record c { cells = slice_set c.cells k (Posted j) }
+words_after d c Takes = record c { mark_held = true }
+words_after d c (Looks h) = c
+words_after d c (Weighs h j) = c
+words_after d c (Seats h j) =
+    record c { seats = slice_set c.seats (entry d h j) (seats_of c (entry d h j) + 1) }
+words_after d c (Seals h j phase) = record c { cells = slice_set c.cells h (Committed j) }
+words_after d c (Releases h phase) = record c { mark_held = false; mark_number = h }
+
+-- the state after the worker i, whose view is v, acts so
 abbrev pub after : Dictatorship → Core → ℕ → View → Action → Core
-after d c i v Claims =
-    record c {
-      claim_number = c.claim_number + 1;
-      views = slice_set c.views i (claimed d v c.claim_number);
-    }
-after d c i v (Reads k j) =
-    record c { views = slice_set c.views i (read_if (is_open d c (entry d k j)) v k j) }
-after d c i v (Posts k j met) =
-    record c { cells = slice_set c.cells k (Posted j); views = slice_set c.views i (posted v j) }
-after d c i v Takes =
-    record c { mark_held = true; views = slice_set c.views i (took v c.mark_held c.mark_number) }
-after d c i v (Looks h) =
-    record c { views = slice_set c.views i (with_hold v (hold_at h (looked (cell_at c h)))) }
-after d c i v (Weighs h j) =
-    record c {
-      views = slice_set c.views i (with_hold v (hold_at h (weighed_if (is_open d c (entry d h j)) j)));
-    }
-after d c i v (Seats h j) =
-    record c {
-      seats = slice_set c.seats (entry d h j) (seats_of c (entry d h j) + 1);
-      views = slice_set c.views i (with_hold v (hold_at h (Seated j (fills d c (entry d h j)))));
-    }
-after d c i v (Seals h j phase) =
-    record c {
-      cells = slice_set c.cells h (Committed j);
-      views = slice_set c.views i (with_hold v (hold_at (h + 1) Idle));
-    }
-after d c i v (Releases h phase) =
-    record c { mark_held = false; mark_number = h; views = slice_set c.views i (with_hold v None) }
+after d c i v a =
+    record (words_after d c a) { views = slice_set c.views i (view_after d c v a) }
 
 -- what a draw tells, by whether the number drawn is a turn
 abbrev pub told_of_claim : Bool → ℕ → Told
@@ -182,6 +187,6 @@ told_by d c (Posts k j met) = tells.Posted j
 told_by d c Takes = told_of_take c.mark_held c.mark_number
 told_by d c (Looks h) = told_of_look (cell_at c h)
 told_by d c (Weighs h j) = told_of_weigh (is_open d c (entry d h j))
-told_by d c (Seats h j) = tells.Seated (fills d c (entry d h j))
+told_by d c (Seats h j) = tells.Seated (is_last_seat d c (entry d h j))
 told_by d c (Seals h j phase) = tells.Sealed h
 told_by d c (Releases h phase) = tells.Released h

@@ -7,5 +7,5 @@ pub mod Events
 pub mod Runs
 -- when a core state is sound
 pub mod Sound
--- what a worker of the machine keeps in memory
-pub mod Workers
+-- what the machine keeps in memory
+pub mod Machines

@@ -1,13 +1,13 @@
 -- When a core state is sound.
-use Rattle.std.specs.Prelude.{◌≡◌, ℕ, ◌+◌, ◌<◌, ◌≤◌, ◌⊎◌, ◌++◌, ◌==◌, Bool, true, false, nat_le, List, [], ◌∷◌, length, slice_get, slice_index, Option, Some, None}
-use Rattle.std.specs.List.{sum_by, filter_map}
+use Rattle.std.specs.Prelude.{◌≡◌, ℕ, ◌+◌, ◌<◌, ◌≤◌, ◌⊎◌, ◌++◌, ◌==◌, Bool, true, false, nat_le, List, [], ◌∷◌, length, slice_get, slice_index, slice_index_or, Option, Some, None}
+use Rattle.std.specs.List.{sum_by}
 use Rattle.market.specs.Dictatorships.{Dictatorship, list_at, choice, taken}
 use Rattle.interleaving_core.specs.declared.parts.Cell.{Cell}
 use Rattle.interleaving_core.specs.declared.parts.Cell.TheVariants.{Empty, Posted, Committed}
 use Rattle.interleaving_core.specs.declared.parts.Claiming.{Claiming}
 use Rattle.interleaving_core.specs.declared.parts.OwnTurn.{OwnTurn}
 use Rattle.interleaving_core.specs.declared.parts.Phase.{Phase}
-use Rattle.interleaving_core.specs.declared.parts.Phase.TheVariants.{Idle, Halted, Scan, Ready, Seated}
+use Rattle.interleaving_core.specs.declared.parts.Phase.TheVariants.{Scan, Ready, Seated}
 use Rattle.interleaving_core.specs.declared.parts.Holding.{Holding}
 use Rattle.interleaving_core.specs.Core.{View, Core, turn_count, entry, quota_of, seats_of, cell_at, is_committed}
 
@@ -27,35 +27,35 @@ empty_bit Empty = 1
 empty_bit _ = 0
 
 -- 1 for a view that holds the mark
-abbrev pub holds : View → ℕ
-holds v = some_bit v.hold
+abbrev pub hold_bit : View → ℕ
+hold_bit v = some_bit v.hold
 
 -- 1 for a view that is done
-abbrev pub ends : View → ℕ
-ends v = bit v.done
+abbrev pub done_bit : View → ℕ
+done_bit v = bit v.done
 
 -- 1 for a claim of turn k
-abbrev pub is_claim_of : ℕ → Option Claiming → ℕ
-is_claim_of k None = 0
-is_claim_of k (Some x) = bit (k == x.turn)
+abbrev pub turn_bit : ℕ → Option Claiming → ℕ
+turn_bit k None = 0
+turn_bit k (Some x) = bit (k == x.turn)
 
 -- 1 for a view that claims turn k
-abbrev pub claims_turn : ℕ → View → ℕ
-claims_turn k v = is_claim_of k v.claim
+abbrev pub claim_bit : ℕ → View → ℕ
+claim_bit k v = turn_bit k v.claim
 
 -- 1 where a seat of p is taken in this phase for a turn c that is not committed yet
-abbrev pub seated_in : Dictatorship → ℕ → ℕ → Phase → ℕ
-seated_in d p c (Seated j filled) = bit (entry d c j == p)
-seated_in d p c _ = 0
+abbrev pub phase_seat_bit : Dictatorship → ℕ → ℕ → Phase → ℕ
+phase_seat_bit d p c (Seated j filled) = bit (entry d c j == p)
+phase_seat_bit d p c _ = 0
 
 -- the same for what a holder knows
-abbrev pub seated_by : Dictatorship → ℕ → Option Holding → ℕ
-seated_by d p None = 0
-seated_by d p (Some h) = seated_in d p h.committed h.phase
+abbrev pub holder_seat_bit : Dictatorship → ℕ → Option Holding → ℕ
+holder_seat_bit d p None = 0
+holder_seat_bit d p (Some h) = phase_seat_bit d p h.committed h.phase
 
 -- the same for a view
-abbrev pub seated : Dictatorship → ℕ → View → ℕ
-seated d p v = seated_by d p v.hold
+abbrev pub seat_bit : Dictatorship → ℕ → View → ℕ
+seat_bit d p v = holder_seat_bit d p v.hold
 
 -- the seats of p that the fill and the first k turns take
 abbrev pub seats_after : Dictatorship → ℕ → ℕ → ℕ
@@ -93,7 +93,8 @@ OwnTurnFits c claim x =
     ⊎ ((j : ℕ) × (x.place ≡ Some j) × CellFrom (cell_at c x.turn) j)
 
 -- the own turns were drawn, rise strictly, and end with the claimed turn
-pub record OwnTurnsFit (d : Dictatorship) (c : Core) (own : List OwnTurn) (claim : Option Claiming) : Type 0 where
+pub record OwnTurnsFit (d : Dictatorship) (c : Core) (own : List OwnTurn)
+    (claim : Option Claiming) : Type 0 where
   pub each : (i : ℕ) (x : OwnTurn) → slice_get own i ≡ Some x
       → (x.turn < turn_count d) × (x.turn < c.claim_number) × OwnTurnFits c claim x
   pub rise : (i j : ℕ) (x y : OwnTurn) → slice_get own i ≡ Some x → slice_get own j ≡ Some y
@@ -101,58 +102,76 @@ pub record OwnTurnsFit (d : Dictatorship) (c : Core) (own : List OwnTurn) (claim
   pub last : (y : Claiming) → claim ≡ Some y
       → (before : List OwnTurn) × (own ≡ before ++ record { turn = y.turn; place = None } ∷ [])
 
+-- a claimed turn was drawn, and what the claim has passed is full
+pub record ClaimFits (d : Dictatorship) (c : Core) (x : Claiming) : Type 0 where
+  pub turn : x.turn < turn_count d
+  pub drawn : x.turn < c.claim_number
+  pub passed : x.passed ≤ length (list_at d x.turn)
+  pub full : FullBefore d c x.turn x.passed
+  pub met : x.met ≡ true → x.passed < length (list_at d x.turn)
+
+-- the holder knows how many turns are committed, and of the next one what its phase says
+pub record HoldingFits (d : Dictatorship) (c : Core) (count : ℕ) (h : Holding) : Type 0 where
+  pub committed : h.committed ≡ count
+  pub phase : PhaseFits d c h.committed h.phase
+
+-- a worker claims, owes or holds, but no two of these; a done one neither claims nor owes
+pub record DoesOneThing (v : View) : Type 0 where
+  pub holder : (h : Holding) → v.hold ≡ Some h → v.claim ≡ None
+  pub debtor : v.owes ≡ true → (v.claim ≡ None) × (v.hold ≡ None)
+  pub leaver : v.done ≡ true → (v.claim ≡ None) × (v.owes ≡ false)
+
 -- a view fits a state in which count turns are committed
 pub record ViewFits (d : Dictatorship) (c : Core) (count : ℕ) (v : View) : Type 0 where
-  -- a claimed turn was drawn
-  pub drawn : (x : Claiming) → v.claim ≡ Some x → (x.turn < turn_count d) × (x.turn < c.claim_number)
-  -- what a claim has passed is full
-  pub passed : (x : Claiming) → v.claim ≡ Some x
-      → (x.passed ≤ length (list_at d x.turn)) × FullBefore d c x.turn x.passed
-  pub met : (x : Claiming) → v.claim ≡ Some x → x.met ≡ true → x.passed < length (list_at d x.turn)
-  -- at most one of a claim, owing and holding
-  pub one_claim : (h : Holding) → v.hold ≡ Some h → v.claim ≡ None
-  pub one_debt : v.owes ≡ true → (v.claim ≡ None) × (v.hold ≡ None)
-  -- a done view claims and owes nothing, and the turns are all drawn
-  pub quiet : v.done ≡ true → (v.claim ≡ None) × (v.owes ≡ false)
-  pub past : v.done ≡ true → turn_count d < c.claim_number
-  -- the holder knows how many turns are committed, and of the next what its phase says
-  pub at_count : (h : Holding) → v.hold ≡ Some h → h.committed ≡ count
-  pub phase : (h : Holding) → v.hold ≡ Some h → PhaseFits d c h.committed h.phase
+  pub one : DoesOneThing v
+  pub claim : (x : Claiming) → v.claim ≡ Some x → ClaimFits d c x
+  pub hold : (h : Holding) → v.hold ≡ Some h → HoldingFits d c count h
   pub own : OwnTurnsFit d c v.own v.claim
+  pub past : v.done ≡ true → turn_count d < c.claim_number
 
--- the state is sound: it is one that some order of events can lead to, as far as these facts say
-pub record Sound (d : Dictatorship) (c : Core) : Type 0 where
-  -- the true number of committed turns, of which the mark's number is a lower bound
-  pub count : ℕ
+-- the mark's number is at most the true one, and is the true one where the mark is free; one view
+-- holds a held mark, and none a free one
+pub record MarkFits (d : Dictatorship) (held : Bool) (number : ℕ) (views : List View)
+    (count : ℕ) : Type 0 where
   pub within : count ≤ turn_count d
-  pub behind : c.mark_number ≤ count
-  pub free : c.mark_held ≡ false → c.mark_number ≡ count
-  -- there is a cell for each turn and a seat count for each programme
-  pub cells_count : length c.cells ≡ turn_count d
-  pub seats_count : length c.seats ≡ length d.quota
-  -- one view holds a held mark, and none a free one
-  pub holders : sum_by holds c.views ≡ bit c.mark_held
-  -- the first turns are committed with their choices, and no other turn is
-  pub below : (k : ℕ) → k < count → cell_at c k ≡ Committed (choice d k)
-  pub above : (k : ℕ) → count ≤ k → is_committed (cell_at c k) ≡ false
-  -- a seat is taken for each of them, and for the turn whose seat the holder has just taken
-  pub seats : (p : ℕ) → p < length d.quota
-      → seats_of c p ≡ seats_after d count p + sum_by (seated d p) c.views
-  -- what lies before a posted place is full
-  pub posts : (k j : ℕ) → cell_at c k ≡ Posted j → (j ≤ length (list_at d k)) × FullBefore d c k j
-  -- a drawn turn has an empty cell where one view claims it, and nobody claims it else
-  pub claimed : (k : ℕ) → k < turn_count d → k < c.claim_number
-      → sum_by (claims_turn k) c.views ≡ empty_bit (cell_at c k)
-  pub untouched : (k : ℕ) → c.claim_number ≤ k → cell_at c k ≡ Empty
-  -- a number past the turns was drawn only by who is done
-  pub few : c.claim_number ≤ turn_count d + sum_by ends c.views
-  pub each : (i : ℕ) (v : View) → slice_get c.views i ≡ Some v → ViewFits d c count v
+  pub behind : number ≤ count
+  pub free : held ≡ false → number ≡ count
+  pub holders : sum_by hold_bit views ≡ bit held
 
--- the place that a cell is committed at
-abbrev pub committed_place : Cell → Option ℕ
-committed_place (Committed j) = Some j
-committed_place _ = None
+-- there is a cell for each turn; the first ones are committed with their choices, and no other is
+pub record CellsFit (d : Dictatorship) (cells : List Cell) (count : ℕ) : Type 0 where
+  pub each_turn : length cells ≡ turn_count d
+  pub below : (k : ℕ) → k < count → slice_index_or cells k Empty ≡ Committed (choice d k)
+  pub above : (k : ℕ) → count ≤ k → is_committed (slice_index_or cells k Empty) ≡ false
 
--- the choices committed, in the order of turns
-abbrev pub committed_choices : Core → List ℕ
-committed_choices c = filter_map committed_place c.cells
+-- there is a count for each programme: the seats that the committed turns take, and the one that
+-- the holder has just taken
+pub record SeatsFit (d : Dictatorship) (seats : List ℕ) (views : List View)
+    (count : ℕ) : Type 0 where
+  pub each_programme : length seats ≡ length d.quota
+  pub counts : (p : ℕ) → p < length d.quota
+      → slice_index seats p ≡ seats_after d count p + sum_by (seat_bit d p) views
+
+-- a posted place is one of the list or its length, and what lies before it is full
+abbrev pub PostsFit : Dictatorship → Core → Type 0
+PostsFit d c =
+    (k j : ℕ) → cell_at c k ≡ Posted j → (j ≤ length (list_at d k)) × FullBefore d c k j
+
+-- a drawn turn has an empty cell where one view claims it, and else nobody claims it; what is not
+-- drawn is untouched; and a number past the turns was drawn only by who is done
+pub record ClaimsFit (d : Dictatorship) (claim_number : ℕ) (cells : List Cell)
+    (views : List View) : Type 0 where
+  pub claimed : (k : ℕ) → k < turn_count d → k < claim_number
+      → sum_by (claim_bit k) views ≡ empty_bit (slice_index_or cells k Empty)
+  pub untouched : (k : ℕ) → claim_number ≤ k → slice_index_or cells k Empty ≡ Empty
+  pub few : claim_number ≤ turn_count d + sum_by done_bit views
+
+-- the state is sound: `count` is the true number of committed turns, and all fits it
+pub record Sound (d : Dictatorship) (c : Core) : Type 0 where
+  pub count : ℕ
+  pub mark : MarkFits d c.mark_held c.mark_number c.views count
+  pub cells : CellsFit d c.cells count
+  pub seats : SeatsFit d c.seats c.views count
+  pub posts : PostsFit d c
+  pub claims : ClaimsFit d c.claim_number c.cells c.views
+  pub views : (i : ℕ) (v : View) → slice_get c.views i ≡ Some v → ViewFits d c count v

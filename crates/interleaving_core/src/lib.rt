@@ -1,15 +1,77 @@
-//! The interleaving core.
+//! How several workers run one serial dictatorship together, event by event, and why each run of
+//! them commits what one worker would choose turn by turn.
+//!
+//! # What is shared
+//!
+//! In a serial dictatorship each turn takes the first programme of its list that still has a
+//! seat. One worker needs a seat count for each programme and goes through the turns in their
+//! order. Here several workers share the seat counts; a cell for each turn, which is empty,
+//! posted at a place of the turn's list, or committed at a place; a claim number, which says how
+//! many turns were drawn; and a mark, which at most one worker holds and which says how many
+//! turns are committed.
+//!
+//! # The nine events
+//!
+//! Each event is one operation on one of these words, so events of different workers never overlap.
+//!
+//! A claimant draws the next turn (`Claim`). It reads the seat counts along the turn's list
+//! (`Read`): it passes each entry that is full, and stops where it meets a seat or at the end of
+//! the list. There it posts the turn (`Post`). It then owes one try on the mark before it may
+//! draw again.
+//!
+//! Who tries the mark (`Take`) and finds it free holds it, and commits turns in their order. The
+//! holder looks at the cell of the first turn that is not committed (`Look`). Where it is posted,
+//! the holder weighs the entries from the posted place on (`Weigh`), takes a seat at the first
+//! that has one (`Seat`) and commits the turn there (`Seal`), or at the end of the list where
+//! none has. At an empty cell, or once all turns are committed, it gives the mark back
+//! (`Release`).
+//!
+//! # Why no event is undone
+//!
+//! A posted place is a guess: other turns may take the seat that the claimant met. But only the
+//! holder raises a seat count, no count ever falls, and so what was full when the claimant passed
+//! it is full for good. A wrong guess is never too late in the list, only too early. The holder
+//! weighs on from there, and nothing that anybody wrote has to be taken back.
+//!
+//! # Why what is committed is the answer of one worker
+//!
+//! While the holder weighs a turn, exactly the earlier turns are committed, and nobody else
+//! raises a count: it reads the counts that one worker would have before this turn. All entries
+//! before the posted place are full, and so are those that the holder has weighed and left. The
+//! first entry where it finds a seat is therefore the first of the whole list that has one, which
+//! is the turn's choice. So the committed turns are always the first ones, each with its own
+//! choice, in whatever order the workers act.
+//!
+//! `specs/Sound.antt` says all this as facts about one state. [`any_run`] proves that each event
+//! keeps them, and [`CoreState`] is a machine that makes one event at a time and is sound at
+//! every moment.
+//!
+//! # Source
+//!
+//! Posting in any order and committing in the order of one loop is the scheme of deterministic
+//! reservations: Blelloch, Fineman, Gibbons and Shun, "Internally deterministic parallel
+//! algorithms can be fast", PPoPP 2012. There all workers reserve and then all commit, in rounds;
+//! here whoever holds the mark commits what is posted while the others go on.
 #![tactic(auto)]
 
-// What a core state is made of.
+// What a core state is made of: cells, claims, own turns, phases, holdings.
 mod parts;
 // The nine events, and what each tells.
 mod events;
-// A worker of the machine.
-mod worker;
-// Any run is sound.
+// The law of the protocol: every run is sound.
 mod law;
+// The machine: a core state that makes one event at a time.
+mod state;
+// What the machine has at its opening.
+mod opening;
+// The workers of the machine: what each knows, and which events that allows.
+mod team;
+// What is asked of the entries of a turn's list.
+mod entries;
+#[cfg(test)]
+mod tests;
 
 pub use events::{CoreEvent, NotNow, Told};
 pub use law::any_run;
 pub use parts::{Cell, Claiming, Holding, OwnTurn, Phase};
+pub use state::CoreState;

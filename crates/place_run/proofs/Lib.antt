@@ -1,1 +1,9 @@
 pub mod Completeness
+pub mod Headline
+pub mod Judging
+pub mod LineTexts
+pub mod Markets
+pub mod Parts
+pub mod PlacementTexts
+pub mod Preparing
+pub mod TableFaults

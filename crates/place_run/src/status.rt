@@ -1,19 +1,10 @@
 // How a run ends.
 ghost use Rattle.std.specs.Prelude.{◌≡◌};
-ghost use Rattle.place_run.specs.Outcome.{code_of, status_of};
+ghost use Rattle.place_run.specs.Lines.{code_of};
+ghost use Rattle.place_run.specs.Steps.{status_of};
 
+use record_files::TableStop;
 use std::alloc::AllocError;
-
-/// One of the files of a command.
-#[derive(Clone, Copy, Debug, PartialEq, Eq)]
-pub enum FileKind {
-    /// The programmes with their types and quotas.
-    Programmes,
-    /// The candidates with their preference lists.
-    Candidates,
-    /// The ranks of the candidates in each type.
-    Ranks,
-}
 
 /// How a run ended.
 #[derive(Clone, Copy, Debug, PartialEq, Eq)]
@@ -21,9 +12,9 @@ pub enum Status {
     /// The files were read and the text was written whole.
     Done,
     /// The words are no command.
-    Words,
-    /// This file is not plain.
-    NotPlain(FileKind),
+    Words(command_words::WordsFault),
+    /// The first of the files that has a fault has this first fault.
+    FileFault(place_base::FileFault),
     /// A file could not be read.
     ReadFault,
     /// The text could not be written; its front may have been.
@@ -39,8 +30,8 @@ impl Status {
     {
         match *self {
             Status::Done => 0,
-            Status::Words => 2,
-            Status::NotPlain(_) => 3,
+            Status::Words(_) => 2,
+            Status::FileFault(_) => 3,
             Status::ReadFault => 4,
             Status::WriteFault => 5,
             Status::Memory => 6,
@@ -51,7 +42,7 @@ impl Status {
 // Why a command has no text.
 #[derive(Clone, Copy)]
 pub(crate) enum Stop {
-    NotPlain(FileKind),
+    Fault(place_base::FileFault),
     ReadFault,
     Memory,
 }
@@ -61,7 +52,7 @@ impl Stop {
         ensures { result ≡ status_of self }
     {
         match self {
-            Stop::NotPlain(kind) => Status::NotPlain(kind),
+            Stop::Fault(fault) => Status::FileFault(fault),
             Stop::ReadFault => Status::ReadFault,
             Stop::Memory => Status::Memory,
         }
@@ -75,5 +66,18 @@ impl From<AllocError> for Stop {
 
     fn from(_: AllocError) -> Stop {
         Stop::Memory
+    }
+}
+
+impl From<TableStop> for Stop {
+    ghost use Rattle.place_run.specs.Steps.{stop_of};
+
+    ghost from_gives = { λ table stop. stop ≡ stop_of table };
+
+    fn from(stop: TableStop) -> Stop {
+        match stop {
+            TableStop::Fault(fault) => Stop::Fault(fault),
+            TableStop::Memory => Stop::Memory,
+        }
     }
 }

@@ -1,17 +1,40 @@
 // Runs over files in memory, which a reader can check by hand.
-use crate::{FileKind, Status, run_words};
+mod faulty_files;
+
+use self::faulty_files::FAULTY;
+use crate::{Status, run_words};
+use command_words::WordsFault;
 use place_edges::{MemShelf, MemSink, SureShelf, SureSink};
+use record_files::{Field, put_row_3};
 use std::alloc::{AllocError, Global};
 use std::test::Fail;
 use std::thread::Threads;
 
-const PROGRAMMES: &[u8] = b"programme,type,quota\n";
-
-const CANDIDATES: &[u8] = b"candidate,list\n";
-
-const RANKS: &[u8] = b"candidate,type,rank\n";
-
 const PLACE: [&str; 4] = ["place", "p", "c", "r"];
+
+// The files of the freed seat: the first candidate is best in both types, takes both seats, and is
+// cut.
+const PROGRAMMES: &[u8] = b"programme,type,quota\n101,SAY,1\n201,EA,1\n";
+
+const CANDIDATES: &[u8] = b"candidate,list\n1,101;201\n2,201\n";
+
+const RANKS: &[u8] = b"candidate,type,rank\n1,SAY,1\n2,SAY,2\n1,EA,1\n2,EA,2\n";
+
+const PLACED: &[u8] = b"candidate,programme\n1,101\n2,201\n";
+
+const TWENTY_FIVE_PROGRAMMES: &[u8] =
+    b"programme,type,quota\n1,A,1\n2,A,1\n3,A,1\n4,A,1\n5,A,1\n6,A,1\n7,A,1\n8,A,1\n9,A,1\n10,A,1\n\
+    11,A,1\n12,A,1\n13,A,1\n14,A,1\n15,A,1\n16,A,1\n17,A,1\n18,A,1\n19,A,1\n20,A,1\n21,A,1\n\
+    22,A,1\n23,A,1\n24,A,1\n25,A,1\n";
+
+// What a run came to.
+#[derive(Drop)]
+struct Ran {
+    status: Status,
+    out: MemSink,
+    notes: MemSink,
+    faults: u64,
+}
 
 fn words(alloc: Global, texts: &[&str]) -> Result<Vec<String>, AllocError> {
     let mut words = Vec::new(alloc);
@@ -30,108 +53,258 @@ fn shelf(alloc: Global, files: &[(&str, &[u8])]) -> Result<MemShelf, AllocError>
     Ok(shelf)
 }
 
-// Runs these words over these files, and gives the status, what was written and noted, and the shelf's faults.
+// Runs these words over this shelf.
 fn run(
     rt: &impl Threads,
     alloc: Global,
     texts: &[&str],
-    files: &[(&str, &[u8])],
-) -> Result<(Status, MemSink, MemSink, u64), AllocError> {
-    let mut shelf = shelf(alloc, files)?;
+    mut shelf: MemShelf,
+) -> Result<Ran, AllocError> {
     let mut out = MemSink::new(alloc, 16, 65_536)?;
     let mut notes = MemSink::new(alloc, 16, 65_536)?;
     let words = words(alloc, texts)?;
     let status = run_words(rt, alloc, &words, &mut shelf, &mut out, &mut notes);
-    Ok((status, out, notes, shelf.faults()))
+    let faults = shelf.faults();
+    Ok(Ran {
+        status,
+        out,
+        notes,
+        faults,
+    })
 }
 
-#[test]
-fn files_of_their_header_alone_place_nobody(rt: HostRuntime) -> Result<(), Fail> {
-    let files = [("p", PROGRAMMES), ("c", CANDIDATES), ("r", RANKS)];
-    let (status, out, notes, faults) = run(&rt, rt.alloc(), &PLACE, &files)?;
-    assert_eq!(rt; status, Status::Done);
-    assert_eq!(rt; out.bytes(), b"candidate,programme\n".as_slice());
-    assert_eq!(rt; notes.bytes(), b"".as_slice());
-    assert_eq!(rt; faults, 0);
-    Ok(())
-}
-
-#[test]
-fn words_that_are_no_command_are_refused(rt: HostRuntime) -> Result<(), Fail> {
-    let lists: [&[&str]; 6] = [
-        &[],
-        &["place"],
-        &["place", "p", "c"],
-        &["place", "p", "c", "r", "--workers", "2"],
-        &["plan", "p", "c", "r"],
-        &["Place", "p", "c", "r"],
-    ];
-    for texts in lists {
-        let (status, out, notes, _) = run(&rt, rt.alloc(), texts, &[])?;
-        assert_eq!(rt; (status, status.code()), (Status::Words, 2));
-        assert_eq!(rt; out.bytes(), b"".as_slice());
-        assert_eq!(rt; notes.bytes(), b"words\n".as_slice());
-    }
-    Ok(())
-}
-
-const BROKEN: &[u8] = b"candidate,list\nx,101\n";
-
-const MARKED: &[u8] = b"\xef\xbb\xbfprogramme,type,quota\n";
-
-const CUT_SHORT: &[u8] = b"programme,type,quota";
-
-// Files that are refused: the status, its line, and how often the shelf failed. Where a file is refused, the next is
-// not opened, so that it may be missing.
-const REFUSED: [(&[(&str, &[u8])], Status, &[u8], u64); 5] = [
+// Programmes, candidates and ranks, and what is placed.
+const MARKETS: [(&[u8], &[u8], &[u8], &[u8]); 11] = [
+    // An exchange: both candidates want the other's programme, and hold the one in which their rank
+    // is better.
     (
-        &[("p", PROGRAMMES), ("c", BROKEN)],
-        Status::NotPlain(FileKind::Candidates),
-        b"not plain candidates\n",
-        0,
+        PROGRAMMES,
+        b"candidate,list\n1,101;201\n2,201;101\n",
+        b"candidate,type,rank\n2,SAY,1\n1,SAY,2\n1,EA,1\n2,EA,2\n",
+        b"candidate,programme\n1,201\n2,101\n",
     ),
+    (PROGRAMMES, CANDIDATES, RANKS, PLACED),
+    // One cut leads to the next: three rounds.
     (
-        &[("p", PROGRAMMES), ("r", b"")],
-        Status::ReadFault,
-        b"read fault\n",
-        1,
+        b"programme,type,quota\n11,A,1\n12,A,1\n21,B,1\n",
+        b"candidate,list\n1,11;21\n2,21;11;12\n3,12\n",
+        b"candidate,type,rank\n1,A,1\n2,A,2\n3,A,3\n1,B,1\n2,B,2\n3,B,3\n",
+        b"candidate,programme\n1,11\n2,21\n3,12\n",
     ),
+    // Headers alone.
     (
-        &[("p", MARKED), ("c", BROKEN)],
-        Status::NotPlain(FileKind::Programmes),
-        b"not plain programmes\n",
-        0,
+        b"programme,type,quota\n",
+        b"candidate,list\n",
+        b"candidate,type,rank\n",
+        b"candidate,programme\n",
     ),
+    // No seat.
     (
-        &[("p", CUT_SHORT), ("c", CANDIDATES)],
-        Status::NotPlain(FileKind::Programmes),
-        b"not plain programmes\n",
-        0,
+        b"programme,type,quota\n101,SAY,0\n",
+        b"candidate,list\n1,101\n",
+        b"candidate,type,rank\n1,SAY,1\n",
+        b"candidate,programme\n1,-\n",
     ),
+    // No rank, and an empty list.
     (
-        &[("p", PROGRAMMES), ("c", CANDIDATES), ("r", b"")],
-        Status::NotPlain(FileKind::Ranks),
-        b"not plain ranks\n",
-        0,
+        b"programme,type,quota\n101,SAY,1\n",
+        b"candidate,list\n1,101\n2,\n",
+        b"candidate,type,rank\n2,SAY,1\n",
+        b"candidate,programme\n1,-\n2,-\n",
+    ),
+    // Ranks of an unknown candidate and in an unknown type.
+    (
+        PROGRAMMES,
+        CANDIDATES,
+        b"candidate,type,rank\n1,SAY,1\n2,SAY,2\n1,EA,1\n2,EA,2\n99,SAY,7\n1,TYT,1\n",
+        PLACED,
+    ),
+    // A list of 24 entries.
+    (
+        TWENTY_FIVE_PROGRAMMES,
+        b"candidate,list\n1,1;2;3;4;5;6;7;8;9;10;11;12;13;14;15;16;17;18;19;20;21;22;23;24\n",
+        b"candidate,type,rank\n1,A,1\n",
+        b"candidate,programme\n1,1\n",
+    ),
+    // A byte order mark, lines that end in CR LF, an empty line, no last LF.
+    (
+        b"\xef\xbb\xbfprogramme,type,quota\r\n\r\n101,SAY,1\r\n201,EA,1",
+        CANDIDATES,
+        RANKS,
+        PLACED,
+    ),
+    // The limits of numbers and of a type name, and leading zeros.
+    (
+        b"programme,type,quota\n999999999,ABCDEFG8,100000\n7,EA,007\n",
+        b"candidate,list\n99999999999,0007;0999999999\n",
+        b"candidate,type,rank\n99999999999,ABCDEFG8,99999999\n",
+        b"candidate,programme\n99999999999,999999999\n",
+    ),
+    // Five score types.
+    (
+        b"programme,type,quota\n102210277,SAY,2\n103910169,EA,1\n105510032,SOZ,1\n106510077,DIL,1\n\
+        202110455,TYT,1\n",
+        b"candidate,list\n10000000146,102210277;103910169\n\
+        10000000238,103910169;105510032;202110455\n10000000320,102210277;202110455\n\
+        10000000412,106510077\n",
+        b"candidate,type,rank\n10000000146,SAY,1204\n10000000146,EA,3310\n10000000146,TYT,2050\n\
+        10000000238,EA,5121\n10000000238,SOZ,877\n10000000238,TYT,40211\n10000000320,SAY,98004\n\
+        10000000320,TYT,61200\n10000000412,TYT,15000\n10000000412,DIL,412\n",
+        b"candidate,programme\n10000000146,102210277\n10000000238,103910169\n\
+        10000000320,102210277\n10000000412,106510077\n",
     ),
 ];
 
 #[test]
-fn the_first_file_that_cannot_be_used_is_named(rt: HostRuntime) -> Result<(), Fail> {
-    for (files, wanted, line, count) in REFUSED {
-        let (status, out, notes, faults) = run(&rt, rt.alloc(), &PLACE, files)?;
-        assert_eq!(rt; status, wanted);
-        assert_eq!(rt; out.bytes(), b"".as_slice());
-        assert_eq!(rt; notes.bytes(), line);
-        assert_eq!(rt; faults, count);
+fn files_without_a_fault_are_placed(rt: HostRuntime) -> Result<(), Fail> {
+    for (programmes, candidates, ranks, placed) in MARKETS {
+        let shelf = shelf(
+            rt.alloc(),
+            &[("p", programmes), ("c", candidates), ("r", ranks)],
+        )?;
+        let ran = run(&rt, rt.alloc(), &PLACE, shelf)?;
+        assert_eq!(rt; (ran.status, ran.status.code()), (Status::Done, 0));
+        assert_eq!(rt; ran.out.bytes(), placed);
+        assert_eq!(rt; ran.notes.bytes(), b"".as_slice());
+        assert_eq!(rt; ran.faults, 0);
     }
+    Ok(())
+}
+
+const BAD_CANDIDATES: &[u8] = b"candidate,list\nx,101\n";
+
+const BAD_RANKS: &[u8] = b"candidate,type,rank\n1,say,1\n";
+
+#[test]
+fn the_first_fault_of_three_files_is_noted(rt: HostRuntime) -> Result<(), Fail> {
+    for (programmes, candidates, ranks, note) in FAULTY {
+        let shelf = shelf(
+            rt.alloc(),
+            &[("p", programmes), ("c", candidates), ("r", ranks)],
+        )?;
+        let ran = run(&rt, rt.alloc(), &PLACE, shelf)?;
+        assert_eq!(rt; ran.notes.bytes(), note);
+        assert_eq!(rt; ran.status.code(), 3);
+        assert_eq!(rt; ran.out.bytes(), b"".as_slice());
+        assert_eq!(rt; ran.faults, 0);
+    }
+    Ok(())
+}
+
+// Words that are no command: their status, and its line.
+const REFUSED: [(&[&str], WordsFault, &[u8]); 9] = [
+    (&[], WordsFault::NoCommand, b"words NoCommand 0\n"),
+    (
+        &["plan"],
+        WordsFault::UnknownCommand(1),
+        b"words UnknownCommand 1\n",
+    ),
+    (
+        &["Place", "p"],
+        WordsFault::UnknownCommand(1),
+        b"words UnknownCommand 1\n",
+    ),
+    (&["place"], WordsFault::WordCount(2), b"words WordCount 2\n"),
+    (
+        &["place", "p"],
+        WordsFault::WordCount(3),
+        b"words WordCount 3\n",
+    ),
+    (
+        &["place", "p", "c"],
+        WordsFault::WordCount(4),
+        b"words WordCount 4\n",
+    ),
+    (
+        &["place", "p", "c", "r", "s"],
+        WordsFault::WordCount(5),
+        b"words WordCount 5\n",
+    ),
+    (
+        &["place", "p", "c", "r", "--workers", "2"],
+        WordsFault::WordCount(5),
+        b"words WordCount 5\n",
+    ),
+    (
+        &["place", "p", "c", "r", "-h", "x", "y"],
+        WordsFault::WordCount(5),
+        b"words WordCount 5\n",
+    ),
+];
+
+#[test]
+fn words_that_are_no_command_are_refused_before_a_file_is_opened(
+    rt: HostRuntime,
+) -> Result<(), Fail> {
+    for (texts, refused, note) in REFUSED {
+        let shelf = shelf(rt.alloc(), &[])?;
+        let ran = run(&rt, rt.alloc(), texts, shelf)?;
+        assert_eq!(rt;
+            (ran.status, ran.status.code()),
+            (Status::Words(refused), 2)
+        );
+        assert_eq!(rt; ran.out.bytes(), b"".as_slice());
+        assert_eq!(rt; ran.notes.bytes(), note);
+        assert_eq!(rt; ran.faults, 0);
+    }
+    Ok(())
+}
+
+// Shelves that lack a file: the number of the status, its line, and how often the shelf failed. Where
+// a file has a fault, the next is not opened, so that it may be missing.
+const LACKING: [(&[(&str, &[u8])], u8, &[u8], u64); 4] = [
+    (
+        &[("p", PROGRAMMES), ("c", BAD_CANDIDATES)],
+        3,
+        b"fault candidates line 2 field 1 F03 NotNumber earlier 0\n",
+        0,
+    ),
+    (
+        &[("p", PROGRAMMES), ("r", BAD_RANKS)],
+        4,
+        b"read fault\n",
+        1,
+    ),
+    (&[("c", CANDIDATES), ("r", RANKS)], 4, b"read fault\n", 1),
+    (
+        &[("p", PROGRAMMES), ("c", CANDIDATES)],
+        4,
+        b"read fault\n",
+        1,
+    ),
+];
+
+#[test]
+fn files_are_opened_in_order(rt: HostRuntime) -> Result<(), Fail> {
+    for (files, code, note, faults) in LACKING {
+        let shelf = shelf(rt.alloc(), files)?;
+        let ran = run(&rt, rt.alloc(), &PLACE, shelf)?;
+        assert_eq!(rt; ran.status.code(), code);
+        assert_eq!(rt; ran.out.bytes(), b"".as_slice());
+        assert_eq!(rt; ran.notes.bytes(), note);
+        assert_eq!(rt; ran.faults, faults);
+    }
+    Ok(())
+}
+
+const FREED_SEAT: [(&str, &[u8]); 3] = [("p", PROGRAMMES), ("c", CANDIDATES), ("r", RANKS)];
+
+#[test]
+fn a_read_that_fails_within_a_file_is_a_read_fault(rt: HostRuntime) -> Result<(), Fail> {
+    let mut shelf = shelf(rt.alloc(), &FREED_SEAT)?;
+    shelf.fail_at(5)?;
+    let ran = run(&rt, rt.alloc(), &PLACE, shelf)?;
+    assert_eq!(rt; (ran.status, ran.status.code()), (Status::ReadFault, 4));
+    assert_eq!(rt; ran.out.bytes(), b"".as_slice());
+    assert_eq!(rt; ran.notes.bytes(), b"read fault\n".as_slice());
+    assert_eq!(rt; ran.faults, 1);
     Ok(())
 }
 
 #[test]
 fn a_write_that_fails_leaves_the_front_of_the_text(rt: HostRuntime) -> Result<(), Fail> {
     let alloc = rt.alloc();
-    let mut shelf = shelf(alloc, &[("p", PROGRAMMES), ("c", CANDIDATES), ("r", RANKS)])?;
+    let mut shelf = shelf(alloc, &FREED_SEAT)?;
     let mut out = MemSink::new(alloc, 16, 65_536)?;
     out.fail_at(2)?;
     let mut notes = MemSink::new(alloc, 16, 65_536)?;
@@ -145,22 +318,105 @@ fn a_write_that_fails_leaves_the_front_of_the_text(rt: HostRuntime) -> Result<()
 }
 
 #[test]
+fn notes_that_fail_change_nothing_else(rt: HostRuntime) -> Result<(), Fail> {
+    let alloc = rt.alloc();
+    let mut shelf = shelf(alloc, &[("p", PROGRAMMES), ("c", BAD_CANDIDATES)])?;
+    let mut out = MemSink::new(alloc, 16, 65_536)?;
+    let mut notes = MemSink::new(alloc, 4, 65_536)?;
+    notes.fail_at(6)?;
+    let words = words(alloc, &PLACE)?;
+    let status = run_words(&rt, alloc, &words, &mut shelf, &mut out, &mut notes);
+    assert_eq!(rt; status.code(), 3);
+    assert_eq!(rt; out.bytes(), b"".as_slice());
+    assert_eq!(rt; notes.bytes(), b"fault candidates".as_slice());
+    Ok(())
+}
+
+#[test]
 fn nothing_fails_over_a_sure_shelf_and_a_sure_sink(rt: HostRuntime) -> Result<(), Fail> {
     let alloc = rt.alloc();
     let mut shelf = SureShelf::new(alloc);
-    for (name, bytes) in [("p", PROGRAMMES), ("c", CANDIDATES), ("r", RANKS)] {
+    for (name, bytes) in FREED_SEAT {
         shelf.add(String::from_str(alloc, name)?, bytes.to_vec(alloc)?)?;
     }
     let words = words(alloc, &PLACE)?;
     let mut out = SureSink::new();
-    let status = run_words(
-        &rt,
-        alloc,
-        &words,
-        &mut shelf,
-        &mut out,
-        &mut SureSink::new(),
-    );
+    let mut notes = SureSink::new();
+    let status = run_words(&rt, alloc, &words, &mut shelf, &mut out, &mut notes);
     assert_eq!(rt; status, Status::Done);
+    Ok(())
+}
+
+// A file of a header and a row, whose line has so many bytes by zeros in front.
+fn long_line(alloc: Global, header: &str, size: usize, row: &str) -> Result<Vec<u8>, AllocError> {
+    let mut bytes = header.as_bytes().to_vec(alloc)?;
+    for _ in row.len()..size {
+        bytes.push(b'0')?;
+    }
+    bytes.extend_from_slice(row.as_bytes())?;
+    bytes.extend_from_slice(b"\r\n")?;
+    Ok(bytes)
+}
+
+#[test]
+fn a_line_may_have_1024_bytes_in_each_file(rt: HostRuntime) -> Result<(), Fail> {
+    let alloc = rt.alloc();
+    for (sizes, note) in [
+        ([1024, 1024, 1024], ""),
+        (
+            [1025, 1025, 1025],
+            "fault programmes line 2 field 0 F10 LineTooLong earlier 0\n",
+        ),
+        (
+            [1024, 1025, 1025],
+            "fault candidates line 2 field 0 F10 LineTooLong earlier 0\n",
+        ),
+        (
+            [1024, 1024, 1025],
+            "fault ranks line 2 field 0 F10 LineTooLong earlier 0\n",
+        ),
+    ] {
+        let [programmes, candidates, ranks] = sizes;
+        let mut shelf = MemShelf::new(alloc);
+        for (name, header, size, row) in [
+            ("p", "programme,type,quota\n", programmes, "101,SAY,1"),
+            ("c", "candidate,list\n", candidates, "1,101"),
+            ("r", "candidate,type,rank\n", ranks, "1,SAY,1"),
+        ] {
+            shelf.add(
+                String::from_str(alloc, name)?,
+                long_line(alloc, header, size, row)?,
+            )?;
+        }
+        let ran = run(&rt, alloc, &PLACE, shelf)?;
+        assert_eq!(rt; ran.notes.bytes(), note.as_bytes());
+    }
+    Ok(())
+}
+
+#[test]
+fn a_programmes_file_may_have_60_000_rows(rt: HostRuntime) -> Result<(), Fail> {
+    let alloc = rt.alloc();
+    for (rows, note) in [
+        (60_000, ""),
+        (
+            60_001,
+            "fault programmes line 60002 field 0 F09 TooManyRows earlier 0\n",
+        ),
+    ] {
+        let mut programmes = b"programme,type,quota\n".to_vec(alloc)?;
+        for code in 1..=rows {
+            put_row_3(
+                &mut programmes,
+                Field::Number(code),
+                Field::Text(b"SAY"),
+                Field::Number(1),
+            )?;
+        }
+        let mut shelf = shelf(alloc, &FREED_SEAT)?;
+        shelf.add(String::from_str(alloc, "p")?, programmes)?;
+        let ran = run(&rt, alloc, &PLACE, shelf)?;
+        assert_eq!(rt; ran.notes.bytes(), note.as_bytes());
+    }
     Ok(())
 }

@@ -42,16 +42,16 @@ impl ProgrammeTable {
     /// The table of a file of at most 2^30 bytes; `Fault` exactly where the file has a first fault,
     /// and then it carries it.
     ///
-    /// The last argument is the number of pieces, 1 to 64, in which the file may be read. The result
-    /// does not depend on it. After a refusal there is no table.
+    /// `pieces` is the number of parts, 1 to 64, in which the file may be read; it is read in one. The
+    /// result does not depend on it. After a refusal there is no table.
     pub fn read<R: Threads>(
-        _rt: &R,
+        rt: &R,
         alloc: Global,
         bytes: &[u8],
-        _pieces: u32,
+        pieces: u32,
     ) -> Result<ProgrammeTable, TableStop>
         requires size { length bytes.now ≤ 2 ^ 30 }
-        requires pieces { (1 ≤ _pieces) × (_pieces ≤ 64) }
+        requires pieces { (1 ≤ pieces) × (pieces ≤ 64) }
         ensures { IsTableRead (programmes_fault bytes.now) (programmes_table bytes.now) result }
     {
         let form = programmes_form();

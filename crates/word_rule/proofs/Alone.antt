@@ -11,13 +11,17 @@ use Rattle.word_rule.specs.Rounds.{IsAlone}
 use Rattle.word_rule.specs.declared.rule.RoundKey.{RoundKey}
 use Rattle.word_rule.proofs.CoreViews.{whose}
 
+-- so no view claims or holds, where this seat does neither
 pub is_alone : (key : RoundKey) (x : SeatKnows) → x.share ≡ key.workers → x.core.done ≡ true
     → x.core.claim ≡ None → x.core.hold ≡ None → IsAlone key x
 is_alone key x every done claim hold s i h at j v in_core =
     let w = whose s.views j v in_core in
     dite (ℕ_discrete w.at i)
     (λ here.
-    let same : x ≡ w.seat = let p = at.there in let q = w.live.there in let r = ap (slice_get s.views) here in cc (p, q, r) in
+    let mine = at.there in
+    let its = w.live.there in
+    let one = ap (slice_get s.views) here in
+    let same : x ≡ w.seat = cc (mine, its, one) in
     ⊎_elim
     (λ (own : v ≡ w.seat.core).
     let is : v ≡ x.core = own ∙ ap (λ (z : SeatKnows). z.core) (sym same) in

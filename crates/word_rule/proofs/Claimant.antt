@@ -8,22 +8,22 @@ use Rattle.atomic_table.specs.Table.{keeps, Allows}
 use Rattle.market.specs.Dictatorships.{Dictatorship}
 use Rattle.interleaving_core.specs.declared.parts.Cell.TheVariants.{Posted}
 use Rattle.interleaving_core.specs.Core.{View, Core, turn_count, entry, quota_of, seats_of}
-use Rattle.interleaving_core.specs.Events.{Claims, Reads, Posts, Allowed, claimed, read_if, posted, after}
-use Rattle.interleaving_core.specs.Sound.{bit, ends, OwnTurnsFit}
+use Rattle.interleaving_core.specs.Events.{Claims, Reads, Posts, Allowed, after_claim, after_read, after_post, after}
+use Rattle.interleaving_core.specs.Sound.{bit, done_bit, OwnTurnsFit}
 use Rattle.word_rule.specs.Layout.{cell_of, core_of, programme_count}
 use Rattle.word_rule.specs.Views.{SeatKnows, with_core, other_view, shared_views, core_views}
-use Rattle.word_rule.specs.Rule.{IsLive, IsSoundTable, share_of, table_core}
+use Rattle.word_rule.specs.Rule.{IsSoundTable, share_of, table_core}
 use Rattle.word_rule.specs.Steps.{SeatMe, read_by, AreEarlier, ClaimTold, ReadTold, PostTold}
 use Rattle.word_rule.specs.declared.rule.RoundKey.{RoundKey}
-use Rattle.word_rule.proofs.CoreViews.{there, place, weight, sum_views, shared_sum}
+use Rattle.word_rule.proofs.CoreViews.{live_there, place, weight, sum_views, shared_sum}
 use Rattle.word_rule.proofs.Layouts.{cell_posted, seat_word, claim_word, cell_word}
-use Rattle.word_rule.proofs.Keeps.{IsSameSeat, live_after, seat_in_range, seat_fits, event_keeps}
+use Rattle.word_rule.proofs.Keeps.{same_seat, live_after, seat_in_range, seat_fits, event_keeps}
 
 -- no seat gives more done views than its share
-few_ends : (n : ℕ) (v : View) → sum_by ends (shared_views n v) ≤ n
+few_ends : (n : ℕ) (v : View) → sum_by done_bit (shared_views n v) ≤ n
 few_ends zero v = omega arith
 few_ends (suc n) v =
-    let a = shared_sum ends n v in
+    let a = shared_sum done_bit n v in
     let b = at_most_one v.done in
     let c = times_le n (other_view v.done).done in
     omega arith
@@ -36,13 +36,16 @@ few_ends (suc n) v =
     times_le n true = omega arith
     times_le n false = omega arith
 
-pub ends_le : (l : List SeatKnows) → sum_by ends (core_views l) ≤ sum_by share_of l
-ends_le l = let e = sum_views ends l in omega (arith, each l)
+-- so there are no more done views than workers
+pub ends_le : (l : List SeatKnows) → sum_by done_bit (core_views l) ≤ sum_by share_of l
+ends_le l = let e = sum_views done_bit l in omega (arith, each l)
   where
-    each : (l : List SeatKnows) → sum_by (weight ends) l ≤ sum_by share_of l
+    each : (l : List SeatKnows) → sum_by (weight done_bit) l ≤ sum_by share_of l
     each [] = omega arith
     each (x ∷ xs) =
-        omega (arith, few_ends x.share x.core, each xs, sum_by-cons (weight ends) x xs, sum_by-cons share_of x xs)
+        let sums = sum_by-cons (weight done_bit) x xs in
+        let shares = sum_by-cons share_of x xs in
+        omega (arith, few_ends x.share x.core, each xs)
 
 -- a seat that is not done stands for itself alone
 pub one_share : (n : ℕ) (b : Bool) → 0 < n → (1 < n → b ≡ true) → b ≡ false → n ≡ 1
@@ -64,7 +67,7 @@ earlier d c v none f =
       rise = f.rise;
     }
 
-read_done : (b : Bool) (v : View) (k j : ℕ) → (read_if b v k j).done ≡ v.done
+read_done : (b : Bool) (v : View) (k j : ℕ) → (after_read b v k j).done ≡ v.done
 read_done true v k j = refl
 read_done false v k j = refl
 
@@ -73,17 +76,18 @@ module _ (key : RoundKey) where
   d = key.dict.value
 
   -- a seat's claim of a turn of the round, by the round's own dictatorship
-  pub claim_allowed : (slots id : ℕ) (me : SeatMe) → me.0.share ≡ 1 → Allowed me.0.dict me.0.core Claims
+  pub claim_allowed : (slots id : ℕ) (me : SeatMe) → me.0.share ≡ 1
+      → Allowed me.0.dict me.0.core Claims
       → Allows (IsSoundTable key) slots id me 0 (λ n. (n + 1) % 2 ^ 64) (ClaimTold me)
   claim_allowed slots id me one may s h homes at fits =
       let x = me.0 in
-      let live : IsLive s.views id x = record { there = there s.views id x at; live = omega arith } in
+      let live = live_there s.views id x at (omega arith) in
       let n = get_or s.words 0 0 in
       let b = h.each id x live in
-      let y = with_core x (claimed x.dict x.core n) in
-      let same : IsSameSeat x y = record { number = refl; share = refl; dict = refl; workers = refl; alone = λ more. absurd (omega arith) } in
+      let y = with_core x (after_claim x.dict x.core n) in
+      let same = same_seat x y.core (λ more. absurd (omega arith)) in
       let done = ends_le s.views in
-      let few = h.sound.few in
+      let few = h.sound.claims.few in
       let shares = h.shares in
       let team = h.team in
       let turns = h.valid.turns in
@@ -92,16 +96,20 @@ module _ (key : RoundKey) where
       let up : next ≡ n + 1 = mod-eq_of_lt (let l : n + 1 < 2 ^ 64 = omega arith in l) in
       let mark : get_or (set s.words 0 next) 1 0 ≡ get_or s.words 1 0 =
       get_or-set_other s.words 0 1 next 0 (λ e. omega arith) in
-      let views = set (core_views s.views) (place s.views id) y.core in
-      let is : core_of d (set s.words 0 next) views ≡ after d (table_core key s) (place s.views id) x.core Claims =
+      let at_place = place s.views id in
+      let views = set (core_views s.views) at_place y.core in
+      let words = set s.words 0 next in
+      let is : core_of d words views ≡ after d (table_core key s) at_place x.core Claims =
       claim_word d s.words views next (omega arith)
       ∙ (λ k. record (table_core key s) {
         claim_number = up k;
-        views = set (core_views s.views) (place s.views id) (claimed (b.dict k) x.core n);
+        views = set (core_views s.views) at_place (after_claim (b.dict k) x.core n);
       }) in
       let fit = seat_fits key s h id x live in
-      let kept = event_keeps key s h id x y (set s.words 0 next) Claims live same may (length-set s.words 0 next) is
-      (omega arith) (let told = b.behind in omega arith) in (
+      let told = b.behind in
+      let kept =
+      event_keeps key s h id x y words Claims live same may (length-set s.words 0 next) is
+      (omega arith) (omega arith) in (
         y,
         keeps,
         tt,
@@ -119,34 +127,44 @@ module _ (key : RoundKey) where
       → i ≡ 2 + entry d k j → Allows (IsSoundTable key) slots id me i (λ n. n) (ReadTold me)
   read_allowed slots id me i k j some alone round may is s h homes at fits =
       let x = me.0 in
-      let live : IsLive s.views id x = record { there = there s.views id x at; live = some } in
+      let live = live_there s.views id x at some in
       let found = get_or s.words i 0 in
       let p = entry d k j in
-      let seen_view : ℕ → View = λ n. read_if (nat_lt n (quota_of d p)) x.core k j in
+      let seen_view : ℕ → View = λ n. after_read (nat_lt n (quota_of d p)) x.core k j in
       let y = with_core x (read_by x.dict x.core x.core.claim found) in
       let by : y.core ≡ seen_view found =
       (λ z. read_by (round z) x.core (may.0 z) found) in
       let done : y.core.done ≡ x.core.done =
       ap (λ (v : View). v.done) by ∙ read_done (nat_lt found (quota_of d p)) x.core k j in
-      let same : IsSameSeat x y = record { number = refl; share = refl; dict = refl; workers = refl; alone = λ more. (alone more, done ∙ alone more) } in
+      let same = same_seat x y.core (λ more. (alone more, done ∙ alone more)) in
       let drawn = (seat_in_range key s h id x live).claimed k j false may.0 in
+      let turns = ap (λ (z : Dictatorship). turn_count z) round in
       let inside : p < programme_count d =
-      h.valid.list_entries k j (let a = drawn in let e = ap (λ (z : Dictatorship). turn_count z) round in omega arith) may.1 in
+      h.valid.list_entries k j (omega arith) may.1 in
       let seen : found ≡ seats_of (table_core key s) p =
-      ap (λ (z : ℕ). get_or s.words z 0) is ∙ sym (seat_word d s.words (core_views s.views) p inside) in
-      let as_was : set s.words i found ≡ s.words = set-get_or s.words i 0 in
-      let leads : core_of d (set s.words i found) (set (core_views s.views) (place s.views id) y.core)
-      ≡ after d (table_core key s) (place s.views id) x.core (Reads k j) =
-      ap (λ (l : List ℕ). core_of d l (set (core_views s.views) (place s.views id) y.core)) as_was
-      ∙ ap (λ (v : View). core_of d s.words (set (core_views s.views) (place s.views id) v)) (by ∙ ap seen_view seen) in
-      let mark : get_or (set s.words i found) 1 0 ≡ get_or s.words 1 0 = ap (λ (l : List ℕ). get_or l 1 0) as_was in
-      let kept = event_keeps key s h id x y (set s.words i found) (Reads k j) live same may (length-set s.words i found) leads
-      (omega arith) (let told = (h.each id x live).behind in omega arith) in (
+      ap (λ (z : ℕ). get_or s.words z 0) is
+      ∙ sym (seat_word d s.words (core_views s.views) p inside) in
+      let at_place = place s.views id in
+      let views_with : View → List View = λ v. set (core_views s.views) at_place v in
+      let words = set s.words i found in
+      let as_was : words ≡ s.words = set-get_or s.words i 0 in
+      let leads : core_of d words (views_with y.core)
+      ≡ after d (table_core key s) at_place x.core (Reads k j) =
+      ap (λ (l : List ℕ). core_of d l (views_with y.core)) as_was
+      ∙ ap (λ (v : View). core_of d s.words (views_with v)) (by ∙ ap seen_view seen) in
+      let mark : get_or words 1 0 ≡ get_or s.words 1 0 = ap (λ (l : List ℕ). get_or l 1 0) as_was in
+      let told = (h.each id x live).behind in
+      let kept =
+      event_keeps key s h id x y words (Reads k j) live same may (length-set s.words i found) leads
+      (omega arith) (omega arith) in (
         y,
         keeps,
         tt,
         kept,
-        record { seat = refl; range = seat_in_range key _ kept id y (live_after key s id x y live same) },
+        record {
+          seat = refl;
+          range = seat_in_range key _ kept id y (live_after key s id x y live same);
+        },
       )
 
   -- a post of the place found to the turn's cell
@@ -156,25 +174,33 @@ module _ (key : RoundKey) where
       → Allows (IsSoundTable key) slots id me i (λ _. word) (λ _. PostTold me word)
   post_allowed slots id me i k j word met some alone may is shows s h homes at fits =
       let x = me.0 in
-      let live : IsLive s.views id x = record { there = there s.views id x at; live = some } in
-      let y = with_core x (posted x.core (word / 2)) in
-      let same : IsSameSeat x y = record { number = refl; share = refl; dict = refl; workers = refl; alone = λ more. (alone more, alone more) } in
+      let live = live_there s.views id x at some in
+      let y = with_core x (after_post x.core (word / 2)) in
+      let same = same_seat x y.core (λ more. (alone more, alone more)) in
       let half : word / 2 ≡ j = omega arith in
       let shown : cell_of word ≡ Posted j = ap cell_of shows ∙ cell_posted j in
-      let leads : core_of d (set s.words i word) (set (core_views s.views) (place s.views id) y.core)
-      ≡ after d (table_core key s) (place s.views id) x.core (Posts k j met) =
-      cell_word d s.words (set (core_views s.views) (place s.views id) y.core) i k word (Posted j) is shown
+      let at_place = place s.views id in
+      let views = set (core_views s.views) at_place y.core in
+      let words = set s.words i word in
+      let leads : core_of d words views
+      ≡ after d (table_core key s) at_place x.core (Posts k j met) =
+      cell_word d s.words views i k word (Posted j) is shown
       ∙ ap (λ (z : ℕ). record (table_core key s) {
         cells = set (table_core key s).cells k (Posted j);
-        views = set (core_views s.views) (place s.views id) (posted x.core z);
+        views = set (core_views s.views) at_place (after_post x.core z);
       }) half in
       let mark : get_or (set s.words i word) 1 0 ≡ get_or s.words 1 0 =
       get_or-set_other s.words i 1 word 0 (λ e. omega arith) in
-      let kept = event_keeps key s h id x y (set s.words i word) (Posts k j met) live same may (length-set s.words i word) leads
-      (omega arith) (let told = (h.each id x live).behind in omega arith) in (
+      let told = (h.each id x live).behind in
+      let kept =
+      event_keeps key s h id x y words (Posts k j met) live same may (length-set s.words i word)
+      leads (omega arith) (omega arith) in (
         y,
         keeps,
         tt,
         kept,
-        record { seat = refl; range = seat_in_range key _ kept id y (live_after key s id x y live same) },
+        record {
+          seat = refl;
+          range = seat_in_range key _ kept id y (live_after key s id x y live same);
+        },
       )

@@ -22,7 +22,8 @@ module _ {A : Type 0} where
   after_front : (a b : List A) (j : ℕ) → slice_get (a ++ b) (length a + j) ≡ slice_get b j
   after_front [] b j = ap (slice_get b) (let e : 0 + j ≡ j = omega arith in e)
   after_front (x ∷ xs) b j =
-      ap (slice_get (x ∷ (xs ++ b))) (let e : length (x ∷ xs) + j ≡ suc (length xs + j) = omega arith in e)
+      ap (slice_get (x ∷ (xs ++ b)))
+      (let e : length (x ∷ xs) + j ≡ suc (length xs + j) = omega arith in e)
       ∙ after_front xs b j
 
   set_after_front : (a b : List A) (j : ℕ) (y : A)
@@ -38,6 +39,11 @@ module _ {A : Type 0} where
   in_either [] b p v e = inr (p, e)
   in_either (x ∷ xs) b zero v e = inl e
   in_either (x ∷ xs) b (suc p) v e = in_either xs b p v e
+
+-- a seat that the table has is one that is not spent
+pub live_there : (l : List SeatKnows) (i : ℕ) (x : SeatKnows) → get_elem? l i ≡ some x
+    → 0 < x.share → IsLive l i x
+live_there l i x at live = record { there = there l i x at; live = live }
 
 -- where a seat's own view stands
 abbrev pub place : List SeatKnows → ℕ → ℕ
@@ -62,7 +68,9 @@ pub at_place : (l : List SeatKnows) (i : ℕ) (x : SeatKnows) → IsLive l i x
 at_place [] i x a = absurd (let e = a.there in cc (e))
 at_place (y ∷ ys) zero x a =
     let same : y ≡ x = let e = a.there in cc (e) in
-    subst (λ (z : SeatKnows). slice_get (shared_views z.share z.core ++ core_views ys) 0 ≡ Some x.core)
+    subst
+    (λ (z : SeatKnows).
+    slice_get (shared_views z.share z.core ++ core_views ys) 0 ≡ Some x.core)
     (sym same) (first_shared x.share x.core (core_views ys) a.live)
 at_place (y ∷ ys) (suc i) x a =
     after_front (shared_views y.share y.core) (core_views ys) (place ys i)
@@ -75,12 +83,17 @@ other_there [] i x a more = absurd (let e = a.there in cc (e))
 other_there (y ∷ ys) zero x a more =
     let same : y ≡ x = let e = a.there in cc (e) in (
       1,
-      subst (λ (z : SeatKnows). slice_get (shared_views z.share z.core ++ core_views ys) 1 ≡ Some (other_view x.core.done))
+      subst
+          (λ (z : SeatKnows).
+          slice_get (shared_views z.share z.core ++ core_views ys) 1
+          ≡ Some (other_view x.core.done))
           (sym same) (second_shared x.share x.core (core_views ys) more),
     )
 other_there (y ∷ ys) (suc i) x a more =
-    let t = other_there ys i x record { there = a.there; live = a.live } more in
-    (length (shared_views y.share y.core) + t.0, after_front (shared_views y.share y.core) (core_views ys) t.0 ∙ t.1)
+    let t = other_there ys i x record { there = a.there; live = a.live } more in (
+      length (shared_views y.share y.core) + t.0,
+      after_front (shared_views y.share y.core) (core_views ys) t.0 ∙ t.1,
+    )
 
 front_set : (n m : ℕ) (v w : View) (rest : List View) → 0 < n → m ≡ n → (1 < n → w.done ≡ v.done)
     → shared_views m w ++ rest ≡ set (shared_views n v ++ rest) 0 w
@@ -98,7 +111,9 @@ set_place [] i x y a same others = absurd (let e = a.there in cc (e))
 set_place (z ∷ zs) zero x y a same others =
     let is : z ≡ x = let e = a.there in cc (e) in
     subst
-    (λ (u : SeatKnows). shared_views y.share y.core ++ core_views zs ≡ set (shared_views u.share u.core ++ core_views zs) 0 y.core)
+    (λ (u : SeatKnows).
+    shared_views y.share y.core ++ core_views zs
+    ≡ set (shared_views u.share u.core ++ core_views zs) 0 y.core)
     (sym is) (front_set x.share y.share x.core y.core (core_views zs) a.live same others)
 set_place (z ∷ zs) (suc i) x y a same others =
     ap (λ r. shared_views z.share z.core ++ r)
@@ -120,7 +135,9 @@ pub record Whose (l : List SeatKnows) (v : View) : Type 0 where
   pub live : IsLive l at seat
   pub which : (v ≡ seat.core) ⊎ ((1 < seat.share) × (v ≡ other_view seat.core.done))
 
-pub whose : (l : List SeatKnows) (p : ℕ) (v : View) → slice_get (core_views l) p ≡ Some v → Whose l v
+-- each view of the core is some seat's
+pub whose : (l : List SeatKnows) (p : ℕ) (v : View) → slice_get (core_views l) p ≡ Some v
+    → Whose l v
 whose [] p v e = absurd (cc (e))
 whose (x ∷ xs) p v e =
     ⊎_elim
@@ -129,18 +146,25 @@ whose (x ∷ xs) p v e =
     record { at = 0; seat = x; live = record { there = refl; live = t.0 }; which = t.1 })
     (λ (a : (q : ℕ) × (slice_get (core_views xs) q ≡ Some v)).
     let t = whose xs a.0 v a.1 in
-    record { at = suc t.at; seat = t.seat; live = record { there = t.live.there; live = t.live.live }; which = t.which })
+    record {
+      at = suc t.at;
+      seat = t.seat;
+      live = record { there = t.live.there; live = t.live.live };
+      which = t.which;
+    })
     (in_either (shared_views x.share x.core) (core_views xs) p v e)
 
 -- what a seat adds to a sum over the views of the core
 abbrev pub weight : (View → ℕ) → SeatKnows → ℕ
 weight f x = sum_by f (shared_views x.share x.core)
 
+-- a sum over the views of the core, seat by seat
 pub sum_views : (f : View → ℕ) (l : List SeatKnows)
     → sum_by f (core_views l) ≡ sum_by (weight f) l
 sum_views f [] = refl
 sum_views f (x ∷ xs) =
-    omega (arith, sum_by-append f (shared_views x.share x.core) (core_views xs), sum_views f xs, sum_by-cons (weight f) x xs)
+    let a = sum_by-append f (shared_views x.share x.core) (core_views xs) in
+    omega (arith, a, sum_views f xs, sum_by-cons (weight f) x xs)
 
 -- a view with a share, by its own term and that of the others
 pub shared_sum : (f : View → ℕ) (n : ℕ) (v : View)

@@ -39,15 +39,15 @@ module _ (key : RoundKey) where
       → Ends s.words key.dict.value x.released
   ends_so s h id x live every hold =
       let free = free_with_all key s h id x live every hold in
-      let same = h.sound.free free in
+      let same = h.sound.mark.free free in
       record {
         valid = h.valid;
         wide = h.wide;
-        within = let a = h.sound.within in omega arith;
+        within = let a = h.sound.mark.within in omega arith;
         least = (h.each id x live).behind;
         cells = λ k l.
             sym (cell_read key.dict.value s.words (core_views s.views) (2 + programme_count key.dict.value + k) k refl)
-            ∙ h.sound.below k (omega arith);
+            ∙ h.sound.cells.below k (omega arith);
       }
 
   pub round_ends : (id : ℕ) (x : SeatKnows) (words slots : List ℕ)

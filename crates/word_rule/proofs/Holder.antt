@@ -14,11 +14,11 @@ use Rattle.interleaving_core.specs.declared.parts.Cell.TheVariants.{Empty, Poste
 use Rattle.interleaving_core.specs.declared.parts.Phase.{Phase}
 use Rattle.interleaving_core.specs.declared.parts.Phase.TheVariants.{Idle, Seated}
 use Rattle.interleaving_core.specs.Core.{View, turn_count, entry, quota_of, seats_of, cell_at, is_committed, hold_at}
-use Rattle.interleaving_core.specs.Events.{Action, Takes, Looks, Weighs, Seats, Seals, Releases, Allowed, with_hold, took, looked, weighed_if, after}
-use Rattle.interleaving_core.specs.Sound.{bit, some_bit, empty_bit, is_claim_of, holds, claims_turn}
+use Rattle.interleaving_core.specs.Events.{Action, Takes, Looks, Weighs, Seats, Seals, Releases, Allowed, with_hold, after_take, phase_after_look, phase_after_weigh, after}
+use Rattle.interleaving_core.specs.Sound.{bit, some_bit, empty_bit, turn_bit, hold_bit, claim_bit}
 use Rattle.market.proofs.Turns.{taken-le-quota}
 use Rattle.interleaving_core.proofs.Places.{sum_zero, terms_le}
-use Rattle.interleaving_core.proofs.Keeps.{seats_now}
+use Rattle.interleaving_core.proofs.Holder.{seats_now}
 use Rattle.word_rule.specs.Layout.{cell_of, core_of, programme_count}
 use Rattle.word_rule.specs.Views.{SeatKnows, with_core, other_view, core_views}
 use Rattle.word_rule.specs.Rule.{IsLive, IsSoundTable, share_of, table_core}
@@ -30,7 +30,7 @@ use Rattle.word_rule.proofs.Layouts.{seat_word, cell_word}
 use Rattle.word_rule.proofs.MarkWords.{cell_committed, or_one, cell_read, mark_word, count_word}
 use Rattle.word_rule.proofs.Keeps.{IsSameSeat, live_after, seat_in_range, seat_fits, table_after, event_keeps}
 
-tried_core : (x : SeatKnows) (b : Bool) (n : ℕ) → (tried x b n).core ≡ took x.core b n
+tried_core : (x : SeatKnows) (b : Bool) (n : ℕ) → (tried x b n).core ≡ after_take x.core b n
 tried_core x true n = refl
 tried_core x false n = refl
 
@@ -101,11 +101,11 @@ module _ (key : RoundKey) where
       → x.share ≡ key.workers → x.core.hold ≡ None → is_odd (get_or s.words 1 0) ≡ false
   free_with_all s h id x live every hold =
       bit_zero (is_odd (get_or s.words 1 0))
-      (sym h.sound.holders
-      ∙ sum_zero holds (core_views s.views) (λ j v e.
+      (sym h.sound.mark.holders
+      ∙ sum_zero hold_bit (core_views s.views) (λ j v e.
       ⊎_elim
-      (λ (own : v ≡ x.core). ap holds own ∙ ap some_bit hold)
-      (λ (other : v ≡ other_view x.core.done). ap holds other ∙ ap some_bit (others_free x.core.done))
+      (λ (own : v ≡ x.core). ap hold_bit own ∙ ap some_bit hold)
+      (λ (other : v ≡ other_view x.core.done). ap hold_bit other ∙ ap some_bit (others_free x.core.done))
       (all_mine s h id x live every j v e)))
 
   -- and once it is done, each turn is posted that is not committed
@@ -115,14 +115,14 @@ module _ (key : RoundKey) where
   posted_with_all s h id x live every done k inside left =
       let fit = seat_fits key s h id x live in
       let past = fit.past done in
-      let none = sum_zero (claims_turn k) (core_views s.views) (λ j v e.
+      let none = sum_zero (claim_bit k) (core_views s.views) (λ j v e.
       ⊎_elim
-      (λ (own : v ≡ x.core). ap (claims_turn k) own ∙ ap (is_claim_of k) (fit.quiet done).0)
+      (λ (own : v ≡ x.core). ap (claim_bit k) own ∙ ap (turn_bit k) (fit.one.leaver done).0)
       (λ (other : v ≡ other_view x.core.done).
-      ap (claims_turn k) other ∙ ap (is_claim_of k) (others_unclaimed x.core.done))
+      ap (claim_bit k) other ∙ ap (turn_bit k) (others_unclaimed x.core.done))
       (all_mine s h id x live every j v e)) in
       is_posted (cell_at (table_core key s) k)
-      (sym (h.sound.claimed k inside (omega arith)) ∙ none) (h.sound.above k left)
+      (sym (h.sound.claims.claimed k inside (omega arith)) ∙ none) (h.sound.cells.above k left)
 
   -- a step that leaves the mark's word keeps the rule where it is an event of the core
   mark_stays : (s : Table) (h : IsSoundTable key s) (id : ℕ) (x y : SeatKnows) (words : List ℕ) (a : Action)
@@ -172,8 +172,8 @@ module _ (key : RoundKey) where
       (tried_released x b (found / 2)) in
       let mine = h.each id x live in
       let dict = ap (λ (z : Dictatorship). turn_count z) mine.dict in
-      let behind = h.sound.behind in
-      let within = h.sound.within in (
+      let behind = h.sound.mark.behind in
+      let within = h.sound.mark.within in (
         y,
         keeps,
         tt,
@@ -195,7 +195,7 @@ module _ (key : RoundKey) where
       let live : IsLive s.views id x = record { there = there s.views id x at; live = some } in
       let found = get_or s.words i 0 in
       let v = look_by x.core x.core.hold found in
-      let seen_view : Cell → View = λ c. with_hold x.core (hold_at k (looked c)) in
+      let seen_view : Cell → View = λ c. with_hold x.core (hold_at k (phase_after_look c)) in
       let by : v ≡ seen_view (cell_of found) = ap (λ o. look_by x.core o found) may.0 in
       let y = with_core x v in
       let same = same_with x v (ap (λ (u : View). u.done) by) alone in
@@ -205,7 +205,7 @@ module _ (key : RoundKey) where
       ap (λ (u : View). core_of d s.words (set (core_views s.views) (place s.views id) u)) (by ∙ ap seen_view (sym seen)) in
       let kept = load_keeps s h id i x v (Looks k) live same may leads in
       let mine = h.each id x live in
-      let count = (seat_fits key s h id x live).at_count _ may.0 in (
+      let count = ((seat_fits key s h id x live).hold _ may.0).committed in (
         y,
         keeps,
         tt,
@@ -213,7 +213,7 @@ module _ (key : RoundKey) where
         record {
           seat = refl;
           range = seat_in_range key _ kept id y (live_after key s id x y live same);
-          uncommitted = ap is_committed (sym seen) ∙ h.sound.above k (omega arith);
+          uncommitted = ap is_committed (sym seen) ∙ h.sound.cells.above k (omega arith);
           posted = λ every done.
               subst (λ (c : Cell). IsSome (posted_place c)) seen
               (posted_with_all s h id x live (every ∙ mine.workers) done k may.1 (omega arith));
@@ -230,12 +230,12 @@ module _ (key : RoundKey) where
       let found = get_or s.words i 0 in
       let p = entry d k j in
       let v = weigh_by x.dict x.core x.core.hold found in
-      let seen_view : ℕ → View = λ n. with_hold x.core (hold_at k (weighed_if (nat_lt n (quota_of d p)) j)) in
+      let seen_view : ℕ → View = λ n. with_hold x.core (hold_at k (phase_after_weigh (nat_lt n (quota_of d p)) j)) in
       let mine = h.each id x live in
       let by : v ≡ seen_view found = (λ z. weigh_by (mine.dict z) x.core (may.0 z) found) in
       let same = same_with x v (ap (λ (u : View). u.done) by) alone in
       let fit = seat_fits key s h id x live in
-      let turn = (fit.phase _ may.0).0.0 in
+      let turn = (fit.hold _ may.0).phase.0.0 in
       let inside : p < programme_count d = h.valid.list_entries k j turn may.1 in
       let seen : found ≡ seats_of (table_core key s) p =
       ap (λ (z : ℕ). get_or s.words z 0) is ∙ sym (seat_word d s.words (core_views s.views) p inside) in
@@ -266,7 +266,7 @@ module _ (key : RoundKey) where
       let y = with_core x v in
       let same = same_with x v (ap (λ (u : View). u.done) by) alone in
       let fit = seat_fits key s h id x live in
-      let phase = fit.phase _ may in
+      let phase = (fit.hold _ may).phase in
       let inside : p < programme_count d = h.valid.list_entries k j phase.0.0 phase.1 in
       let seen : found ≡ seats_of (table_core key s) p =
       ap (λ (z : ℕ). get_or s.words z 0) is ∙ sym (seat_word d s.words (core_views s.views) p inside) in
@@ -346,8 +346,8 @@ module _ (key : RoundKey) where
       mark_word d s.words views word (omega arith)
       ∙ (λ z. record (table_core key s) { mark_held = even z; mark_number = half z; views = views }) in
       let mark : get_or (set s.words 1 word) 1 0 ≡ word = get_or-set_same s.words 1 word 0 (omega arith) in
-      let count = (seat_fits key s h id x live).at_count _ may.0 in
-      let behind = h.sound.behind in
+      let count = ((seat_fits key s h id x live).hold _ may.0).committed in
+      let behind = h.sound.mark.behind in
       let kept = event_keeps key s h id x y (set s.words 1 word) (Releases k phase) live same may (length-set s.words 1 word) leads
       (omega arith) (omega arith) in (
         y,

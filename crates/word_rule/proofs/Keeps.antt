@@ -1,7 +1,7 @@
--- A step that is an event of the core keeps the rule. Whatever the table is when the step comes, its
--- words and views are a sound core state. The event is allowed by what the seat's own view says, so the
--- state after it is sound; and the table after the step shows that state, since the step changes one
--- word and one view, as the event does.
+-- A step that is an event of the core keeps the rule. Whatever the table is when the step comes,
+-- its words and views are a sound core state. The event is allowed by what the seat's own view says,
+-- so the state after it is sound; and the table after the step shows that state, since the step
+-- changes one word and one view, as the event does.
 use Rattle.std.proofs.Common.{◌≡◌, ℕ, zero, suc, ◌/◌, ◌<◌, ◌≤◌, ◌≢◌, true, List, [], ◌∷◌, length, set, get_or, Some, sym, refl, ap, inr, ⊎_elim, subst, ◌∙◌, arith}
 use Rattle.std.specs.Prelude.{slice_get}
 use Rattle.atomic_table.specs.Table.{State}
@@ -12,7 +12,7 @@ use Rattle.interleaving_core.specs.Sound.{ViewFits, Sound}
 use Rattle.interleaving_core.proofs.Places.{at_set, sum_set}
 use Rattle.interleaving_core.proofs.Keeps as core
 use Rattle.word_rule.specs.Layout.{core_of}
-use Rattle.word_rule.specs.Views.{SeatKnows, core_views}
+use Rattle.word_rule.specs.Views.{SeatKnows, with_core, core_views}
 use Rattle.word_rule.specs.Copies.{IsInRange}
 use Rattle.word_rule.specs.Rule.{IsLive, Belongs, IsSoundTable, share_of, table_core}
 use Rattle.word_rule.specs.declared.rule.RoundKey.{RoundKey}
@@ -26,21 +26,28 @@ pub record IsSameSeat (x y : SeatKnows) : Type 0 where
   pub workers : y.workers ≡ x.workers
   pub alone : 1 < x.share → (x.core.done ≡ true) × (y.core.done ≡ true)
 
+-- a seat stays the same where its view of the core alone changes, and it is done before and after
+-- where it stands for others
+pub same_seat : (x : SeatKnows) (v : View) → (1 < x.share → (x.core.done ≡ true) × (v.done ≡ true))
+    → IsSameSeat x (with_core x v)
+same_seat x v alone =
+    record { number = refl; share = refl; dict = refl; workers = refl; alone = alone }
+
 -- a view that fits a state speaks of the round's turns and places
 pub fits_in_range : (d : Dictatorship) (c : Core) (count : ℕ) (v : View) → count ≤ length d.lists
     → ViewFits d c count v → IsInRange d v
 fits_in_range d c count v within f =
     record {
-      claimed = λ k j met e. (f.drawn _ e).0;
-      passed = λ k j met e. (f.passed _ e).0;
-      met = λ k j e. f.met _ e refl;
-      committed = λ h phase e. let a = f.at_count _ e in omega arith;
-      scanned = λ h j e. (f.phase _ e).0.0;
-      scanned_place = λ h j e. (f.phase _ e).1;
-      ready = λ h j e. (f.phase _ e).0.0;
-      ready_place = λ h j e. (f.phase _ e).1;
-      seated = λ h j full e. (f.phase _ e).0.0;
-      seated_place = λ h j full e. (f.phase _ e).1;
+      claimed = λ k j met e. (f.claim _ e).turn;
+      passed = λ k j met e. (f.claim _ e).passed;
+      met = λ k j e. (f.claim _ e).met refl;
+      committed = λ h phase e. let a = (f.hold _ e).committed in omega arith;
+      scanned = λ h j e. (f.hold _ e).phase.0.0;
+      scanned_place = λ h j e. (f.hold _ e).phase.1;
+      ready = λ h j e. (f.hold _ e).phase.0.0;
+      ready_place = λ h j e. (f.hold _ e).phase.1;
+      seated = λ h j full e. (f.hold _ e).phase.0.0;
+      seated_place = λ h j full e. (f.hold _ e).phase.1;
     }
 
 here_set : {A : Type 0} (l : List A) (i : ℕ) (x y : A) → slice_get l i ≡ Some x
@@ -92,14 +99,15 @@ module _ (key : RoundKey) where
   -- a seat's view fits the core state of the table
   pub seat_fits : (s : Table) (h : IsSoundTable key s) (i : ℕ) (x : SeatKnows) → IsLive s.views i x
       → ViewFits d (table_core key s) h.sound.count x.core
-  seat_fits s h i x at = h.sound.each (place s.views i) x.core (at_place s.views i x at)
+  seat_fits s h i x at = h.sound.views (place s.views i) x.core (at_place s.views i x at)
 
   -- so it speaks of the round's turns and places
-  pub seat_in_range : (s : Table) (h : IsSoundTable key s) (i : ℕ) (x : SeatKnows) → IsLive s.views i x
-      → IsInRange x.dict x.core
+  pub seat_in_range : (s : Table) (h : IsSoundTable key s) (i : ℕ) (x : SeatKnows)
+      → IsLive s.views i x → IsInRange x.dict x.core
   seat_in_range s h i x at =
       subst (λ (z : Dictatorship). IsInRange z x.core) (sym (h.each i x at).dict)
-      (fits_in_range d (table_core key s) h.sound.count x.core h.sound.within (seat_fits s h i x at))
+      (fits_in_range d (table_core key s) h.sound.count x.core h.sound.mark.within
+      (seat_fits s h i x at))
 
   abbrev pub table_after : Table → ℕ → SeatKnows → List ℕ → Table
   table_after s id y words = record { words = words; homes = s.homes; views = set s.views id y }
@@ -149,7 +157,8 @@ module _ (key : RoundKey) where
             let p = was s.views id x y at same i a ai in
             let q = was s.views id x y at same j c cj in
             let ps = p.share in
-            let n = h.last i j p.seat q.seat p.live q.live other (omega arith) (p.done more ∙ not_done) in
+            let unfinished = p.done more ∙ not_done in
+            let n = h.last i j p.seat q.seat p.live q.live other (omega arith) unfinished in
             let pn = p.number in
             let qn = q.number in
             omega arith;
@@ -162,9 +171,11 @@ module _ (key : RoundKey) where
       set_place s.views id x y at same.share (λ more. let q = same.alone more in q.1 ∙ sym q.0)
 
   -- the rule stays where the step is an event that the seat's view allows
-  pub event_keeps : (s : Table) (h : IsSoundTable key s) (id : ℕ) (x y : SeatKnows) (words : List ℕ) (a : Action)
-      → IsLive s.views id x → IsSameSeat x y → Allowed d x.core a → length words ≡ length s.words
-      → core_of d words (set (core_views s.views) (place s.views id) y.core) ≡ after d (table_core key s) (place s.views id) x.core a
+  pub event_keeps : (s : Table) (h : IsSoundTable key s) (id : ℕ) (x y : SeatKnows)
+      (words : List ℕ) (a : Action) → IsLive s.views id x → IsSameSeat x y → Allowed d x.core a
+      → length words ≡ length s.words
+      → core_of d words (set (core_views s.views) (place s.views id) y.core)
+      ≡ after d (table_core key s) (place s.views id) x.core a
       → get_or s.words 1 0 / 2 ≤ get_or words 1 0 / 2 → y.released ≤ get_or words 1 0 / 2
       → IsSoundTable key (table_after s id y words)
   event_keeps s h id x y words a at same may long is grows behind =
@@ -172,4 +183,5 @@ module _ (key : RoundKey) where
       let leads = ap (core_of d words) (views_after s id x y at same) ∙ is in
       sound_keeps s h id x y words at same long
       (subst (Sound d) (sym leads)
-      (core.keeps d (table_core key s) (place s.views id) x.core a h.valid h.sound own may)) grows behind
+      (core.keeps d (table_core key s) (place s.views id) x.core a h.valid h.sound own may))
+      grows behind

@@ -34,9 +34,11 @@ module _ (d : Dictatorship) (words : List ℕ) (views : List View) where
       → core_of d (set words 0 n) views ≡ record (core_of d words views) { claim_number = n }
   claim_word n wide =
       let first : get_or (set words 0 n) 0 0 ≡ n = get_or-set_same words 0 n 0 (omega arith) in
-      let mark : get_or (set words 0 n) 1 0 ≡ get_or words 1 0 = get_or-set_other words 0 1 n 0 (λ e. omega arith) in
+      let mark : get_or (set words 0 n) 1 0 ≡ get_or words 1 0 =
+      get_or-set_other words 0 1 n 0 (λ e. omega arith) in
       let seats : drop 2 (set words 0 n) ≡ drop 2 words = drop-set-lt 2 words 0 n (omega arith) in
-      let cells : drop (2 + m) (set words 0 n) ≡ drop (2 + m) words = drop-set-lt (2 + m) words 0 n (omega arith) in
+      let cells : drop (2 + m) (set words 0 n) ≡ drop (2 + m) words =
+      drop-set-lt (2 + m) words 0 n (omega arith) in
       λ k. record {
         claim_number = first k;
         mark_held = eqb (mark k % 2) 1;
@@ -48,19 +50,24 @@ module _ (d : Dictatorship) (words : List ℕ) (views : List View) where
 
   -- a word behind the seat counts is a cell
   pub cell_word : (i k w : ℕ) (c : Cell) → i ≡ 2 + m + k → cell_of w ≡ c
-      → core_of d (set words i w) views ≡ record (core_of d words views) { cells = set (map cell_of (drop (2 + m) words)) k c }
+      → core_of d (set words i w) views
+      ≡ record (core_of d words views) { cells = set (map cell_of (drop (2 + m) words)) k c }
   cell_word i k w c is shows =
       let ws = set words i w in
-      let first : get_or ws 0 0 ≡ get_or words 0 0 = get_or-set_other words i 0 w 0 (λ e. omega arith) in
-      let mark : get_or ws 1 0 ≡ get_or words 1 0 = get_or-set_other words i 1 w 0 (λ e. omega arith) in
+      let first : get_or ws 0 0 ≡ get_or words 0 0 =
+      get_or-set_other words i 0 w 0 (λ e. omega arith) in
+      let mark : get_or ws 1 0 ≡ get_or words 1 0 =
+      get_or-set_other words i 1 w 0 (λ e. omega arith) in
       let behind : i ≡ 2 + (m + k) = omega arith in
       let seats : take m (drop 2 ws) ≡ take m (drop 2 words) =
       ap (λ (z : ℕ). take m (drop 2 (set words z w))) behind
-      ∙ (ap (take m) (drop-set-add 2 words (m + k) w) ∙ take-set-le m (drop 2 words) (m + k) w (omega arith)) in
+      ∙ (ap (take m) (drop-set-add 2 words (m + k) w)
+      ∙ take-set-le m (drop 2 words) (m + k) w (omega arith)) in
       let cells : map cell_of (drop (2 + m) ws) ≡ set (map cell_of (drop (2 + m) words)) k c =
       ap (λ (z : ℕ). map cell_of (drop (2 + m) (set words z w))) is
       ∙ (ap (map cell_of) (drop-set-add (2 + m) words k w)
-      ∙ (map-set cell_of (drop (2 + m) words) k w ∙ ap (λ z. set (map cell_of (drop (2 + m) words)) k z) shows)) in
+      ∙ (map-set cell_of (drop (2 + m) words) k w
+      ∙ ap (λ z. set (map cell_of (drop (2 + m) words)) k z) shows)) in
       λ z. record {
         claim_number = first z;
         mark_held = eqb (mark z % 2) 1;

@@ -1,5 +1,5 @@
--- The opening words with one seat that stands for every worker are the opening state of the core, and so
--- they are with the seats that it is split into.
+-- The opening words with one seat that stands for every worker are the opening state of the core,
+-- and so they are with the seats that it is split into.
 use Rattle.std.proofs.Common.{◌≡◌, ℕ, zero, suc, ◌+◌, ◌<◌, ◌≤◌, false, List, [], ◌∷◌, ◌++◌, length, map, take, drop, replicate, Some, sym, refl, ap, inl, subst, ◌∙◌, arith, append-nil, length-append}
 use Rattle.std.specs.Prelude.{slice_get}
 use Rattle.std.proofs.Math.ListN.{length-replicate}
@@ -36,7 +36,8 @@ words_open d workers views valid fresh =
     let seats : take (programme_count d) (d.fill ++ zeros) ≡ d.fill =
     ap (λ (m : ℕ). take m (d.fill ++ zeros)) long ∙ take-append_seam d.fill zeros in
     let past : drop (2 + programme_count d) (first_words d) ≡ zeros =
-    ap (λ (m : ℕ). drop m (first_words d)) (let e : 2 + programme_count d ≡ suc (suc (length d.fill)) = omega arith in e)
+    ap (λ (m : ℕ). drop m (first_words d))
+    (let e : 2 + programme_count d ≡ suc (suc (length d.fill)) = omega arith in e)
     ∙ drop-append_seam d.fill zeros in
     let cells = ap (map cell_of) past ∙ empty_cells (turn_count d) in
     λ k. record {
@@ -58,8 +59,8 @@ wide d valid =
     omega arith
 
 -- a table is made with a sound core state
-opens_with_first : (key : RoundKey) → IsValidDictatorship key.dict.value → 0 < key.workers → key.workers ≤ 64
-    → IsSoundTable key (table_opening (first_words key.dict.value) [] (first_of key))
+opens_with_first : (key : RoundKey) → IsValidDictatorship key.dict.value → 0 < key.workers
+    → key.workers ≤ 64 → IsSoundTable key (table_opening (first_words key.dict.value) [] (first_of key))
 opens_with_first key valid some few =
     let d = key.dict.value in
     let x = first_of key in
@@ -68,7 +69,9 @@ opens_with_first key valid some few =
       valid = valid;
       team = few;
       wide = wide d valid;
-      sound = subst (Sound d) (sym (words_open d key.workers (core_views (x ∷ [])) valid views)) (begins d key.workers valid);
+      sound =
+          let shown = words_open d key.workers (core_views (x ∷ [])) valid views in
+          subst (Sound d) (sym shown) (begins d key.workers valid);
       shares = sum_by-cons share_of x [] ∙ (let e : key.workers + 0 ≡ key.workers = omega arith in e);
       each = λ i y is.
           subst (Belongs key 0) (only x i y is.there) record {
@@ -77,8 +80,10 @@ opens_with_first key valid some few =
             wide = λ _. inl refl;
             behind = omega arith;
           };
-      apart = λ i j a c ai cj other. absurd (other (first x i a ai.there ∙ sym (first x j c cj.there)));
-      last = λ i j a c ai cj other. absurd (other (first x i a ai.there ∙ sym (first x j c cj.there)));
+      apart = λ i j a c ai cj other.
+          absurd (other (first x i a ai.there ∙ sym (first x j c cj.there)));
+      last = λ i j a c ai cj other.
+          absurd (other (first x i a ai.there ∙ sym (first x j c cj.there)));
     }
   where
     only : (x : SeatKnows) (i : ℕ) (y : SeatKnows) → slice_get (x ∷ []) i ≡ Some y → x ≡ y
@@ -89,6 +94,7 @@ opens_with_first key valid some few =
     first x zero y e = refl
     first x (suc i) y e = absurd (cc (e))
 
+-- the same for words that are known to be the opening words
 pub table_opens : (key : RoundKey) (words : List ℕ) → words ≡ first_words key.dict.value
     → IsValidDictatorship key.dict.value → 0 < key.workers → key.workers ≤ 64
     → IsSoundTable key (table_opening words [] (first_of key))
@@ -98,7 +104,8 @@ table_opens key words is valid some few =
 
 -- seats at the opening give the views of the opening
 pub new_views : (seats : List WorkSeat)
-    → ((k : ℕ) (me : WorkSeat) → slice_get seats k ≡ Some me → ((knows me).core ≡ fresh_view) × ((knows me).share ≡ 1))
+    → ((k : ℕ) (me : WorkSeat) → slice_get seats k ≡ Some me
+    → ((knows me).core ≡ fresh_view) × ((knows me).share ≡ 1))
     → core_views (map knows seats) ≡ replicate (length seats) fresh_view
 new_views [] new = refl
 new_views (x ∷ xs) new =
@@ -113,8 +120,10 @@ pub new_shares : (seats : List WorkSeat)
 new_shares [] new = refl
 new_shares (x ∷ xs) new =
     let a = new 0 x refl in
-    omega (arith, sum_by-cons (λ me. share_of (knows me)) x xs, new_shares xs (λ k me e. new (suc k) me e))
+    let sum = sum_by-cons (λ me. share_of (knows me)) x xs in
+    omega (arith, new_shares xs (λ k me e. new (suc k) me e))
 
+-- so words and seats together are the opening state
 pub opens : (round : SharedRound) (d : Dictatorship) (workers : ℕ) (seats : List WorkSeat)
     → IsValidDictatorship d → AllNew round seats → length seats ≡ workers
     → core_of d (first_words d) (core_views (map knows seats)) ≡ opening d workers
@@ -123,6 +132,7 @@ opens round d workers seats valid new count =
     (new_views seats (λ k me e. let a = new k me e in (a.fresh, a.share))
     ∙ ap (λ (n : ℕ). replicate n fresh_view) count)
 
+-- and the seats stand for all workers
 pub opens_shares : (round : SharedRound) (workers : ℕ) (seats : List WorkSeat) → AllNew round seats
     → length seats ≡ workers → shares_of seats ≡ workers
 opens_shares round workers seats new count = new_shares seats (λ k me e. (new k me e).share) ∙ count

@@ -8,6 +8,7 @@ use Rattle.word_rule.specs.Rounds.{knows, shares_of, IsNew, AllNew, IsOver, AllO
 use Rattle.word_rule.specs.declared.seat.SharedRound.{SharedRound}
 use Rattle.word_rule.specs.declared.seat.WorkSeat.{WorkSeat}
 
+-- the last of seats that are over, and the others
 pub over_last : (round : SharedRound) (l xs : List WorkSeat) (m : WorkSeat) → l ≡ xs ++ m ∷ []
     → AllOver round l → IsOver round m × AllOver round xs
 over_last round l xs m is all = (
@@ -15,6 +16,7 @@ over_last round l xs m is all = (
   λ k me e. all k me (ap (λ z. slice_get z k) is ∙ at_longer xs (m ∷ []) k me e),
 )
 
+-- their shares
 pub shares_last : (l xs : List WorkSeat) (m : WorkSeat) → l ≡ xs ++ m ∷ []
     → shares_of l ≡ (knows m).share + shares_of xs
 shares_last l xs m is =
@@ -31,14 +33,17 @@ shares_none l left n is none rest =
     let empty : left ≡ [] = rest ∙ ap (λ (k : ℕ). take (k - 1) l) none in
     ap (λ z. shares_of z) (is ∙ ap (λ (z : List WorkSeat). z ++ []) empty)
 
+-- one more seat at the opening
 pub new_snoc : (round : SharedRound) (l xs : List WorkSeat) (m : WorkSeat) → l ≡ xs ++ m ∷ []
     → AllNew round xs → IsNew round (length xs) m → AllNew round l
 new_snoc round l xs m is all mine k me e =
     ⊎_elim
     (λ (t : slice_get xs k ≡ Some me). all k me t)
-    (λ (t : (k ≡ length xs) × (m ≡ me)). subst (λ (z : ℕ × WorkSeat). IsNew round z.0 z.1) (λ i. (sym t.0 i, t.1 i)) mine)
+    (λ (t : (k ≡ length xs) × (m ≡ me)).
+    subst (λ (z : ℕ × WorkSeat). IsNew round z.0 z.1) (λ i. (sym t.0 i, t.1 i)) mine)
     (at_snoc xs m me k (ap (λ z. slice_get z k) (sym is) ∙ e))
 
+-- one more seat
 pub count_snoc : (l xs : List WorkSeat) (m : WorkSeat) → l ≡ xs ++ m ∷ [] → length l ≡ length xs + 1
 count_snoc l xs m is = ap (λ z. length z) is ∙ one xs
   where

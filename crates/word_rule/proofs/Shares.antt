@@ -1,6 +1,6 @@
--- A split and a join keep the rule. They move shares between seats; the views of the core stay those of
--- as many workers at the opening, or done, as before, so that each sum over the views stays, and what is
--- known of each view.
+-- A split and a join keep the rule. They move shares between seats; the views of the core stay those
+-- of as many workers at the opening, or done, as before, so that each sum over the views stays, and
+-- what is known of each view.
 use Rattle.std.proofs.Common.{◌≡◌, ℕ, zero, suc, ◌+◌, ◌-◌, ◌*◌, ◌/◌, ◌<◌, ◌≢◌, ◌⊎◌, Bool, true, false, List, [], ◌∷◌, ◌++◌, length, set, get_or, Some, None, sym, refl, ap, inl, inr, ⊎_elim, subst, ◌∙◌, add-mul, suc-mul, arith, length-set}
 use Rattle.std.specs.Prelude.{slice_get}
 use Rattle.std.specs.List.{sum_by}
@@ -10,13 +10,13 @@ use Rattle.market.specs.Dictatorships.{Dictatorship}
 use Rattle.interleaving_core.specs.declared.parts.Phase.{Phase}
 use Rattle.interleaving_core.specs.declared.parts.Phase.TheVariants.{Idle, Halted, Scan, Ready, Seated}
 use Rattle.interleaving_core.specs.Core.{View, Core, fresh_view}
-use Rattle.interleaving_core.specs.Sound.{bit, some_bit, is_claim_of, seated_by, holds, ends, claims_turn, seated, PhaseFits, ViewFits, Sound}
+use Rattle.interleaving_core.specs.Sound.{bit, some_bit, turn_bit, holder_seat_bit, hold_bit, done_bit, claim_bit, seat_bit, PhaseFits, ViewFits, Sound}
 use Rattle.interleaving_core.proofs.Places.{at_set, at_snoc, sum_set}
 use Rattle.interleaving_core.proofs.OwnTurns.{own_stays, own_nil}
 use Rattle.word_rule.specs.Views.{SeatKnows, ended_view, other_view, shared_views, core_views, kept_part, new_part, joined, spent_seat}
 use Rattle.word_rule.specs.Rule.{IsLive, Belongs, IsSoundTable, share_of, table_core}
 use Rattle.word_rule.specs.declared.rule.RoundKey.{RoundKey}
-use Rattle.word_rule.proofs.CoreViews.{there, other_there, Whose, whose, weight, sum_views, shared_sum, even_sum}
+use Rattle.word_rule.proofs.CoreViews.{there, live_there, other_there, Whose, whose, weight, sum_views, shared_sum, even_sum}
 use Rattle.word_rule.proofs.Keeps.{seat_fits}
 
 module _ (d : Dictatorship) (c : Core) (vs : List View) where
@@ -33,51 +33,60 @@ module _ (d : Dictatorship) (c : Core) (vs : List View) where
   refits : (count : ℕ) (v : View) → ViewFits d c count v → ViewFits d regrouped count v
   refits count v f =
       record {
-        drawn = f.drawn;
-        passed = f.passed;
-        met = f.met;
-        one_claim = f.one_claim;
-        one_debt = f.one_debt;
-        quiet = f.quiet;
-        past = f.past;
-        at_count = f.at_count;
-        phase = λ h is. phase_refits h.committed h.phase (f.phase h is);
+        one = f.one;
+        claim = λ x is.
+            let g = f.claim x is in
+            record { turn = g.turn; drawn = g.drawn; passed = g.passed; full = g.full; met = g.met };
+        hold = λ h is.
+            let g = f.hold h is in
+            record { committed = g.committed; phase = phase_refits h.committed h.phase g.phase };
         own = own_stays d c regrouped v.own v.claim (omega arith) (λ k j e. e) f.own;
+        past = f.past;
       }
 
   -- a sound state stays so where its views are others with the same sums
-  pub resound : (s : Sound d c) → sum_by holds vs ≡ sum_by holds c.views
-      → sum_by ends vs ≡ sum_by ends c.views
-      → ((k : ℕ) → sum_by (claims_turn k) vs ≡ sum_by (claims_turn k) c.views)
-      → ((p : ℕ) → sum_by (seated d p) vs ≡ sum_by (seated d p) c.views)
+  pub resound : (s : Sound d c) → sum_by hold_bit vs ≡ sum_by hold_bit c.views
+      → sum_by done_bit vs ≡ sum_by done_bit c.views
+      → ((k : ℕ) → sum_by (claim_bit k) vs ≡ sum_by (claim_bit k) c.views)
+      → ((p : ℕ) → sum_by (seat_bit d p) vs ≡ sum_by (seat_bit d p) c.views)
       → ((i : ℕ) (v : View) → slice_get vs i ≡ Some v → ViewFits d c s.count v)
       → Sound d regrouped
-  resound s same_holds same_ends same_claims same_seated each =
+  resound s same_hold same_done same_claim same_seat each =
       record {
         count = s.count;
-        within = s.within;
-        behind = s.behind;
-        free = s.free;
-        cells_count = s.cells_count;
-        seats_count = s.seats_count;
-        holders = same_holds ∙ s.holders;
-        below = s.below;
-        above = s.above;
-        seats = λ p l. let a = s.seats p l in let e = same_seated p in omega arith;
+        mark =
+            record {
+              within = s.mark.within;
+              behind = s.mark.behind;
+              free = s.mark.free;
+              holders = same_hold ∙ s.mark.holders;
+            };
+        cells = s.cells;
+        seats =
+            record {
+              each_programme = s.seats.each_programme;
+              counts = λ p l. let a = s.seats.counts p l in let e = same_seat p in omega arith;
+            };
         posts = s.posts;
-        claimed = λ k l m. same_claims k ∙ s.claimed k l m;
-        untouched = s.untouched;
-        few = let a = s.few in omega arith;
-        each = λ i v at. refits s.count v (each i v at);
+        claims =
+            record {
+              claimed = λ k l m. same_claim k ∙ s.claims.claimed k l m;
+              untouched = s.claims.untouched;
+              few = let a = s.claims.few in omega arith;
+            };
+        views = λ i v at. refits s.count v (each i v at);
       }
 
 -- the two parts of a split seat weigh what it weighed
 split_weight : (f : View → ℕ) (n more : ℕ) (v : View) → v ≡ fresh_view → n ≡ suc more → 0 < more
-    → sum_by f (shared_views 1 v) + sum_by f (shared_views more fresh_view) ≡ sum_by f (shared_views n v)
+    → sum_by f (shared_views 1 v) + sum_by f (shared_views more fresh_view)
+    ≡ sum_by f (shared_views n v)
 split_weight f n zero v is one l = absurd (omega arith)
 split_weight f n (suc m) v is one l =
     subst
-    (λ (z : View × ℕ). sum_by f (shared_views 1 z.0) + sum_by f (shared_views (suc m) fresh_view) ≡ sum_by f (shared_views z.1 z.0))
+    (λ (z : View × ℕ).
+    sum_by f (shared_views 1 z.0) + sum_by f (shared_views (suc m) fresh_view)
+    ≡ sum_by f (shared_views z.1 z.0))
     (λ i. (sym is i, sym one i))
     (let a = shared_sum f 0 fresh_view in
     let b = shared_sum f m fresh_view in
@@ -99,11 +108,13 @@ module _ (key : RoundKey) where
   -- each other view that a seat stands for fits as well
   other_fits : (s : Table) (h : IsSoundTable key s) (i : ℕ) (x : SeatKnows) → IsLive s.views i x
       → 1 < x.share → Fits s h (other_view x.core.done)
-  other_fits s h i x at more = let t = other_there s.views i x at more in h.sound.each t.0 (other_view x.core.done) t.1
+  other_fits s h i x at more =
+      let t = other_there s.views i x at more in
+      h.sound.views t.0 (other_view x.core.done) t.1
 
   -- a view of a seat from before fits
-  old_fits : (s : Table) (h : IsSoundTable key s) (i : ℕ) (x : SeatKnows) (v : View) → IsLive s.views i x
-      → (v ≡ x.core) ⊎ ((1 < x.share) × (v ≡ other_view x.core.done)) → Fits s h v
+  old_fits : (s : Table) (h : IsSoundTable key s) (i : ℕ) (x : SeatKnows) (v : View)
+      → IsLive s.views i x → (v ≡ x.core) ⊎ ((1 < x.share) × (v ≡ other_view x.core.done)) → Fits s h v
   old_fits s h i x v at which =
       ⊎_elim
       (λ (own : v ≡ x.core). subst (Fits s h) (sym own) (seat_fits key s h i x at))
@@ -111,6 +122,7 @@ module _ (key : RoundKey) where
       subst (Fits s h) (sym other.1) (other_fits s h i x at other.0))
       which
 
+  -- a seat at the opening may be split
   pub split_keeps : (id : ℕ) (x : SeatKnows) → x.core ≡ fresh_view → 1 < x.share
       → Splits (IsSoundTable key) id x (kept_part x) (new_part x)
   split_keeps id x fresh more s h at =
@@ -119,7 +131,7 @@ module _ (key : RoundKey) where
       let vs : List SeatKnows = set s.views id left ++ right ∷ [] in
       let m : ℕ = x.share - 1 in
       let up : x.share ≡ suc m = omega arith in
-      let mine : IsLive s.views id x = record { there = there s.views id x at; live = omega arith } in
+      let mine = live_there s.views id x at (omega arith) in
       let b = h.each id x mine in
       let not_done : x.core.done ≡ false = ap (λ (v : View). v.done) fresh in
       let fresh_fits : Fits s h fresh_view = subst (Fits s h) fresh (seat_fits key s h id x mine) in
@@ -130,18 +142,22 @@ module _ (key : RoundKey) where
       let p = sum_by-append (weight f) (set s.views id left) (right ∷ []) in
       let o = sum_by-cons (weight f) right [] in
       let q = sum_set (weight f) s.views id x left mine.there in
-      let r : weight f left + weight f right ≡ weight f x = split_weight f x.share m x.core fresh up (omega arith) in
+      let r : weight f left + weight f right ≡ weight f x =
+      split_weight f x.share m x.core fresh up (omega arith) in
       omega arith in
       let origin : (i : ℕ) (y : SeatKnows) → IsLive vs i y
-      → ((i ≡ id) × (left ≡ y)) ⊎ (((i ≢ id) × IsLive s.views i y) ⊎ ((i ≡ length s.views) × (right ≡ y))) =
+      → ((i ≡ id) × (left ≡ y))
+      ⊎ (((i ≢ id) × IsLive s.views i y) ⊎ ((i ≡ length s.views) × (right ≡ y))) =
       λ i y is.
       ⊎_elim
       (λ (p : slice_get (set s.views id left) i ≡ Some y).
       ⊎_elim
       (λ (q : (i ≡ id) × (left ≡ y)). inl q)
-      (λ (q : (i ≢ id) × (slice_get s.views i ≡ Some y)). inr (inl (q.0, record { there = q.1; live = is.live })))
+      (λ (q : (i ≢ id) × (slice_get s.views i ≡ Some y)).
+      inr (inl (q.0, record { there = q.1; live = is.live })))
       (at_set s.views id i left y p))
-      (λ (p : (i ≡ length (set s.views id left)) × (right ≡ y)). inr (inr (p.0 ∙ length-set s.views id left, p.1)))
+      (λ (p : (i ≡ length (set s.views id left)) × (right ≡ y)).
+      inr (inr (p.0 ∙ length-set s.views id left, p.1)))
       (at_snoc (set s.views id left) right y i is.there) in
       let fits_of : (v : View) → Whose vs v → Fits s h v =
       λ v w.
@@ -160,7 +176,8 @@ module _ (key : RoundKey) where
       (λ (p : (w.at ≢ id) × IsLive s.views w.at w.seat). old_fits s h w.at w.seat v p.1 w.which)
       (λ (p : (w.at ≡ length s.views) × (right ≡ w.seat)).
       ⊎_elim
-      (λ (own : v ≡ w.seat.core). subst (Fits s h) (ap (λ (z : SeatKnows). z.core) p.1 ∙ sym own) fresh_fits)
+      (λ (own : v ≡ w.seat.core).
+      subst (Fits s h) (ap (λ (z : SeatKnows). z.core) p.1 ∙ sym own) fresh_fits)
       (λ (other : (1 < w.seat.share) × (v ≡ other_view w.seat.core.done)).
       subst (Fits s h) (ap (λ (z : SeatKnows). other_view z.core.done) p.1 ∙ sym other.1) fresh_fits)
       w.which)
@@ -170,7 +187,8 @@ module _ (key : RoundKey) where
       let lower : (j : ℕ) (y : SeatKnows) → j ≢ id → IsLive s.views j y → y.number < x.number =
       λ j y other is. h.last id j x y mine is (λ q. other (sym q)) more not_done in
       let numbered : (i : ℕ) (y : SeatKnows) → IsLive vs i y
-      → ((i ≡ id) × (y.number ≡ x.number) × (y.share ≡ 1)) ⊎ (((i ≢ id) × IsLive s.views i y) ⊎ ((i ≡ length s.views) × (y.number ≡ x.number + 1))) =
+      → ((i ≡ id) × (y.number ≡ x.number) × (y.share ≡ 1))
+      ⊎ (((i ≢ id) × IsLive s.views i y) ⊎ ((i ≡ length s.views) × (y.number ≡ x.number + 1))) =
       λ i y is.
       ⊎_elim
       (λ p. inl (p.0, ap (λ (z : SeatKnows). z.number) (sym p.1), ap share_of (sym p.1)))
@@ -180,8 +198,8 @@ module _ (key : RoundKey) where
         valid = h.valid;
         team = h.team;
         wide = h.wide;
-        sound = resound d (table_core key s) (core_views vs) h.sound (sums holds) (sums ends)
-            (λ k. sums (claims_turn k)) (λ p. sums (seated d p)) (λ i v e. fits_of v (whose vs i v e));
+        sound = resound d (table_core key s) (core_views vs) h.sound (sums hold_bit) (sums done_bit)
+            (λ k. sums (claim_bit k)) (λ p. sums (seat_bit d p)) (λ i v e. fits_of v (whose vs i v e));
         shares =
             let p = sum_by-append share_of (set s.views id left) (right ∷ []) in
             let o = sum_by-cons share_of right [] in
@@ -286,18 +304,19 @@ module _ (key : RoundKey) where
       → ViewFits key.dict.value (table_core key s) h.sound.count ended_view
   ended_fits s h v f done =
       record {
-        drawn = λ x e. absurd (cc (e));
-        passed = λ x e. absurd (cc (e));
-        met = λ x e. absurd (cc (e));
-        one_claim = λ g e. absurd (cc (e));
-        one_debt = λ e. absurd (cc (e));
-        quiet = λ e. (refl, refl);
+        one =
+            record {
+              holder = λ g e. absurd (cc (e));
+              debtor = λ e. absurd (cc (e));
+              leaver = λ e. (refl, refl);
+            };
+        claim = λ x e. absurd (cc (e));
+        hold = λ g e. absurd (cc (e));
         past = λ e. f.past done;
-        at_count = λ g e. absurd (cc (e));
-        phase = λ g e. absurd (cc (e));
         own = own_nil key.dict.value (table_core key s);
       }
 
+  -- seats that are over may be joined
   pub join_keeps : (id : ℕ) (x : SeatKnows) (other : ℕ) (y : SeatKnows) → IsIdle x → IsIdle y
       → Joins (IsSoundTable key) id x other y (joined x y) spent_seat
   join_keeps id x other y o p s h at apart at_other =
@@ -315,7 +334,8 @@ module _ (key : RoundKey) where
       let b = h.each id x mine in
       let lx = o.live in
       let ly = p.live in
-      let idle_both : IsIdle both = record { live = omega arith; done = o.done; claim = o.claim; hold = o.hold } in
+      let idle_both : IsIdle both =
+      record { live = omega arith; done = o.done; claim = o.claim; hold = o.hold } in
       let own_fits = seat_fits key s h id x mine in
       let others_fit = ended_fits s h x.core own_fits o.done in
       let sums : (f : View → ℕ) → f x.core ≡ f ended_view → f y.core ≡ f ended_view
@@ -328,7 +348,8 @@ module _ (key : RoundKey) where
       let wx = idle_weight f x o ex in
       let wy = idle_weight f y p ey in
       let wb = idle_weight f both idle_both ex in
-      let add : (x.share + y.share) * f ended_view ≡ x.share * f ended_view + y.share * f ended_view =
+      let z = f ended_view in
+      let add : (x.share + y.share) * z ≡ x.share * z + y.share * z =
       add-mul x.share y.share (f ended_view) in
       omega arith in
       let origin : (i : ℕ) (z : SeatKnows) → IsLive vs i z
@@ -342,7 +363,8 @@ module _ (key : RoundKey) where
       (λ (t : (i ≢ other) × (slice_get mid i ≡ Some z)).
       ⊎_elim
       (λ (u : (i ≡ id) × (both ≡ z)). inl (u.0, sym u.1))
-      (λ (u : (i ≢ id) × (slice_get s.views i ≡ Some z)). inr (u.0, record { there = u.1; live = is.live }))
+      (λ (u : (i ≢ id) × (slice_get s.views i ≡ Some z)).
+      inr (u.0, record { there = u.1; live = is.live }))
       (at_set s.views id i both z t.1))
       (at_set mid other i spent_seat z is.there) in
       let fits_of : (v : View) → Whose vs v → ViewFits d (table_core key s) h.sound.count v =
@@ -351,7 +373,8 @@ module _ (key : RoundKey) where
       (λ (t : (w.at ≡ id) × (w.seat ≡ both)).
       ⊎_elim
       (λ (own : v ≡ w.seat.core).
-      subst (ViewFits d (table_core key s) h.sound.count) (sym (own ∙ ap (λ (u : SeatKnows). u.core) t.1)) own_fits)
+      subst (ViewFits d (table_core key s) h.sound.count)
+      (sym (own ∙ ap (λ (u : SeatKnows). u.core) t.1)) own_fits)
       (λ (rest : (1 < w.seat.share) × (v ≡ other_view w.seat.core.done)).
       subst (ViewFits d (table_core key s) h.sound.count)
       (sym (rest.1 ∙ ap other_view (ap (λ (u : SeatKnows). u.core.done) t.1 ∙ o.done))) others_fit)
@@ -363,10 +386,10 @@ module _ (key : RoundKey) where
         team = h.team;
         wide = h.wide;
         sound = resound d (table_core key s) (core_views vs) h.sound
-            (sums holds (ap some_bit o.hold) (ap some_bit p.hold))
-            (sums ends (ap bit o.done) (ap bit p.done))
-            (λ k. sums (claims_turn k) (ap (is_claim_of k) o.claim) (ap (is_claim_of k) p.claim))
-            (λ q. sums (seated d q) (ap (seated_by d q) o.hold) (ap (seated_by d q) p.hold))
+            (sums hold_bit (ap some_bit o.hold) (ap some_bit p.hold))
+            (sums done_bit (ap bit o.done) (ap bit p.done))
+            (λ k. sums (claim_bit k) (ap (turn_bit k) o.claim) (ap (turn_bit k) p.claim))
+            (λ q. sums (seat_bit d q) (ap (holder_seat_bit d q) o.hold) (ap (holder_seat_bit d q) p.hold))
             (λ i v e. fits_of v (whose vs i v e));
         shares =
             let r = sum_set share_of mid other y spent_seat in_mid in
@@ -390,7 +413,8 @@ module _ (key : RoundKey) where
             ⊎_elim
             (λ (u : (j ≡ id) × (c ≡ both)). differ (t.0 ∙ sym u.0))
             (λ (u : (j ≢ id) × IsLive s.views j c).
-            h.apart id j x c mine u.1 (λ q. u.0 (sym q)) (ap (λ (v : SeatKnows). v.number) (sym t.1) ∙ same))
+            h.apart id j x c mine u.1 (λ q. u.0 (sym q))
+            (ap (λ (v : SeatKnows). v.number) (sym t.1) ∙ same))
             (origin j c cj))
             (λ (t : (i ≢ id) × IsLive s.views i a).
             ⊎_elim
@@ -402,7 +426,9 @@ module _ (key : RoundKey) where
         last = λ i j a c ai cj differ wide unfinished.
             ⊎_elim
             (λ (t : (i ≡ id) × (a ≡ both)).
-            absurd (let is_done : a.core.done ≡ true = ap (λ (v : SeatKnows). v.core.done) t.1 ∙ o.done in cc))
+            absurd
+            (let is_done : a.core.done ≡ true = ap (λ (v : SeatKnows). v.core.done) t.1 ∙ o.done in
+            cc))
             (λ (t : (i ≢ id) × IsLive s.views i a).
             ⊎_elim
             (λ (u : (j ≡ id) × (c ≡ both)).

@@ -6,8 +6,8 @@ use Rattle.interleaving_core.specs.declared.parts.Phase.TheVariants.{Scan, Ready
 use Rattle.interleaving_core.specs.declared.parts.Holding.{Holding}
 use Rattle.interleaving_core.specs.Core.{View, turn_count, claim_at, hold_at}
 
--- what a seat knows as holder of the mark: nothing where it has no phase, and else its phase and the
--- number of committed turns
+-- what a seat knows as holder of the mark: nothing where it has no phase, and else its phase and
+-- the number of committed turns
 abbrev pub holding_of : Option Phase → ℕ → Option Holding
 holding_of None committed = None
 holding_of (Some phase) committed = hold_at committed phase

@@ -7,7 +7,7 @@ use Rattle.interleaving_core.specs.declared.parts.Phase.{Phase}
 use Rattle.interleaving_core.specs.declared.parts.Phase.TheVariants.{Idle, Scan, Ready, Seated}
 use Rattle.interleaving_core.specs.declared.parts.Holding.{Holding}
 use Rattle.interleaving_core.specs.Core.{View, turn_count, entry, quota_of, is_committed, hold_at}
-use Rattle.interleaving_core.specs.Events.{with_hold, took, looked, weighed_if}
+use Rattle.interleaving_core.specs.Events.{with_hold, after_take, phase_after_look, phase_after_weigh}
 use Rattle.word_rule.specs.Layout.{cell_of}
 use Rattle.word_rule.specs.Views.{SeatKnows, with_core}
 use Rattle.word_rule.specs.Copies.{IsInRange}
@@ -25,8 +25,8 @@ posted_place _ = None
 -- the seat after a try on the mark: where the mark was held, the try alone is made; else the mark is this
 -- seat's, which keeps the number found
 abbrev pub tried : SeatKnows → Bool → ℕ → SeatKnows
-tried x true number = with_core x (took x.core true number)
-tried x false number = record x { core = took x.core false number; took = number }
+tried x true number = with_core x (after_take x.core true number)
+tried x false number = record x { core = after_take x.core false number; took = number }
 
 -- a try on the mark; a seat with every share finds it free
 pub record TakeTold (m : SeatMe) (found : ℕ) (n : SeatMe) : Type 0 where
@@ -38,7 +38,7 @@ pub record TakeTold (m : SeatMe) (found : ℕ) (n : SeatMe) : Type 0 where
 -- the view after a look at the cell that this word shows
 abbrev pub look_by : View → Option Holding → ℕ → View
 look_by v None found = v
-look_by v (Some h) found = with_hold v (hold_at h.committed (looked (cell_of found)))
+look_by v (Some h) found = with_hold v (hold_at h.committed (phase_after_look (cell_of found)))
 
 -- a look: the cell found is not committed, and a done seat with every share finds it posted
 pub record LookTold (m : SeatMe) (found : ℕ) (n : SeatMe) : Type 0 where
@@ -50,7 +50,7 @@ pub record LookTold (m : SeatMe) (found : ℕ) (n : SeatMe) : Type 0 where
 
 -- the phase after weighing turn c's next entry: it is full, or has a seat left, by the count found
 abbrev pub weigh_phase : Dictatorship → ℕ → Phase → ℕ → Phase
-weigh_phase d c (Scan j) found = weighed_if (nat_lt found (quota_of d (entry d c j))) j
+weigh_phase d c (Scan j) found = phase_after_weigh (nat_lt found (quota_of d (entry d c j))) j
 weigh_phase d c phase found = phase
 
 -- the view after it

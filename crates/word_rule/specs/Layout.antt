@@ -1,5 +1,5 @@
--- What each word of a round's table holds: the claim number; the mark, as twice its number and one more
--- where it is held; a seat count for each programme; and a cell for each turn.
+-- What each word of a round's table holds: the claim number; the mark, as twice its number and one
+-- more where it is held; a seat count for each programme; and a cell for each turn.
 use Rattle.std.specs.Prelude.{ℕ, ◌+◌, ◌-◌, ◌/◌, ◌%◌, ◌==◌, Bool, true, false, List, ◌∷◌, ◌++◌, length, map, take, drop, replicate, slice_index}
 use Rattle.market.specs.Dictatorships.{Dictatorship}
 use Rattle.interleaving_core.specs.declared.parts.Cell.{Cell}
@@ -36,6 +36,7 @@ core_of d words views =
       views = views;
     }
 
--- the words at the opening: nothing is drawn, the mark is free, the fills are taken, each cell is empty
+-- the words at the opening: nothing is drawn, the mark is free, the seat counts are the fills, and
+-- each cell is empty
 abbrev pub first_words : Dictatorship → List ℕ
 first_words d = 0 ∷ 0 ∷ (d.fill ++ replicate (turn_count d) 0)

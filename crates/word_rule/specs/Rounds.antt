@@ -68,4 +68,5 @@ shares_of seats = sum_by (λ me. share_of (knows me)) seats
 -- whatever the table is while a seat knows this, no view of the core claims or holds
 abbrev pub IsAlone : RoundKey → SeatKnows → Type 0
 IsAlone key x = (s : State ℕ SeatKnows) (i : ℕ) → IsSoundTable key s → IsLive s.views i x
-    → (j : ℕ) (v : View) → slice_get (core_views s.views) j ≡ Some v → (v.claim ≡ None) × (v.hold ≡ None)
+    → (j : ℕ) (v : View) → slice_get (core_views s.views) j ≡ Some v
+    → (v.claim ≡ None) × (v.hold ≡ None)

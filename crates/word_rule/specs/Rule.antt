@@ -17,8 +17,8 @@ share_of x = x.share
 abbrev pub table_core : RoundKey → State ℕ SeatKnows → Core
 table_core key s = core_of key.dict.value s.words (core_views s.views)
 
--- a seat that is not spent is one of this round, and stands for more than one worker only at the opening
--- or once it is done; the mark's number is at least the one that it released last
+-- a seat that is not spent is one of this round, and stands for more than one worker only at the
+-- opening or once it is done; the mark's number is at least the one that it released last
 pub record Belongs (key : RoundKey) (mark_number : ℕ) (x : SeatKnows) : Type 0 where
   pub dict : x.dict ≡ key.dict.value
   pub workers : x.workers ≡ key.workers
@@ -38,7 +38,8 @@ pub record IsSoundTable (key : RoundKey) (s : State ℕ SeatKnows) : Type 0 wher
   pub sound : Sound key.dict.value (table_core key s)
   -- the seats stand for all workers, each is one of this round, and their numbers differ
   pub shares : sum_by share_of s.views ≡ key.workers
-  pub each : (i : ℕ) (x : SeatKnows) → IsLive s.views i x → Belongs key (slice_index s.words 1 / 2) x
+  pub each : (i : ℕ) (x : SeatKnows) → IsLive s.views i x
+      → Belongs key (slice_index s.words 1 / 2) x
   pub apart : (i j : ℕ) (x y : SeatKnows) → IsLive s.views i x → IsLive s.views j y → i ≢ j
       → x.number ≢ y.number
   -- a seat that is still to be split has the greatest number

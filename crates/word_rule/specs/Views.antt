@@ -3,9 +3,9 @@ use Rattle.std.specs.Prelude.{ℕ, zero, suc, ◌+◌, ◌-◌, Bool, true, fals
 use Rattle.market.specs.Dictatorships.{Dictatorship}
 use Rattle.interleaving_core.specs.Core.{View, fresh_view}
 
--- a worker's view of the core; the seat's number and its share, which is how many workers it stands for;
--- the number of its last take that found the mark free, and the number that its last release wrote; and
--- the round's dictatorship and number of workers
+-- a worker's view of the core; the seat's number and its share, which is how many workers it stands
+-- for; the number of its last take that found the mark free, and the number that its last release
+-- wrote; and the round's dictatorship and number of workers
 pub record SeatKnows : Type 0 where
   pub core : View
   pub number : ℕ

@@ -25,7 +25,8 @@ pub fn open_round(
     ensures seats { IfOk result (λ r. length r.1.items ≡ workers) }
     ensures new { IfOk result (λ r. AllNew r.0 r.1.items) }
     ensures shares { IfOk result (λ r. shares_of r.1.items ≡ workers) }
-    ensures opens { IfOk result (λ r. core_of dict.now (first_words dict.now) (core_views (map knows r.1.items))
+    ensures opens { IfOk result (λ r.
+        core_of dict.now (first_words dict.now) (core_views (map knows r.1.items))
         ≡ opening dict.now workers) }
 {
     let turns = dict.turns();
@@ -121,8 +122,8 @@ fn new_seat(seat: RoundSeat, number: u32) -> WorkSeat
     }
 }
 
-/// Joins all seats of a round into one, which then has every share: no other seat claims or holds the
-/// mark. Each seat is done, has no claim and does not hold the mark. It takes no memory.
+/// Joins all seats of a round into one, which then has every share: no other seat claims or holds
+/// the mark. Each seat is done, has no claim and does not hold the mark. It takes no memory.
 pub fn join_all(round: &SharedRound, mut seats: Vec<WorkSeat>) -> WorkSeat
     requires over { AllOver round.now seats.items }
     requires all { shares_of seats.items ≡ (key_of round.now).workers }

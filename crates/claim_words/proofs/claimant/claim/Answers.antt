@@ -5,4 +5,8 @@ use Rattle.claim_words.proofs.claimant.claim.Goals as goal
 pub fetch_add-found-requires : goal.fetch_add-found-requires
 fetch_add-found-requires c =
     let me = c.args.me.now in
-    (c.requires.seat.table, search rules, claim_allowed c.args.round.now.table.shared.key _ _ _ (one_share _ _ me.live me.narrow c.requires.may.2) c.requires.may)
+    let one = one_share _ _ me.live me.narrow c.requires.may.2 in (
+      c.requires.seat.table,
+      search rules,
+      claim_allowed c.args.round.now.table.shared.key _ _ _ one c.requires.may,
+    )

@@ -13,13 +13,19 @@ load-found-requires c =
     let list = c.list.ensures ∙ ap (λ d. list_at d x.turn) c.requires.dict in
     let programme = ap (λ l. slice_index_or l x.passed 0) list in
     let inside = next.programme in
-    let words = round.words_are in
-    (c.requires.seat.table, omega arith, read_allowed round.table.shared.key _ _ _ _ _ _ me.live me.narrow c.requires.seat.dict next.may (omega arith))
+    let words = round.words_are in (
+      c.requires.seat.table,
+      omega arith,
+      read_allowed round.table.shared.key _ _ _ _ _ _ me.live me.narrow c.requires.seat.dict
+          next.may (omega arith),
+    )
 
 pub quota-requires : goal.quota-requires
 quota-requires c =
     let x = c.in-Some.claim in
-    let next = next_entry c.args.round.now c.args.me.now x c.requires.seat c.in-Some.is c.requires.may in
+    let me = c.args.me.now in
+    let round = c.args.round.now in
+    let next = next_entry round me x c.requires.seat c.in-Some.is c.requires.may in
     let list = c.list.ensures ∙ ap (λ d. list_at d x.turn) c.requires.dict in
     let programme = ap (λ l. slice_index_or l x.passed 0) list in
     let inside = next.programme in
@@ -28,6 +34,9 @@ quota-requires c =
 
 pub overflow_add-me : goal.overflow_add-me
 overflow_add-me c =
-    let next = next_entry c.args.round.now c.args.me.now c.in-Some.claim c.requires.seat c.in-Some.is c.requires.may in
+    let x = c.in-Some.claim in
+    let me = c.args.me.now in
+    let round = c.args.round.now in
+    let next = next_entry round me x c.requires.seat c.in-Some.is c.requires.may in
     let short = next.short in
     omega arith

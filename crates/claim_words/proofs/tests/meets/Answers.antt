@@ -17,5 +17,9 @@ read_entry-requires-clause-may g c =
     record {
       turn = c.args.turn;
       place = 0;
-      allowed = (r.claim, subst (λ (d : Dictatorship). 0 < length (list_at d c.args.turn)) (sym dict) (listed c.args.turn r.turn));
+      allowed = (
+        r.claim,
+        subst (λ (d : Dictatorship). 0 < length (list_at d c.args.turn)) (sym dict)
+            (listed c.args.turn r.turn),
+      );
     }

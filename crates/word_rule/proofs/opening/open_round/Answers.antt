@@ -7,8 +7,9 @@ use Rattle.word_rule.proofs.opening.open_round.Goals as goal
 pub of_words-requires : goal.of_words-requires
 of_words-requires c =
     let kept = c.of.ensures in
-    let words = c.as_slice.ensures.value ∙ (c.in_ok-words.ensures {u = tt} ∙ ap first_words (sym kept)) in
-    table_opens _ _ words (subst IsValidDictatorship (sym kept) c.turns-turns.ensures.valid) c.requires.0 c.requires.1
+    let opening = c.in_ok-words.ensures {u = tt} ∙ ap first_words (sym kept) in
+    let valid = subst IsValidDictatorship (sym kept) c.turns-turns.ensures.valid in
+    table_opens _ _ (c.as_slice.ensures.value ∙ opening) valid c.requires.0 c.requires.1
 
 pub returns-clause-shares : goal.returns-clause-shares
 returns-clause-shares c = opens_shares _ _ _ c.split_all.ensures.new c.split_all.ensures.count

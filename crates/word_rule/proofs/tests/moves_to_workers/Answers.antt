@@ -12,7 +12,10 @@ seat_sync =
     let bytes : IsSend u8 = search sendable depth 20 in
     let sends : IsSend (the_row u8 view_row) =
     record {
-      owned = λ d vs. ((λ vss. (tt, ((λ uss. (tt, tt)), tt))), seat_keyless u8 bytes view_row.coded.code d.table_id d.id d.me);
+      owned = λ d vs. (
+        (λ vss. (tt, ((λ uss. (tt, tt)), tt))),
+        seat_keyless u8 bytes view_row.coded.code d.table_id d.id d.me,
+      );
       leaving = λ k f vs. tt;
     } in
     record { shared = λ d b o ν q. part_keyless (the_row u8 view_row) sends q d b o }

@@ -1,0 +1,62 @@
+use Rattle.std.proofs.Common.{Some, false, refl, arith}
+use Rattle.interleaving_core.specs.Events.{Claims}
+use Rattle.interleaving_core.proofs.Machines.{allowed, claims_small, has_room}
+use Rattle.interleaving_core.proofs.MachineEvents.{draws_turn, finds_no_turn}
+use Rattle.interleaving_core.proofs.state.CoreState.claim.Goals as goal
+
+pub overflow_add-self : goal.overflow_add-self
+overflow_add-self c = let small = claims_small c.self.inside c.self.invariant in omega arith
+
+pub invariant_of-self : goal.invariant_of-self
+invariant_of-self c =
+    let x = allowed c.self.inside _ _ _ _ Claims c.self.invariant c.self.view_is c.requires
+    c.index.ensures c.index_mut-me.ensures.value
+    (c.in_ok-may_claim.ensures c.self.inside.dict) in
+    (finds_no_turn c.self.inside _ _ _ refl x (omega arith) refl).kept
+
+pub returns-then-turn-turns : goal.returns-then-turn-turns
+returns-then-turn-turns c =
+    let x = allowed c.self.inside _ _ _ _ Claims c.self.invariant c.self.view_is c.requires
+    c.index.ensures c.index_mut-me.ensures.value
+    (c.in_ok-may_claim.ensures c.self.inside.dict) in
+    (finds_no_turn c.self.inside _ _ _ refl x (omega arith) refl).step _ c.self.view_is
+
+pub push_reserved-requires : goal.push_reserved-requires
+push_reserved-requires c =
+    let x = allowed c.self.inside _ _ _ _ Claims c.self.invariant c.self.view_is c.requires
+    c.index.ensures c.index_mut-me.ensures.value
+    (c.in_ok-may_claim.ensures c.self.inside.dict) in
+    let room = has_room c.self.inside c.args.worker c.index_mut-me.result.now c.self.invariant
+    x.there (omega arith) in
+    let long = c.index_mut-me.result.now.own.ok.0 in
+    omega arith
+
+pub invariant_of-self-2 : goal.invariant_of-self-2
+invariant_of-self-2 c =
+    let x = allowed c.self.inside _ _ _ _ Claims c.self.invariant c.self.view_is c.requires
+    c.index.ensures c.index_mut-me.ensures.value
+    (c.in_ok-may_claim.ensures c.self.inside.dict) in
+    let me = c.index_mut-me.result.now in
+    (draws_turn c.self.inside _ _ _ c.push_reserved.ensures.capacity x (omega arith)
+    (λ k. record {
+      claim = Some record { turn = c.self.inside.claim_number; passed = 0; met = false };
+      own = c.push_reserved.ensures.items k;
+      done = me.done;
+      owes = me.owes;
+      hold = me.hold;
+    })).kept
+
+pub returns : goal.returns
+returns c =
+    let x = allowed c.self.inside _ _ _ _ Claims c.self.invariant c.self.view_is c.requires
+    c.index.ensures c.index_mut-me.ensures.value
+    (c.in_ok-may_claim.ensures c.self.inside.dict) in
+    let me = c.index_mut-me.result.now in
+    (draws_turn c.self.inside _ _ _ c.push_reserved.ensures.capacity x (omega arith)
+    (λ k. record {
+      claim = Some record { turn = c.self.inside.claim_number; passed = 0; met = false };
+      own = c.push_reserved.ensures.items k;
+      done = me.done;
+      owes = me.owes;
+      hold = me.hold;
+    })).step _ c.self.view_is

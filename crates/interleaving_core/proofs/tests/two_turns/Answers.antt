@@ -1,0 +1,11 @@
+use Rattle.market.specs.Examples.{two_turns}
+use Rattle.market.proofs.Checks.{two_turns_valid, dictatorship_parts_valid, two_lists}
+use Rattle.interleaving_core.proofs.tests.two_turns.Goals as goal
+
+pub from_parts-requires : goal.from_parts-requires
+from_parts-requires c =
+    dictatorship_parts_valid two_turns c.in_ok-quota.quota.items c.in_ok-fill.fill.items
+    c.in_ok-lists.lists.items two_turns_valid
+    c.in_ok-quota.ensures.items c.in_ok-fill.ensures.items
+    (two_lists _ _ _ _ c.in_ok-lists.lists.items c.in_ok-lists.ensures.items c.in_ok-first.ensures
+    c.in_ok-second.ensures)

@@ -1,0 +1,70 @@
+// A claimant's events.
+
+ghost use Rattle.std.specs.Prelude.{◌<◌, length};
+ghost use Rattle.interleaving_core.specs.declared.events.CoreEvent.{CoreEvent};
+ghost use Rattle.interleaving_core.specs.Runs.{Answers};
+
+use crate::entries::has_seat;
+use crate::events::{NotNow, Told};
+use crate::parts::{Cell, Claiming, OwnTurn};
+use crate::state::CoreState;
+
+impl CoreState {
+    // Draws the next turn.
+    pub(super) fn claim(&mut self, worker: u32) -> Result<Told, NotNow>
+        requires { worker < length self.old.core.views }
+        ensures { Answers self.old worker CoreEvent.Claim self.new result }
+    {
+        self.workers[worker as usize].may_claim()?;
+        let turn = self.claim_number;
+        self.claim_number += 1;
+        let turns = self.dict.turns();
+        let me = &mut self.workers[worker as usize];
+        if turn >= turns {
+            me.done = true;
+            return Ok(Told::NoTurn);
+        }
+        me.claim = Some(Claiming {
+            turn,
+            passed: 0,
+            met: false,
+        });
+        me.own.push_reserved(OwnTurn { turn, place: None });
+        Ok(Told::Claimed(turn))
+    }
+
+    // Reads the next entry of the claimed turn's list.
+    pub(super) fn read(&mut self, worker: u32) -> Result<Told, NotNow>
+        requires { worker < length self.old.core.views }
+        ensures { Answers self.old worker CoreEvent.Read self.new result }
+    {
+        let claim = self.workers[worker as usize].may_read(&self.dict)?;
+        let open = has_seat(&self.dict, &self.seats, claim.turn, claim.passed);
+        let me = &mut self.workers[worker as usize];
+        if open {
+            me.claim = Some(Claiming {
+                turn: claim.turn,
+                passed: claim.passed,
+                met: true,
+            });
+            return Ok(Told::Met);
+        }
+        me.claim = Some(Claiming {
+            turn: claim.turn,
+            passed: claim.passed + 1,
+            met: false,
+        });
+        Ok(Told::Passed)
+    }
+
+    // Posts the claimed turn at the place found.
+    pub(super) fn post(&mut self, worker: u32) -> Result<Told, NotNow>
+        requires { worker < length self.old.core.views }
+        ensures { Answers self.old worker CoreEvent.Post self.new result }
+    {
+        let claim = self.workers[worker as usize].may_post(&self.dict)?;
+        self.cells[claim.turn as usize] = Cell::Posted(claim.passed);
+        self.workers[worker as usize].post(claim.passed);
+        Ok(Told::Posted(claim.passed))
+    }
+}

@@ -1,0 +1,174 @@
+// The protocol event by event over two turns of one seat each, and many orders of events over small
+// dictatorships. Each call that takes memory is made with ample memory.
+
+ghost use Rattle.std.specs.Prelude.{◌≡◌, length, IfOk};
+
+use crate::CoreEvent::{Claim, Look, Post, Read, Release, Seal, Seat, Take, Weigh};
+use crate::{Cell, CoreEvent, CoreState, Told};
+use market::{Dict, List};
+use std::alloc::{AllocError, Global};
+use std::process::Abort;
+use std::test::Fail;
+
+// A list of these numbers.
+fn list(alloc: Global, items: &[u32]) -> Result<List, AllocError>
+    ensures { IfOk result (λ l. l ≡ items.now) }
+{
+    Ok(List::from_vec(Vec::from_slice(alloc, items)?))
+}
+
+// Two programmes with a seat each. The first turn lists one of them, which the second lists first.
+fn two_turns(alloc: Global) -> Result<Dict, AllocError>
+    ensures { IfOk result (λ d. length d.lists ≡ 2) }
+{
+    let quota = vec![in alloc; 1, 1]?;
+    let fill = vec![in alloc; 0, 0]?;
+    let first = list(alloc, &[0])?;
+    let second = list(alloc, &[0, 1])?;
+    let lists = vec![in alloc; first, second]?;
+    Ok(Dict::from_parts(quota, fill, lists))
+}
+
+// Three turns with the same list, over two seats that are left.
+fn crowd(alloc: Global) -> Result<Dict, AllocError>
+    ensures { IfOk result (λ d. length d.lists ≡ 3) }
+{
+    let quota = vec![in alloc; 2, 1]?;
+    let fill = vec![in alloc; 1, 0]?;
+    let first = list(alloc, &[0, 1])?;
+    let second = list(alloc, &[0, 1])?;
+    let third = list(alloc, &[0, 1])?;
+    let lists = vec![in alloc; first, second, third]?;
+    Ok(Dict::from_parts(quota, fill, lists))
+}
+
+// A programme without a seat, and a turn that lists nothing.
+fn empty_places(alloc: Global) -> Result<Dict, AllocError>
+    ensures { IfOk result (λ d. length d.lists ≡ 3) }
+{
+    let quota = vec![in alloc; 0, 1]?;
+    let fill = vec![in alloc; 0, 0]?;
+    let first = list(alloc, &[0, 1])?;
+    let second = list(alloc, &[])?;
+    let third = list(alloc, &[1, 0])?;
+    let lists = vec![in alloc; first, second, third]?;
+    Ok(Dict::from_parts(quota, fill, lists))
+}
+
+// Makes these events of two workers in turn, and compares what each tells: `None` where it is not
+// allowed.
+fn play(rt: &impl Abort, state: &mut CoreState, script: &[(u32, CoreEvent, Option<Told>)])
+    requires { length state.old.core.views ≡ 2 }
+    ensures { state.new.dict ≡ state.old.dict }
+{
+    for (worker, event, told) in script {
+        assert!(rt; *worker < 2);
+        assert_eq!(rt; state.step(*worker, *event).ok(), *told);
+    }
+}
+
+// Both workers read before either posts, and the second turn is posted first. The holder commits in
+// the order of turns, and weighs each list anew: the second turn's posted place is taken by then.
+#[test]
+fn a_turn_posted_too_early_is_weighed_again(rt: HostRuntime) -> Result<(), Fail> {
+    let alloc = rt.alloc();
+    let mut state = CoreState::open(alloc, two_turns(alloc)?, 2)?;
+    let script = [
+        (0, Claim, Some(Told::Claimed(0))),
+        (1, Claim, Some(Told::Claimed(1))),
+        (0, Read, Some(Told::Met)),
+        (1, Read, Some(Told::Met)),
+        (1, Post, Some(Told::Posted(0))),
+        (0, Post, Some(Told::Posted(0))),
+        (0, Take, Some(Told::Took(0))),
+        (0, Look, Some(Told::Found(0))),
+        (0, Weigh, Some(Told::Room)),
+        (0, Seat, Some(Told::Seated(true))),
+        (0, Seal, Some(Told::Sealed(0))),
+        (0, Look, Some(Told::Found(0))),
+        (0, Weigh, Some(Told::Full)),
+        (0, Weigh, Some(Told::Room)),
+        (0, Seat, Some(Told::Seated(true))),
+        (0, Seal, Some(Told::Sealed(1))),
+        (0, Release, Some(Told::Released(2))),
+    ];
+    play(&rt, &mut state, &script);
+    assert_eq!(rt; state.cell(0), Cell::Committed(0));
+    assert_eq!(rt; state.cell(1), Cell::Committed(1));
+    assert_eq!(rt; state.committed(), 2);
+    Ok(())
+}
+
+// The second turn is posted while the first is still claimed: nothing can be committed yet.
+#[test]
+fn a_later_turn_waits_for_the_earlier_one(rt: HostRuntime) -> Result<(), Fail> {
+    let alloc = rt.alloc();
+    let mut state = CoreState::open(alloc, two_turns(alloc)?, 2)?;
+    let script = [
+        (0, Claim, Some(Told::Claimed(0))),
+        (1, Claim, Some(Told::Claimed(1))),
+        (1, Read, Some(Told::Met)),
+        (1, Post, Some(Told::Posted(0))),
+        (1, Take, Some(Told::Took(0))),
+        (1, Look, Some(Told::Nothing)),
+        (1, Release, Some(Told::Released(0))),
+    ];
+    play(&rt, &mut state, &script);
+    assert_eq!(rt; state.cell(0), Cell::Empty);
+    assert_eq!(rt; state.cell(1), Cell::Posted(0));
+    assert_eq!(rt; state.committed(), 0);
+    Ok(())
+}
+
+// At the opening nothing can be read, looked at or committed.
+#[test]
+fn nothing_is_allowed_out_of_turn(rt: HostRuntime) -> Result<(), Fail> {
+    let alloc = rt.alloc();
+    let mut state = CoreState::open(alloc, two_turns(alloc)?, 2)?;
+    play(
+        &rt,
+        &mut state,
+        &[(1, Seal, None), (0, Look, None), (0, Read, None)],
+    );
+    assert_eq!(rt; (state.cell(0), state.cell(1)), (Cell::Empty, Cell::Empty));
+    assert_eq!(rt; state.committed(), 0);
+    Ok(())
+}
+
+const EVENTS: [CoreEvent; 9] = [Claim, Read, Post, Take, Look, Weigh, Seat, Seal, Release];
+
+// Three workers make events by chance, until each turn is committed with its choice.
+fn play_by_chance(
+    rt: &impl Abort,
+    alloc: Global,
+    dict: Dict,
+    seed: u32,
+    choices: &[u32],
+) -> Result<(), AllocError>
+    requires { length dict.lists ≡ length choices.now }
+{
+    let mut state = CoreState::open(alloc, dict, 3)?;
+    let mut random = seed;
+    for _ in 0..4000 {
+        random = random.wrapping_mul(1_664_525).wrapping_add(1_013_904_223);
+        let worker = random >> 16 & 0xff;
+        let event = EVENTS[(random >> 24) as usize % 9];
+        let _ = state.step(worker % 3, event);
+    }
+    assert_eq!(rt; state.committed() as usize, choices.len());
+    for (turn, choice) in choices.iter().enumerate() {
+        assert_eq!(rt; state.cell(turn as u32), Cell::Committed(*choice));
+    }
+    Ok(())
+}
+
+#[test]
+fn every_order_of_events_commits_the_same_choices(rt: HostRuntime) -> Result<(), Fail> {
+    let alloc = rt.alloc();
+    for seed in 0..400 {
+        play_by_chance(&rt, alloc, two_turns(alloc)?, seed, &[0, 1])?;
+        play_by_chance(&rt, alloc, crowd(alloc)?, seed, &[0, 1, 2])?;
+        play_by_chance(&rt, alloc, empty_places(alloc)?, seed, &[1, 0, 2])?;
+    }
+    Ok(())
+}

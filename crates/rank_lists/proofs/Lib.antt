@@ -1,0 +1,13 @@
+pub mod Counts
+pub mod EarlierDuplicates
+pub mod FirstDuplicates
+pub mod Gathering
+pub mod Names
+pub mod RowGroups
+pub mod Sorting
+pub mod Standings
+pub mod Ranking
+pub mod TableLemmas
+pub mod Reading
+pub mod Lookups
+pub mod ShortForms

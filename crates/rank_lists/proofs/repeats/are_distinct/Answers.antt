@@ -1,0 +1,17 @@
+use Rattle.std.proofs.Common.{length, subst, IsPermutation}
+use Rattle.std.proofs.lemmas.List.Sorted.{IsNonDecreasingBy-from_sort}
+use Rattle.rank_lists.specs.Repeats.{NeighboursDiffer}
+use Rattle.rank_lists.proofs.Counts.{Rises}
+use Rattle.rank_lists.proofs.ShortForms.{short-distinct}
+use Rattle.rank_lists.proofs.repeats.are_distinct.Goals as goal
+
+pub returns : goal.returns
+returns c = λ differ.
+    let sorted = c.sort_unstable.new.self.items in
+    let up : Rises sorted = λ i j le lt. IsNonDecreasingBy-from_sort
+    (λ x. x) sorted c.sort_unstable.ensures.sorted i j 0 le lt in
+    let permutation = subst (λ short. IsPermutation short sorted) c.in_ok-short.ensures
+    c.sort_unstable.ensures.permutation in
+    let apart = subst (λ xs. NeighboursDiffer xs (length xs)) c.deref.ensures.value
+    (c.neighbours_differ.ensures differ) in
+    short-distinct c.args.placed.now sorted permutation up apart

@@ -1,0 +1,11 @@
+pub mod ByCandidate
+pub mod Duplicates
+pub mod Gathered
+pub mod Groups
+pub mod Placed
+pub mod RankRows
+pub mod RankTables
+pub mod Repeats
+pub mod RowsRead
+pub mod Soundness
+pub mod Turns

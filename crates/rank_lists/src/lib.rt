@@ -1,0 +1,22 @@
+//! The ranks file: the turn order of each score type and its ranks, or the file's first fault.
+#![tactic(auto)]
+
+// The turn orders and ranks of a file, and their look-ups.
+mod lists;
+// The rows of a file, gathered up to the first that has a fault of its own.
+mod gather;
+// A row by itself, and what it says.
+mod rank_row;
+mod row;
+// The first row that repeats what an earlier row says.
+mod duplicates;
+// Numbers in order, and the first of them that stands twice.
+mod repeats;
+// The turn order of a type, sorted from the ranks given in it.
+mod turns;
+// The ranks of each type by candidate.
+mod by_candidate;
+#[cfg(test)]
+mod tests;
+
+pub use lists::{RankLists, RankParts};

@@ -1,0 +1,140 @@
+// The turn orders and ranks of a file, and their look-ups.
+
+ghost use Rattle.std.specs.Prelude.{◌≡◌, ◌^◌, ◌<◌, ◌≤◌, length, IfOk};
+ghost use Rattle.record_files.specs.FirstFaults.{IsTableRead};
+ghost use Rattle.rank_lists.specs.RankRows.{ranks_fault};
+ghost use Rattle.rank_lists.specs.RankTables.{ranks_table, table_with, order_at, rank_at};
+ghost use Rattle.rank_lists.specs.Soundness.{IsSound};
+
+use crate::by_candidate::tables_by_candidate;
+use crate::duplicates::first_duplicate;
+use crate::gather::{Gathered, RankRows, gather};
+use crate::turns::{AllTurns, all_turns};
+use market::List;
+use place_base::{Finder, TypeFinder};
+use record_files::TableStop;
+use std::alloc::{AllocError, Global};
+use std::marker::Model;
+use std::thread::Threads;
+
+/// The turn order of each score type and the ranks in it.
+///
+/// Contracts see it as the orders and the ranks of all types, which always hold distinct candidates
+/// and strictly rising ranks.
+#[derive(Drop)]
+pub struct RankLists {
+    candidates: u32,
+    orders: Vec<List>,
+    ranks: Vec<List>,
+    // For each type the rank of each candidate, 0 for none.
+    by_candidate: Vec<List>,
+}
+
+impl Model for RankLists {
+    ghost use Rattle.rank_lists.specs.RankTables.{RankTable, table_with};
+    ghost use Rattle.rank_lists.specs.ByCandidate.{HasTables};
+
+    ghost Value = { RankTable };
+
+    ghost view = { λ l. table_with l.candidates l.orders.items l.ranks.items };
+
+    ghost invariant = { λ l. HasTables (table_with l.candidates l.orders.items l.ranks.items) l.by_candidate.items };
+}
+
+/// The turn order of each type and the ranks in it, as a market takes them.
+#[derive(Drop)]
+pub struct RankParts {
+    pub orders: Vec<List>,
+    pub ranks: Vec<List>,
+}
+
+impl RankLists {
+    /// The turn orders and ranks of a file beside the names of the types and the numbers of the
+    /// candidates, or the file's first fault.
+    ///
+    /// The file is read in at most so many pieces, 1 to 64; the result does not depend on it. Rows
+    /// of unknown types and candidates only take part in the checks for duplicates.
+    pub fn read<R: Threads, T: TypeFinder, C: Finder>(
+        _rt: &R,
+        alloc: Global,
+        bytes: &[u8],
+        _pieces: u32,
+        types: &T,
+        candidates: &C,
+    ) -> Result<RankLists, TableStop>
+        requires size { length bytes.now ≤ 2 ^ 30 }
+        requires pieces { (1 ≤ _pieces) × (_pieces ≤ 64) }
+        ensures { IsTableRead (ranks_fault bytes.now)
+            (ranks_table (T.names types.now) (C.numbers candidates.now) bytes.now) result }
+    {
+        let Gathered { rows, stop } = gather(alloc, bytes, types)?;
+        let RankRows {
+            candidates: by_candidate,
+            ranks: by_rank,
+            given,
+        } = rows;
+        let Ok(duplicate) = first_duplicate(alloc, by_candidate, by_rank) else {
+            return Err(TableStop::Memory);
+        };
+        if let Some(duplicate) = duplicate {
+            return Err(TableStop::Fault(duplicate.fault(bytes)));
+        }
+        if let Some(fault) = stop {
+            return Err(TableStop::Fault(fault));
+        }
+        let Ok(turns) = all_turns(alloc, given, candidates) else {
+            return Err(TableStop::Memory);
+        };
+        match RankLists::of_turns(alloc, candidates.count(), turns) {
+            Ok(lists) => Ok(lists),
+            Err(_) => Err(TableStop::Memory),
+        }
+    }
+
+    // The lists of turn orders of so many candidates.
+    fn of_turns(alloc: Global, candidates: u32, turns: AllTurns) -> Result<RankLists, AllocError>
+        requires { IsSound (table_with candidates turns.orders.items turns.ranks.items) }
+        ensures { IfOk result (λ lists. lists
+            ≡ table_with candidates turns.orders.items turns.ranks.items) }
+    {
+        let by_candidate = tables_by_candidate(alloc, candidates, &turns.orders, &turns.ranks)?;
+        Ok(RankLists {
+            candidates,
+            orders: turns.orders,
+            ranks: turns.ranks,
+            by_candidate,
+        })
+    }
+
+    /// The candidates with a rank in a type, by rising rank.
+    pub fn turn_order(&self, kind: u32) -> &[u32]
+        requires { kind < length self.now.orders }
+        ensures { result.now ≡ order_at self.now kind }
+    {
+        self.orders[kind as usize].items()
+    }
+
+    /// The rank of a candidate in a type, or `None` where the candidate has none.
+    pub fn rank_of(&self, kind: u32, candidate: u32) -> Option<u32>
+        requires kind { kind < length self.now.orders }
+        requires candidate { candidate < self.now.candidates }
+        ensures { result ≡ rank_at self.now kind candidate }
+    {
+        let rank = self.by_candidate[kind as usize].items()[candidate as usize];
+        if rank == 0 { None } else { Some(rank) }
+    }
+
+    /// Gives the turn orders and ranks to a market, without a copy.
+    pub fn into_parts(self) -> RankParts
+        ensures orders { result.orders.items ≡ self.orders }
+        ensures ranks { result.ranks.items ≡ self.ranks }
+
+        // They meet what a market asks of them.
+        ensures sound { IsSound self }
+    {
+        RankParts {
+            orders: self.orders,
+            ranks: self.ranks,
+        }
+    }
+}

@@ -1,0 +1,132 @@
+// The turn order of one type, sorted from the ranks given in it.
+
+ghost use Rattle.std.specs.Prelude.{◌≡◌, ◌+◌, ◌*◌, ◌^◌, ◌<◌, ◌/◌, ◌%◌, ◌++◌, ◌∷◌, [], map, OnOk, IfOk};
+ghost use Rattle.rank_lists.specs.Turns.{AreTurns, AreAllTurns, known_keys};
+
+use crate::rank_row::RankRow;
+use market::List;
+use place_base::Finder;
+use std::alloc::{AllocError, Global};
+use std::marker::Model;
+
+// More than the number of any candidate, behind which a rank stands in the keys of the file.
+const NUMBERS: u64 = 1 << 37;
+
+// More than any index, behind which a rank stands in the keys that are sorted.
+const INDEXES: u64 = 1 << 32;
+
+/// The ranks given in one type, each with the number of its candidate behind it, in file order.
+#[derive(Drop)]
+pub(crate) struct GivenRanks {
+    keys: Vec<u64>,
+}
+
+impl Model for GivenRanks {
+    ghost use Rattle.std.specs.Prelude.{ℕ, List};
+
+    ghost Value = { List ℕ };
+
+    ghost view = { λ g. g.keys.items };
+}
+
+/// The candidates of one type in turn order, and their ranks.
+#[derive(Drop)]
+pub(crate) struct Turns {
+    pub(crate) order: List,
+    pub(crate) ranks: List,
+}
+
+impl GivenRanks {
+    /// No ranks.
+    pub(crate) fn new(alloc: Global) -> GivenRanks
+        ensures { result ≡ [] }
+    {
+        GivenRanks {
+            keys: Vec::new(alloc),
+        }
+    }
+
+    /// Adds the rank of a row.
+    pub(crate) fn push(&mut self, row: &RankRow) -> Result<(), AllocError>
+        ensures { OnOk result (self.new
+            ≡ self.old ++ (row.now.rank * 2 ^ 37 + row.now.candidate) ∷ []) }
+    {
+        self.keys
+            .push(u64::from(row.rank) * NUMBERS + row.candidate)?;
+        Ok(())
+    }
+
+    /// The turn order of the known candidates: rising ranks.
+    pub(crate) fn into_turns<C: Finder>(
+        self,
+        alloc: Global,
+        candidates: &C,
+    ) -> Result<Turns, AllocError>
+        ensures { IfOk result (λ turns.
+            AreTurns (known_keys (C.numbers candidates.now) self) turns.order turns.ranks) }
+    {
+        let mut keys = known(alloc, &self.keys, candidates)?;
+        keys.sort_unstable();
+        let order = List::from_vec(candidates_of(alloc, &keys)?);
+        let ranks = List::from_vec(ranks_of(alloc, &keys)?);
+        Ok(Turns { order, ranks })
+    }
+}
+
+// The ranks of known candidates, each with the candidate's index behind it.
+fn known<C: Finder>(alloc: Global, keys: &[u64], candidates: &C) -> Result<Vec<u64>, AllocError>
+    ensures { IfOk result (λ known. known.items ≡ known_keys (C.numbers candidates.now) keys.now) }
+{
+    let mut known = Vec::with_capacity(alloc, keys.len())?;
+    for key in keys {
+        let Some(index) = candidates.find(*key % NUMBERS) else {
+            continue;
+        };
+        known.push(*key / NUMBERS * INDEXES + u64::from(index))?;
+    }
+    Ok(known)
+}
+
+/// The turn orders of all types, and the ranks in them.
+#[derive(Drop)]
+pub(crate) struct AllTurns {
+    pub(crate) orders: Vec<List>,
+    pub(crate) ranks: Vec<List>,
+}
+
+/// The turn order of each type.
+pub(crate) fn all_turns<C: Finder>(
+    alloc: Global,
+    given: Vec<GivenRanks>,
+    candidates: &C,
+) -> Result<AllTurns, AllocError>
+    ensures { IfOk result (λ all.
+        AreAllTurns (C.numbers candidates.now) given.items all.orders.items all.ranks.items) }
+{
+    let mut orders = Vec::with_capacity(alloc, given.len())?;
+    let mut ranks = Vec::with_capacity(alloc, given.len())?;
+    for of_type in given {
+        let turns = of_type.into_turns(alloc, candidates)?;
+        orders.push(turns.order)?;
+        ranks.push(turns.ranks)?;
+    }
+    Ok(AllTurns { orders, ranks })
+}
+
+// The candidates of keys.
+fn candidates_of(alloc: Global, keys: &[u64]) -> Result<Vec<u32>, AllocError>
+    ensures { IfOk result (λ order. order.items ≡ map (λ key. key % 4294967296) keys.now) }
+{
+    keys.iter()
+        .map(|key| (*key % INDEXES) as u32)
+        .collect(alloc)
+}
+
+// The ranks of keys.
+fn ranks_of(alloc: Global, keys: &[u64]) -> Result<Vec<u32>, AllocError>
+    ensures { IfOk result (λ ranks. ranks.items ≡ map (λ key. key / 4294967296) keys.now) }
+{
+    keys.iter()
+        .map(|key| (*key / INDEXES) as u32)
+        .collect(alloc)
+}
