@@ -16,7 +16,7 @@ use Rattle.word_rule.specs.Rule.{IsSoundTable, share_of, table_core}
 use Rattle.word_rule.specs.Steps.{SeatMe, read_by, AreEarlier, ClaimTold, ReadTold, PostTold}
 use Rattle.word_rule.specs.declared.rule.RoundKey.{RoundKey}
 use Rattle.word_rule.proofs.CoreViews.{live_there, place, weight, sum_views, shared_sum}
-use Rattle.word_rule.proofs.Words.{cell_posted, seat_word, claim_word, cell_word}
+use Rattle.word_rule.proofs.Layouts.{cell_posted, seat_word, claim_word, cell_word}
 use Rattle.word_rule.proofs.Keeps.{same_seat, live_after, seat_in_range, seat_fits, event_keeps}
 
 -- no seat gives more done views than its share

@@ -1,8 +1,11 @@
 pub mod CoreViews
-pub mod Words
+pub mod Layouts
+pub mod MarkWords
 pub mod Keeps
 pub mod Claimant
+pub mod Holder
 pub mod Shares
 pub mod Openings
 pub mod Alone
+pub mod Endings
 pub mod Seats

@@ -9,5 +9,9 @@ pub mod Copies
 pub mod Rule
 -- what each atomic step of a claimant tells
 pub mod Steps
+-- what each atomic step of the mark's holder tells
+pub mod Holder
 -- a round and its seats, as clauses speak of them
 pub mod Rounds
+-- what the words of a round that is over show
+pub mod Closing

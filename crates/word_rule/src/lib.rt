@@ -13,10 +13,16 @@ mod rule;
 mod seat;
 // The opening of a round, and the joining of its seats.
 mod opening;
+// The end of a round, and the choices that its words show.
+mod closing;
+// The kinds of atomic step of the mark's holder.
+mod mark_steps;
 #[cfg(test)]
 mod tests;
 
+pub use closing::{Words, close_round};
 pub use interleaving_core::{Claiming as ClaimCopy, Phase as PhaseCopy};
+pub use mark_steps::{LookStep, ReleaseStep, SealStep, SeatStep, TakeStep, WeighStep};
 pub use opening::{join_all, open_round};
 pub use rule::{
     ClaimStep, PostStep, ReadStep, RoundKey, RoundRule, RoundSeat, RoundTable, SeatView, ShareMove,

@@ -1,0 +1,5 @@
+-- The definitions: when each call may be made, and what it does.
+-- the six calls of the mark's holder
+pub mod Book
+-- the call that takes, commits and releases
+pub mod Prefix

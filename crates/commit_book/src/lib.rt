@@ -1,0 +1,14 @@
+//! The commit book: whoever takes the mark commits posted turns, in the order of turns, each at the place
+//! that its weighing finds, and gives the mark back once the next turn is not posted.
+//!
+//! Each call on the mark is one atomic operation on one shared word, and one event of the core. What it
+//! answers is told by the word that it finds at that step, whatever other workers do before and after.
+#![tactic(auto)]
+
+// The six calls of the mark's holder.
+mod book;
+// The call that takes the mark, commits posted turns and gives the mark back.
+mod prefix;
+
+pub use book::{look, release, seal, seat, take, weigh};
+pub use prefix::commit_prefix;

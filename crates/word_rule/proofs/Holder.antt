@@ -1,0 +1,358 @@
+-- The holder's atomic steps keep the rule: a try on the mark, a look, a weighing, a seat taken, a commit
+-- and a release are each their event. A seat with every share has no other beside it, so it finds the
+-- mark free; and once it is done it finds each turn that is not committed posted.
+use Rattle.std.proofs.Common.{◌≡◌, ℕ, ◌+◌, ◌*◌, ◌/◌, ◌%◌, ◌^◌, ◌<◌, ◌≤◌, ◌⊎◌, Bool, true, false, List, length, set, get_or, bit_or, nat_lt, nat_le, eqb, ne_eqb, Some, None, IsSome, sym, refl, ap, inl, inr, ⊎_elim, subst, ◌∙◌, arith, length-set, get_or-set_same, get_or-set_other}
+use Rattle.std.specs.Prelude.{slice_get}
+use Rattle.std.proofs.lemmas.List.{set-get_or}
+use Rattle.std.proofs.Math.Nat.{mod-eq_of_lt}
+use mathlib.Core.Logic.{dite}
+use native.Mathlib.Decide.{ℕ_discrete}
+use Rattle.atomic_table.specs.Table.{State, keeps, Allows}
+use Rattle.market.specs.Dictatorships.{Dictatorship}
+use Rattle.interleaving_core.specs.declared.parts.Cell.{Cell}
+use Rattle.interleaving_core.specs.declared.parts.Cell.TheVariants.{Empty, Posted, Committed}
+use Rattle.interleaving_core.specs.declared.parts.Phase.{Phase}
+use Rattle.interleaving_core.specs.declared.parts.Phase.TheVariants.{Idle, Seated}
+use Rattle.interleaving_core.specs.Core.{View, turn_count, entry, quota_of, seats_of, cell_at, is_committed, hold_at}
+use Rattle.interleaving_core.specs.Events.{Action, Takes, Looks, Weighs, Seats, Seals, Releases, Allowed, with_hold, after_take, phase_after_look, phase_after_weigh, after}
+use Rattle.interleaving_core.specs.Sound.{bit, some_bit, empty_bit, turn_bit, hold_bit, claim_bit}
+use Rattle.market.proofs.Turns.{taken-le-quota}
+use Rattle.interleaving_core.proofs.Places.{sum_zero, terms_le}
+use Rattle.interleaving_core.proofs.Holder.{seats_now}
+use Rattle.word_rule.specs.Layout.{cell_of, core_of, programme_count}
+use Rattle.word_rule.specs.Views.{SeatKnows, with_core, other_view, core_views}
+use Rattle.word_rule.specs.Rule.{IsLive, IsSoundTable, share_of, table_core}
+use Rattle.word_rule.specs.Steps.{SeatMe}
+use Rattle.word_rule.specs.Holder.{is_odd, posted_place, tried, TakeTold, look_by, LookTold, weigh_by, WeighTold, seat_by, SeatTold, seal_by, SealTold, released_with, ReleaseTold}
+use Rattle.word_rule.specs.declared.rule.RoundKey.{RoundKey}
+use Rattle.word_rule.proofs.CoreViews.{there, place, at_place, whose}
+use Rattle.word_rule.proofs.Layouts.{seat_word, cell_word}
+use Rattle.word_rule.proofs.MarkWords.{cell_committed, or_one, cell_read, mark_word, count_word}
+use Rattle.word_rule.proofs.Keeps.{IsSameSeat, live_after, seat_in_range, seat_fits, table_after, event_keeps}
+
+tried_core : (x : SeatKnows) (b : Bool) (n : ℕ) → (tried x b n).core ≡ after_take x.core b n
+tried_core x true n = refl
+tried_core x false n = refl
+
+tried_released : (x : SeatKnows) (b : Bool) (n : ℕ) → (tried x b n).released ≡ x.released
+tried_released x true n = refl
+tried_released x false n = refl
+
+tried_same : (x : SeatKnows) (b : Bool) (n : ℕ) → (1 < x.share → x.core.done ≡ true)
+    → IsSameSeat x (tried x b n)
+tried_same x true n alone =
+    record { number = refl; share = refl; dict = refl; workers = refl; alone = λ more. (alone more, alone more) }
+tried_same x false n alone =
+    record { number = refl; share = refl; dict = refl; workers = refl; alone = λ more. (alone more, alone more) }
+
+-- a seat with another view that is done as before
+same_with : (x : SeatKnows) (v : View) → v.done ≡ x.core.done → (1 < x.share → x.core.done ≡ true)
+    → IsSameSeat x (with_core x v)
+same_with x v done alone =
+    record { number = refl; share = refl; dict = refl; workers = refl; alone = λ more. (alone more, done ∙ alone more) }
+
+bit_zero : (b : Bool) → bit b ≡ 0 → b ≡ false
+bit_zero true e = absurd (omega arith)
+bit_zero false e = refl
+
+others_free : (b : Bool) → (other_view b).hold ≡ None
+others_free true = refl
+others_free false = refl
+
+others_unclaimed : (b : Bool) → (other_view b).claim ≡ None
+others_unclaimed true = refl
+others_unclaimed false = refl
+
+is_posted : (c : Cell) → empty_bit c ≡ 0 → is_committed c ≡ false → IsSome (posted_place c)
+is_posted Empty e f = absurd (omega arith)
+is_posted (Posted j) e f = refl
+is_posted (Committed j) e f = absurd (cc (f))
+
+module _ (key : RoundKey) where
+  abbrev d : Dictatorship
+  d = key.dict.value
+
+  abbrev Table : Type 0
+  Table = State ℕ SeatKnows
+
+  -- each view of the core is of a seat with every share: its own, or another that it stands for
+  all_mine : (s : Table) (h : IsSoundTable key s) (id : ℕ) (x : SeatKnows) → IsLive s.views id x
+      → x.share ≡ key.workers → (j : ℕ) (v : View) → slice_get (core_views s.views) j ≡ Some v
+      → (v ≡ x.core) ⊎ (v ≡ other_view x.core.done)
+  all_mine s h id x live every j v in_core =
+      let w = whose s.views j v in_core in
+      dite (ℕ_discrete w.at id)
+      (λ here.
+      let same : x ≡ w.seat = let p = live.there in let q = w.live.there in let r = ap (slice_get s.views) here in cc (p, q, r) in
+      ⊎_elim
+      (λ (own : v ≡ w.seat.core). inl (own ∙ ap (λ (z : SeatKnows). z.core) (sym same)))
+      (λ (other : (1 < w.seat.share) × (v ≡ other_view w.seat.core.done)).
+      inr (other.1 ∙ ap (λ (z : SeatKnows). other_view z.core.done) (sym same)))
+      w.which)
+      (λ apart.
+      absurd
+      (let t = terms_le share_of s.views id w.at x w.seat apart live.there w.live.there in
+      let all = h.shares in
+      let l = w.live.live in
+      omega arith))
+
+  -- so it finds the mark free where it does not hold it
+  pub free_with_all : (s : Table) (h : IsSoundTable key s) (id : ℕ) (x : SeatKnows) → IsLive s.views id x
+      → x.share ≡ key.workers → x.core.hold ≡ None → is_odd (get_or s.words 1 0) ≡ false
+  free_with_all s h id x live every hold =
+      bit_zero (is_odd (get_or s.words 1 0))
+      (sym h.sound.mark.holders
+      ∙ sum_zero hold_bit (core_views s.views) (λ j v e.
+      ⊎_elim
+      (λ (own : v ≡ x.core). ap hold_bit own ∙ ap some_bit hold)
+      (λ (other : v ≡ other_view x.core.done). ap hold_bit other ∙ ap some_bit (others_free x.core.done))
+      (all_mine s h id x live every j v e)))
+
+  -- and once it is done, each turn is posted that is not committed
+  posted_with_all : (s : Table) (h : IsSoundTable key s) (id : ℕ) (x : SeatKnows) → IsLive s.views id x
+      → x.share ≡ key.workers → x.core.done ≡ true → (k : ℕ) → k < turn_count d → h.sound.count ≤ k
+      → IsSome (posted_place (cell_at (table_core key s) k))
+  posted_with_all s h id x live every done k inside left =
+      let fit = seat_fits key s h id x live in
+      let past = fit.past done in
+      let none = sum_zero (claim_bit k) (core_views s.views) (λ j v e.
+      ⊎_elim
+      (λ (own : v ≡ x.core). ap (claim_bit k) own ∙ ap (turn_bit k) (fit.one.leaver done).0)
+      (λ (other : v ≡ other_view x.core.done).
+      ap (claim_bit k) other ∙ ap (turn_bit k) (others_unclaimed x.core.done))
+      (all_mine s h id x live every j v e)) in
+      is_posted (cell_at (table_core key s) k)
+      (sym (h.sound.claims.claimed k inside (omega arith)) ∙ none) (h.sound.cells.above k left)
+
+  -- a step that leaves the mark's word keeps the rule where it is an event of the core
+  mark_stays : (s : Table) (h : IsSoundTable key s) (id : ℕ) (x y : SeatKnows) (words : List ℕ) (a : Action)
+      → IsLive s.views id x → IsSameSeat x y → Allowed d x.core a → length words ≡ length s.words
+      → core_of d words (set (core_views s.views) (place s.views id) y.core) ≡ after d (table_core key s) (place s.views id) x.core a
+      → get_or words 1 0 / 2 ≡ get_or s.words 1 0 / 2 → y.released ≡ x.released
+      → IsSoundTable key (table_after key s id y words)
+  mark_stays s h id x y words a live same may long leads mark told =
+      let behind = (h.each id x live).behind in
+      event_keeps key s h id x y words a live same may long leads (omega arith) (omega arith)
+
+  -- so does a load
+  load_keeps : (s : Table) (h : IsSoundTable key s) (id i : ℕ) (x : SeatKnows) (v : View) (a : Action)
+      → IsLive s.views id x → IsSameSeat x (with_core x v) → Allowed d x.core a
+      → core_of d s.words (set (core_views s.views) (place s.views id) v) ≡ after d (table_core key s) (place s.views id) x.core a
+      → IsSoundTable key (table_after key s id (with_core x v) (set s.words i (get_or s.words i 0)))
+  load_keeps s h id i x v a live same may leads =
+      let as_was : set s.words i (get_or s.words i 0) ≡ s.words = set-get_or s.words i 0 in
+      subst (λ (l : List ℕ). IsSoundTable key (table_after key s id (with_core x v) l)) (sym as_was)
+      (mark_stays s h id x (with_core x v) s.words a live same may refl leads refl refl)
+
+  -- a try on the mark
+  pub take_allowed : (slots id : ℕ) (me : SeatMe) → 0 < me.0.share
+      → (1 < me.0.share → me.0.core.done ≡ true) → Allowed d me.0.core Takes
+      → Allows (IsSoundTable key) slots id me 1 (λ n. bit_or n 1) (TakeTold me)
+  take_allowed slots id me some alone may s h homes at fits =
+      let x = me.0 in
+      let live : IsLive s.views id x = record { there = there s.views id x at; live = some } in
+      let found = get_or s.words 1 0 in
+      let b = is_odd found in
+      let y = tried x b (found / 2) in
+      let same = tried_same x b (found / 2) alone in
+      let word = bit_or found 1 in
+      let one = or_one found in
+      let wide = h.wide in
+      let views = set (core_views s.views) (place s.views id) y.core in
+      let leads : core_of d (set s.words 1 word) views ≡ after d (table_core key s) (place s.views id) x.core Takes =
+      mark_word d s.words views word (omega arith)
+      ∙ (λ k. record (table_core key s) {
+        mark_held = one.1 k;
+        mark_number = one.0 k;
+        views = set (core_views s.views) (place s.views id) (tried_core x b (found / 2) k);
+      }) in
+      let number : get_or (set s.words 1 word) 1 0 / 2 ≡ found / 2 =
+      ap (λ (z : ℕ). z / 2) (get_or-set_same s.words 1 word 0 (omega arith)) ∙ one.0 in
+      let kept = mark_stays s h id x y (set s.words 1 word) Takes live same may (length-set s.words 1 word) leads number
+      (tried_released x b (found / 2)) in
+      let mine = h.each id x live in
+      let dict = ap (λ (z : Dictatorship). turn_count z) mine.dict in
+      let behind = h.sound.mark.behind in
+      let within = h.sound.mark.within in (
+        y,
+        keeps,
+        tt,
+        kept,
+        record {
+          seat = refl;
+          range = seat_in_range key _ kept id y (live_after key s id x y live same);
+          within = omega arith;
+          free = λ every. free_with_all s h id x live (every ∙ mine.workers) may.1;
+        },
+      )
+
+  -- a look at the first uncommitted turn's cell
+  pub look_allowed : (slots id : ℕ) (me : SeatMe) (i k : ℕ) → 0 < me.0.share
+      → (1 < me.0.share → me.0.core.done ≡ true) → Allowed d me.0.core (Looks k)
+      → i ≡ 2 + programme_count d + k → Allows (IsSoundTable key) slots id me i (λ n. n) (LookTold me)
+  look_allowed slots id me i k some alone may is s h homes at fits =
+      let x = me.0 in
+      let live : IsLive s.views id x = record { there = there s.views id x at; live = some } in
+      let found = get_or s.words i 0 in
+      let v = look_by x.core x.core.hold found in
+      let seen_view : Cell → View = λ c. with_hold x.core (hold_at k (phase_after_look c)) in
+      let by : v ≡ seen_view (cell_of found) = ap (λ o. look_by x.core o found) may.0 in
+      let y = with_core x v in
+      let same = same_with x v (ap (λ (u : View). u.done) by) alone in
+      let seen = cell_read d s.words (core_views s.views) i k is in
+      let leads : core_of d s.words (set (core_views s.views) (place s.views id) v)
+      ≡ after d (table_core key s) (place s.views id) x.core (Looks k) =
+      ap (λ (u : View). core_of d s.words (set (core_views s.views) (place s.views id) u)) (by ∙ ap seen_view (sym seen)) in
+      let kept = load_keeps s h id i x v (Looks k) live same may leads in
+      let mine = h.each id x live in
+      let count = ((seat_fits key s h id x live).hold _ may.0).committed in (
+        y,
+        keeps,
+        tt,
+        kept,
+        record {
+          seat = refl;
+          range = seat_in_range key _ kept id y (live_after key s id x y live same);
+          uncommitted = ap is_committed (sym seen) ∙ h.sound.cells.above k (omega arith);
+          posted = λ every done.
+              subst (λ (c : Cell). IsSome (posted_place c)) seen
+              (posted_with_all s h id x live (every ∙ mine.workers) done k may.1 (omega arith));
+        },
+      )
+
+  -- a weighing of the entry at the holder's place
+  pub weigh_allowed : (slots id : ℕ) (me : SeatMe) (i k j : ℕ) → 0 < me.0.share
+      → (1 < me.0.share → me.0.core.done ≡ true) → Allowed d me.0.core (Weighs k j) → i ≡ 2 + entry d k j
+      → Allows (IsSoundTable key) slots id me i (λ n. n) (WeighTold me)
+  weigh_allowed slots id me i k j some alone may is s h homes at fits =
+      let x = me.0 in
+      let live : IsLive s.views id x = record { there = there s.views id x at; live = some } in
+      let found = get_or s.words i 0 in
+      let p = entry d k j in
+      let v = weigh_by x.dict x.core x.core.hold found in
+      let seen_view : ℕ → View = λ n. with_hold x.core (hold_at k (phase_after_weigh (nat_lt n (quota_of d p)) j)) in
+      let mine = h.each id x live in
+      let by : v ≡ seen_view found = (λ z. weigh_by (mine.dict z) x.core (may.0 z) found) in
+      let same = same_with x v (ap (λ (u : View). u.done) by) alone in
+      let fit = seat_fits key s h id x live in
+      let turn = (fit.hold _ may.0).phase.0.0 in
+      let inside : p < programme_count d = h.valid.list_entries k j turn may.1 in
+      let seen : found ≡ seats_of (table_core key s) p =
+      ap (λ (z : ℕ). get_or s.words z 0) is ∙ sym (seat_word d s.words (core_views s.views) p inside) in
+      let leads : core_of d s.words (set (core_views s.views) (place s.views id) v)
+      ≡ after d (table_core key s) (place s.views id) x.core (Weighs k j) =
+      ap (λ (u : View). core_of d s.words (set (core_views s.views) (place s.views id) u)) (by ∙ ap seen_view seen) in
+      let kept = load_keeps s h id i x v (Weighs k j) live same may leads in (
+        with_core x v,
+        keeps,
+        tt,
+        kept,
+        record { seat = refl; range = seat_in_range key _ kept id (with_core x v) (live_after key s id x (with_core x v) live same) },
+      )
+
+  -- a seat taken of the entry at the holder's place
+  pub seat_allowed : (slots id : ℕ) (me : SeatMe) (i k j : ℕ) → 0 < me.0.share
+      → (1 < me.0.share → me.0.core.done ≡ true) → Allowed d me.0.core (Seats k j) → i ≡ 2 + entry d k j
+      → Allows (IsSoundTable key) slots id me i (λ n. (n + 1) % 2 ^ 64) (SeatTold me)
+  seat_allowed slots id me i k j some alone may is s h homes at fits =
+      let x = me.0 in
+      let live : IsLive s.views id x = record { there = there s.views id x at; live = some } in
+      let found = get_or s.words i 0 in
+      let p = entry d k j in
+      let v = seat_by x.dict x.core x.core.hold found in
+      let seen_view : ℕ → View = λ n. with_hold x.core (hold_at k (Seated j (nat_le (quota_of d p) (n + 1)))) in
+      let mine = h.each id x live in
+      let by : v ≡ seen_view found = (λ z. seat_by (mine.dict z) x.core (may z) found) in
+      let y = with_core x v in
+      let same = same_with x v (ap (λ (u : View). u.done) by) alone in
+      let fit = seat_fits key s h id x live in
+      let phase = (fit.hold _ may).phase in
+      let inside : p < programme_count d = h.valid.list_entries k j phase.0.0 phase.1 in
+      let seen : found ≡ seats_of (table_core key s) p =
+      ap (λ (z : ℕ). get_or s.words z 0) is ∙ sym (seat_word d s.words (core_views s.views) p inside) in
+      let now = seats_now d (table_core key s) h.sound (place s.views id) x.core (at_place s.views id x live) _ may (λ q. refl) p inside in
+      let most = taken-le-quota d p (h.valid.filled p inside) k in
+      let quota = h.valid.quotas p inside in
+      let next = (found + 1) % 2 ^ 64 in
+      let up : next ≡ found + 1 = mod-eq_of_lt (let l : found + 1 < 2 ^ 64 = omega arith in l) in
+      let count : next ≡ seats_of (table_core key s) p + 1 = up ∙ ap (λ (z : ℕ). z + 1) seen in
+      let views = set (core_views s.views) (place s.views id) v in
+      let leads : core_of d (set s.words i next) views ≡ after d (table_core key s) (place s.views id) x.core (Seats k j) =
+      count_word d s.words views i p next is inside
+      ∙ (λ z. record (table_core key s) {
+        seats = set (table_core key s).seats p (count z);
+        views = set (core_views s.views) (place s.views id) ((by ∙ ap seen_view seen) z);
+      }) in
+      let mark : get_or (set s.words i next) 1 0 ≡ get_or s.words 1 0 =
+      get_or-set_other s.words i 1 next 0 (λ e. omega arith) in
+      let kept = mark_stays s h id x y (set s.words i next) (Seats k j) live same may (length-set s.words i next) leads
+      (ap (λ (z : ℕ). z / 2) mark) refl in (
+        y,
+        keeps,
+        tt,
+        kept,
+        record {
+          seat = refl;
+          range = seat_in_range key _ kept id y (live_after key s id x y live same);
+          small = omega arith;
+        },
+      )
+
+  -- a commit of the holder's turn at its place
+  pub seal_allowed : (slots id : ℕ) (me : SeatMe) (i k j word : ℕ) (phase : Phase) → 0 < me.0.share
+      → (1 < me.0.share → me.0.core.done ≡ true) → Allowed d me.0.core (Seals k j phase)
+      → i ≡ 2 + programme_count d + k → word ≡ 2 * j + 2
+      → Allows (IsSoundTable key) slots id me i (λ _. word) (λ _. SealTold me)
+  seal_allowed slots id me i k j word phase some alone may is shows s h homes at fits =
+      let x = me.0 in
+      let live : IsLive s.views id x = record { there = there s.views id x at; live = some } in
+      let v = seal_by x.core x.core.hold in
+      let by : v ≡ with_hold x.core (hold_at (k + 1) Idle) = ap (seal_by x.core) may.0 in
+      let y = with_core x v in
+      let same = same_with x v (ap (λ (u : View). u.done) by) alone in
+      let shown : cell_of word ≡ Committed j = ap cell_of shows ∙ cell_committed j in
+      let views = set (core_views s.views) (place s.views id) v in
+      let leads : core_of d (set s.words i word) views ≡ after d (table_core key s) (place s.views id) x.core (Seals k j phase) =
+      cell_word d s.words views i k word (Committed j) is shown
+      ∙ ap (λ (u : View). record (table_core key s) {
+        cells = set (table_core key s).cells k (Committed j);
+        views = set (core_views s.views) (place s.views id) u;
+      }) by in
+      let mark : get_or (set s.words i word) 1 0 ≡ get_or s.words 1 0 =
+      get_or-set_other s.words i 1 word 0 (λ e. omega arith) in
+      let kept = mark_stays s h id x y (set s.words i word) (Seals k j phase) live same may (length-set s.words i word) leads
+      (ap (λ (z : ℕ). z / 2) mark) refl in (
+        y,
+        keeps,
+        tt,
+        kept,
+        record { seat = refl; range = seat_in_range key _ kept id y (live_after key s id x y live same) },
+      )
+
+  -- a release with the number of committed turns
+  pub release_allowed : (slots id : ℕ) (me : SeatMe) (k word : ℕ) (phase : Phase) → 0 < me.0.share
+      → (1 < me.0.share → me.0.core.done ≡ true) → Allowed d me.0.core (Releases k phase) → word ≡ 2 * k
+      → Allows (IsSoundTable key) slots id me 1 (λ _. word) (λ _. ReleaseTold me word)
+  release_allowed slots id me k word phase some alone may shows s h homes at fits =
+      let x = me.0 in
+      let live : IsLive s.views id x = record { there = there s.views id x at; live = some } in
+      let y = released_with x (word / 2) in
+      let same : IsSameSeat x y = record { number = refl; share = refl; dict = refl; workers = refl; alone = λ more. (alone more, alone more) } in
+      let wide = h.wide in
+      let half : word / 2 ≡ k = omega arith in
+      let even : eqb (word % 2) 1 ≡ false = ne_eqb (word % 2) 1 (λ e. omega arith) in
+      let views = set (core_views s.views) (place s.views id) y.core in
+      let leads : core_of d (set s.words 1 word) views ≡ after d (table_core key s) (place s.views id) x.core (Releases k phase) =
+      mark_word d s.words views word (omega arith)
+      ∙ (λ z. record (table_core key s) { mark_held = even z; mark_number = half z; views = views }) in
+      let mark : get_or (set s.words 1 word) 1 0 ≡ word = get_or-set_same s.words 1 word 0 (omega arith) in
+      let count = ((seat_fits key s h id x live).hold _ may.0).committed in
+      let behind = h.sound.mark.behind in
+      let kept = event_keeps key s h id x y (set s.words 1 word) (Releases k phase) live same may (length-set s.words 1 word) leads
+      (omega arith) (omega arith) in (
+        y,
+        keeps,
+        tt,
+        kept,
+        record { seat = refl; range = seat_in_range key _ kept id y (live_after key s id x y live same) },
+      )
