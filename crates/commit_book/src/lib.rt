@@ -12,3 +12,6 @@ mod prefix;
 
 pub use book::{look, release, seal, seat, take, weigh};
 pub use prefix::commit_prefix;
+
+#[cfg(test)]
+mod tests;

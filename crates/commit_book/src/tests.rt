@@ -1,0 +1,280 @@
+// Two seats step on the words of a round, on one thread.
+
+ghost use Rattle.std.specs.Prelude.{◌≡◌, ◌∷◌, [], length, IfOk, false};
+ghost use Rattle.market.specs.Examples.{two_turns};
+ghost use Rattle.word_rule.specs.Rounds.{knows, key_of, dict_of, IsSeatOf, IsNew, AllNew, IsOver};
+
+use crate::{commit_prefix, look, release, seal, seat, take, weigh};
+use claim_words::{claim, post, read_entry};
+use market::{Dict, List};
+use std::alloc::{AllocError, Global};
+use std::process::Abort;
+use std::test::Fail;
+use word_rule::{PhaseCopy, SharedRound, Words, WorkSeat, close_round, join_all, open_round};
+
+// A list of these numbers.
+fn list(alloc: Global, items: &[u32]) -> Result<List, AllocError>
+    ensures { IfOk result (λ l. l ≡ items.now) }
+{
+    Ok(List::from_vec(Vec::from_slice(alloc, items)?))
+}
+
+// Two lists of numbers.
+fn two_lists(alloc: Global, first: &[u32], second: &[u32]) -> Result<Vec<List>, AllocError>
+    ensures { IfOk result (λ lists. lists.items ≡ first.now ∷ second.now ∷ []) }
+{
+    let first = list(alloc, first)?;
+    let second = list(alloc, second)?;
+    Ok(vec![in alloc; first, second]?)
+}
+
+// Two turns over two programmes with a seat each.
+fn two_turns(alloc: Global) -> Result<Dict, AllocError>
+    ensures { IfOk result (λ d. d ≡ two_turns) }
+{
+    let quota = vec![in alloc; 1, 1]?;
+    let fill = vec![in alloc; 0, 0]?;
+    let lists = two_lists(alloc, &[0], &[0, 1])?;
+    Ok(Dict::from_parts(quota, fill, lists))
+}
+
+// The seats of a round of two workers.
+fn two_seats(round: &SharedRound, mut seats: Vec<WorkSeat>) -> (WorkSeat, WorkSeat)
+    requires new { AllNew round.now seats.items }
+    requires two { length seats.items ≡ 2 }
+    ensures first { IsNew round.now 0 result.0 }
+    ensures second { IsNew round.now 1 result.1 }
+{
+    let Some(second) = seats.pop() else {
+        unreachable!()
+    };
+    let Some(first) = seats.pop() else {
+        unreachable!()
+    };
+    (first, second)
+}
+
+// The seat draws this turn.
+fn draws(rt: &impl Abort, round: &SharedRound, me: &mut WorkSeat, turn: u32)
+    requires seat { IsSeatOf round.now me.old }
+    requires ready { ((knows me.old).core.done ≡ false) × ((knows me.old).core.owes ≡ false) }
+    ensures seat { IsSeatOf round.now me.new }
+    ensures share { (knows me.new).share ≡ (knows me.old).share }
+    ensures done { (knows me.new).core.done ≡ false }
+{
+    assert!(rt; me.claim.is_none() && me.phase.is_none());
+    assert_eq!(rt; claim(round, me), Some(turn));
+}
+
+// The seat finds that no turn is left.
+fn ends(rt: &impl Abort, round: &SharedRound, me: &mut WorkSeat)
+    requires seat { IsSeatOf round.now me.old }
+    requires ready { ((knows me.old).core.done ≡ false) × ((knows me.old).core.owes ≡ false) }
+    ensures over { IsOver round.now me.new }
+    ensures share { (knows me.new).share ≡ (knows me.old).share }
+{
+    assert!(rt; me.claim.is_none() && me.phase.is_none());
+    if claim(round, me).is_some() {
+        panic!(rt; "a turn is left")
+    }
+}
+
+// The seat reads the next entry of its turn's list.
+fn reads(rt: &impl Abort, round: &SharedRound, dict: &Dict, me: &mut WorkSeat) -> bool
+    requires seat { IsSeatOf round.now me.old }
+    requires dict { dict.now ≡ dict_of round.now }
+    ensures seat { IsSeatOf round.now me.new }
+    ensures share { (knows me.new).share ≡ (knows me.old).share }
+    ensures done { (knows me.new).core.done ≡ (knows me.old).core.done }
+{
+    let Some(claim) = me.claim else {
+        panic!(rt; "no claim")
+    };
+    if claim.met {
+        panic!(rt; "an entry is met")
+    }
+    let places = dict.list(claim.turn).len();
+    if claim.passed as usize >= places {
+        panic!(rt; "the whole list is passed")
+    }
+    read_entry(round, dict, me)
+}
+
+// The seat posts its turn at the entry that it met, and answers the place.
+fn posts(rt: &impl Abort, round: &SharedRound, dict: &Dict, me: &mut WorkSeat) -> u32
+    requires seat { IsSeatOf round.now me.old }
+    requires dict { dict.now ≡ dict_of round.now }
+    ensures seat { IsSeatOf round.now me.new }
+    ensures share { (knows me.new).share ≡ (knows me.old).share }
+    ensures done { (knows me.new).core.done ≡ (knows me.old).core.done }
+{
+    let Some(claim) = me.claim else {
+        panic!(rt; "no claim")
+    };
+    if !claim.met {
+        panic!(rt; "no entry is met")
+    }
+    post(round, dict, me)
+}
+
+// The seat tries to take the mark.
+fn takes(rt: &impl Abort, round: &SharedRound, me: &mut WorkSeat) -> bool
+    requires seat { IsSeatOf round.now me.old }
+    ensures seat { IsSeatOf round.now me.new }
+    ensures share { (knows me.new).share ≡ (knows me.old).share }
+    ensures done { (knows me.new).core.done ≡ (knows me.old).core.done }
+    ensures paid { (knows me.new).core.owes ≡ false }
+{
+    assert!(rt; me.claim.is_none() && me.phase.is_none());
+    take(round, me)
+}
+
+// The holder looks at the first uncommitted turn.
+fn looks(rt: &impl Abort, round: &SharedRound, me: &mut WorkSeat) -> Option<u32>
+    requires seat { IsSeatOf round.now me.old }
+    ensures seat { IsSeatOf round.now me.new }
+    ensures share { (knows me.new).share ≡ (knows me.old).share }
+    ensures done { (knows me.new).core.done ≡ (knows me.old).core.done }
+    ensures owes { (knows me.new).core.owes ≡ (knows me.old).core.owes }
+{
+    assert!(rt; matches!(me.phase, Some(PhaseCopy::Idle)));
+    look(round, me)
+}
+
+// The holder weighs the entry at its place.
+fn weighs(rt: &impl Abort, round: &SharedRound, dict: &Dict, me: &mut WorkSeat) -> bool
+    requires seat { IsSeatOf round.now me.old }
+    requires dict { dict.now ≡ dict_of round.now }
+    ensures seat { IsSeatOf round.now me.new }
+    ensures share { (knows me.new).share ≡ (knows me.old).share }
+    ensures done { (knows me.new).core.done ≡ (knows me.old).core.done }
+    ensures owes { (knows me.new).core.owes ≡ (knows me.old).core.owes }
+{
+    let Some(PhaseCopy::Scan(place)) = me.phase else {
+        panic!(rt; "no entry to weigh")
+    };
+    let places = dict.list(me.committed).len();
+    if place as usize >= places {
+        panic!(rt; "the whole list is full")
+    }
+    weigh(round, dict, me)
+}
+
+// The holder takes a seat of the entry that has one left.
+fn seats(rt: &impl Abort, round: &SharedRound, dict: &Dict, me: &mut WorkSeat) -> bool
+    requires seat { IsSeatOf round.now me.old }
+    requires dict { dict.now ≡ dict_of round.now }
+    ensures seat { IsSeatOf round.now me.new }
+    ensures share { (knows me.new).share ≡ (knows me.old).share }
+    ensures done { (knows me.new).core.done ≡ (knows me.old).core.done }
+    ensures owes { (knows me.new).core.owes ≡ (knows me.old).core.owes }
+{
+    let Some(PhaseCopy::Ready(_)) = me.phase else {
+        panic!(rt; "no seat to take")
+    };
+    seat(round, dict, me)
+}
+
+// The holder commits the turn that it took a seat for, and answers it.
+fn seals(rt: &impl Abort, round: &SharedRound, dict: &Dict, me: &mut WorkSeat) -> u32
+    requires seat { IsSeatOf round.now me.old }
+    requires dict { dict.now ≡ dict_of round.now }
+    ensures seat { IsSeatOf round.now me.new }
+    ensures share { (knows me.new).share ≡ (knows me.old).share }
+    ensures done { (knows me.new).core.done ≡ (knows me.old).core.done }
+    ensures owes { (knows me.new).core.owes ≡ (knows me.old).core.owes }
+{
+    let Some(PhaseCopy::Seated(_, _)) = me.phase else {
+        panic!(rt; "no turn to commit")
+    };
+    seal(round, dict, me)
+}
+
+// The holder gives the mark back.
+fn releases(rt: &impl Abort, round: &SharedRound, me: &mut WorkSeat)
+    requires seat { IsSeatOf round.now me.old }
+    ensures seat { IsSeatOf round.now me.new }
+    ensures share { (knows me.new).share ≡ (knows me.old).share }
+    ensures done { (knows me.new).core.done ≡ (knows me.old).core.done }
+    ensures owes { (knows me.new).core.owes ≡ (knows me.old).core.owes }
+{
+    let halted = matches!(me.phase, Some(PhaseCopy::Halted));
+    let idle = matches!(me.phase, Some(PhaseCopy::Idle));
+    assert!(rt; halted || idle && me.committed == round.turns);
+    release(round, me);
+}
+
+// Both seats are joined, which commit what is left, and the round is closed.
+fn closed(
+    alloc: Global,
+    rt: &impl Abort,
+    round: SharedRound,
+    dict: &Dict,
+    first: WorkSeat,
+    second: WorkSeat,
+) -> Result<Words, AllocError>
+    requires dict { dict.now ≡ dict_of round }
+    requires workers { (key_of round).workers ≡ 2 }
+    requires first { IsOver round first }
+    requires second { IsOver round second }
+    requires shares { ((knows first).share ≡ 1) × ((knows second).share ≡ 1) }
+{
+    let mut me = join_all(&round, vec![in alloc; first, second]?);
+    assert_eq!(rt; commit_prefix(&round, dict, &mut me), Some(0));
+    Ok(close_round(round, me))
+}
+
+#[test]
+fn one_seat_commits_what_two_posted(rt: HostRuntime) -> Result<(), Fail> {
+    let alloc = rt.alloc();
+    let dict = two_turns(alloc)?;
+    let (round, both) = open_round(alloc, &dict, 2)?;
+    let (mut first, mut second) = two_seats(&round, both);
+    draws(&rt, &round, &mut first, 0);
+    draws(&rt, &round, &mut second, 1);
+    assert_eq!(&rt; reads(&rt, &round, &dict, &mut first), false);
+    assert_eq!(&rt; reads(&rt, &round, &dict, &mut second), false);
+    assert_eq!(&rt; posts(&rt, &round, &dict, &mut second), 0);
+    assert_eq!(&rt; posts(&rt, &round, &dict, &mut first), 0);
+    assert_eq!(&rt; takes(&rt, &round, &mut first), true);
+    // the first turn takes the one seat of its one entry
+    assert_eq!(&rt; looks(&rt, &round, &mut first), Some(0));
+    assert_eq!(&rt; weighs(&rt, &round, &dict, &mut first), false);
+    assert_eq!(&rt; seats(&rt, &round, &dict, &mut first), true);
+    assert_eq!(&rt; seals(&rt, &round, &dict, &mut first), 0);
+    // so the second turn, which was posted there, goes to its next entry
+    assert_eq!(&rt; looks(&rt, &round, &mut first), Some(0));
+    assert_eq!(&rt; weighs(&rt, &round, &dict, &mut first), true);
+    assert_eq!(&rt; weighs(&rt, &round, &dict, &mut first), false);
+    assert_eq!(&rt; seats(&rt, &round, &dict, &mut first), true);
+    assert_eq!(&rt; seals(&rt, &round, &dict, &mut first), 1);
+    assert_eq!(&rt; looks(&rt, &round, &mut first), None);
+    releases(&rt, &round, &mut first);
+    assert_eq!(&rt; takes(&rt, &round, &mut second), true);
+    releases(&rt, &round, &mut second);
+    ends(&rt, &round, &mut first);
+    ends(&rt, &round, &mut second);
+    let words = closed(alloc, &rt, round, &dict, first, second)?;
+    assert_eq!(&rt; words.committed(), 2);
+    assert_eq!(&rt; [words.choice(0), words.choice(1)], [0, 1]);
+    Ok(())
+}
+
+#[test]
+fn nothing_is_committed_past_an_empty_cell(rt: HostRuntime) -> Result<(), Fail> {
+    let alloc = rt.alloc();
+    let dict = two_turns(alloc)?;
+    let (round, both) = open_round(alloc, &dict, 2)?;
+    let (mut first, mut second) = two_seats(&round, both);
+    draws(&rt, &round, &mut first, 0);
+    draws(&rt, &round, &mut second, 1);
+    assert_eq!(&rt; reads(&rt, &round, &dict, &mut second), false);
+    assert_eq!(&rt; posts(&rt, &round, &dict, &mut second), 0);
+    assert_eq!(&rt; takes(&rt, &round, &mut second), true);
+    assert_eq!(&rt; looks(&rt, &round, &mut second), None);
+    assert_eq!(&rt; reads(&rt, &round, &dict, &mut first), false);
+    assert_eq!(&rt; posts(&rt, &round, &dict, &mut first), 0);
+    assert_eq!(&rt; takes(&rt, &round, &mut first), false);
+    releases(&rt, &round, &mut second);
+    Ok(())
+}
