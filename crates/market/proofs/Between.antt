@@ -1,4 +1,4 @@
--- Lists that lie one after another in one list.
+-- Lists that lie one after another in one list: what is added at the end leaves those before it as they are.
 use Rattle.std.proofs.Common.{◌≡◌, ℕ, ◌+◌, ◌-◌, ◌<◌, ◌≤◌, List, [], ◌∷◌, ◌++◌, length, sym, ap, ◌∙◌, subst, arith, get_or, map, take, drop, ⊎_elim}
 use Rattle.std.specs.Prelude.{slice_index, slice_index_or}
 use Rattle.std.specs.List.{range_with_len}

@@ -1,4 +1,4 @@
--- The tables of a market hold what its problem says.
+-- The tables that a market keeps hold what its problem says.
 use Rattle.std.proofs.Common.{◌≡◌, ℕ, ◌<◌, List, [], length, sym, ap, ◌∙◌, subst, arith}
 use Rattle.std.specs.Prelude.{slice_index, slice_index_or, filter, ◌==◌}
 use Rattle.std.specs.List.{range_with_len}

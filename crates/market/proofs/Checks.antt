@@ -1,8 +1,9 @@
 -- Tests that compute whether a problem or a dictatorship that is written out is valid. To show that one is,
 -- cite `valid_from` with `refl` for each test, under an `unfolding` line with the tests and `computes`.
-use Rattle.std.proofs.Common.{◌≡◌, ℕ, zero, suc, ◌<◌, Bool, true, not, ◌&&◌, eqb, ltb, leb, List, length, refl, sym, ap, ◌∙◌, arith, ⊎_elim}
+use Rattle.std.proofs.Common.{◌≡◌, ℕ, zero, suc, ◌<◌, Bool, true, not, ◌&&◌, eqb, ltb, leb, List, length, refl, sym, ap, ◌∙◌, arith, ⊎_elim, subst, [], ◌∷◌}
 use Rattle.std.specs.Prelude.{slice_index}
 use Rattle.std.proofs.lemmas.Bool.{and_parts, cases_lt, ltb-true, leb-true, eqb-true, eq-eqb, false≢true, not-true}
+use Rattle.market.specs.declared.programme.Prog.{Prog}
 use Rattle.market.specs.Problems.{Problem, IsValid, IsDistinct, kind_of, quota_of, list_of, order_of, ranks_of}
 use Rattle.market.specs.Dictatorships.{Dictatorship, IsValidDictatorship, list_at}
 use Rattle.market.specs.Examples.{exchange, freed_seat, three_rounds, two_turns}
@@ -111,6 +112,24 @@ pub three_rounds_valid : IsValid three_rounds
 unfolding computes counts_fit programmes_fit lists_fit orders_fit ranks_fit
 three_rounds_valid = valid_from three_rounds refl refl refl refl refl
 
+-- a market that is built of these parts is valid where they are those of a valid problem
+pub parts_valid : (m : Problem) (programmes : List Prog) (lists orders ranks : List (List ℕ))
+    → IsValid m → programmes ≡ m.programmes → lists ≡ m.lists → orders ≡ m.orders → ranks ≡ m.ranks
+    → IsValid (record { types = m.types; programmes = programmes; lists = lists; orders = orders; ranks = ranks })
+parts_valid m programmes lists orders ranks v p l o r =
+    let same : m ≡ record { types = m.types; programmes = programmes; lists = lists; orders = orders; ranks = ranks }
+    = λ i. record { types = m.types; programmes = sym p i; lists = sym l i; orders = sym o i; ranks = sym r i } in
+    subst IsValid same v
+
+-- lists made of equal lists are equal
+pub two_lists : (x y u v : List ℕ) (all : List (List ℕ)) → all ≡ x ∷ y ∷ [] → x ≡ u → y ≡ v
+    → all ≡ u ∷ v ∷ []
+two_lists x y u v all e a b = e ∙ (λ i. a i ∷ b i ∷ [])
+
+pub three_lists : (x y z u v w : List ℕ) (all : List (List ℕ)) → all ≡ x ∷ y ∷ z ∷ [] → x ≡ u
+    → y ≡ v → z ≡ w → all ≡ u ∷ v ∷ w ∷ []
+three_lists x y z u v w all e a b c = e ∙ (λ i. a i ∷ b i ∷ c i ∷ [])
+
 -- ---- dictatorships that are written out
 
 unfoldable pub dictatorship_fits : Dictatorship → Bool
@@ -150,3 +169,12 @@ dictatorship_valid_from d p l =
 pub two_turns_valid : IsValidDictatorship two_turns
 unfolding computes dictatorship_fits turn_lists_fit
 two_turns_valid = dictatorship_valid_from two_turns refl refl
+
+-- a dictatorship of these parts is valid where they are those of a valid one
+pub dictatorship_parts_valid : (d : Dictatorship) (quota fill : List ℕ) (lists : List (List ℕ))
+    → IsValidDictatorship d → quota ≡ d.quota → fill ≡ d.fill → lists ≡ d.lists
+    → IsValidDictatorship (record { quota = quota; fill = fill; lists = lists })
+dictatorship_parts_valid d quota fill lists v q f l =
+    let same : d ≡ record { quota = quota; fill = fill; lists = lists }
+    = λ i. record { quota = sym q i; fill = sym f i; lists = sym l i } in
+    subst IsValidDictatorship same v

@@ -1,4 +1,5 @@
--- The cut of one round over any choices, candidate by candidate.
+-- The cut of one round by any choices, candidate by candidate, and the first turn of each type that it
+-- changes.
 use Rattle.std.proofs.Common.{◌≡◌, ℕ, suc, ◌+◌, ◌<◌, ◌≤◌, Bool, true, false, cond, not, List, length, Option, Some, None, refl, sym, ap, ◌∙◌, subst, arith, set, ⊎_elim}
 use Rattle.std.specs.Prelude.{is_some, slice_index, if◌then◌else◌}
 use Rattle.std.specs.List.{position_or_len}

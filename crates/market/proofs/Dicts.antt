@@ -1,4 +1,5 @@
--- What a dictatorship over local programme numbers needs.
+-- The dictatorship over local numbers is a valid one. Local numbers are those of one programme each, and a
+-- type has no more turns than there are candidates, since none has two.
 use Rattle.std.proofs.Common.{◌≡◌, ℕ, zero, suc, ◌+◌, ◌<◌, ◌≤◌, Bool, true, false, cond, List, [], ◌∷◌, ◌++◌, length, Option, Some, None, refl, sym, ap, ◌∙◌, subst, arith, get_or, map, take, drop, replicate, ⊎_elim}
 use Rattle.std.specs.Prelude.{slice_index, filter, ◌==◌}
 use Rattle.std.specs.List.{range_with_len, All}

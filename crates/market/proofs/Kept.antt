@@ -1,4 +1,5 @@
--- The lists of a type in turn order, and their type_lists below a cut.
+-- The lists of a type in turn order, and what a cut leaves of them: the entries whose places are below the
+-- cut are those of the front of the preference list.
 use Rattle.std.proofs.Common.{◌≡◌, ℕ, suc, ◌+◌, ◌-◌, ◌<◌, ◌≤◌, Bool, true, false, cond, List, [], ◌∷◌, ◌++◌, length, refl, sym, ap, ◌∙◌, subst, arith, map, take, ⊎_elim}
 use Rattle.std.specs.Prelude.{slice_index, slice_index_or, filter, nat_lt, ◌==◌}
 use Rattle.std.proofs.lemmas.Bool.{cases_lt, cases_Bool, lt-ltb, le-ltb}

@@ -1,23 +1,31 @@
-pub mod Computes
+-- lists, counts
 pub mod Firsts
-pub mod Turns
-pub mod Tallies
-pub mod Tentatives
 pub mod Counts
-pub mod Rounds
+-- a valid problem
 pub mod Valid
+-- one dictatorship
+pub mod Turns
 pub mod Seats
+pub mod Tallies
+-- the mechanism
+pub mod Tentatives
+pub mod Rounds
+pub mod Plain
+-- dictatorships over local numbers
+pub mod Dicts
+pub mod Locals
+-- cuts and reruns
+pub mod Cutting
+pub mod Reruns
+pub mod Replays
+-- what a market keeps
 pub mod Tables
 pub mod Members
 pub mod Builds
-pub mod Dicts
-pub mod Locals
-pub mod Plain
-pub mod Checks
-pub mod Reruns
-pub mod Cutting
-pub mod Replays
-pub mod Coded
 pub mod Between
 pub mod Kept
 pub mod TurnLists
+pub mod Coded
+-- problems that are written out
+pub mod Computes
+pub mod Checks

@@ -1,4 +1,5 @@
--- The dictatorship over local numbers makes the choices of the one over the market's own numbers.
+-- The dictatorship over local numbers makes the choices of the one over the market's own numbers: by
+-- induction on the turns as many seats are taken under both, so the same entries are open.
 use Rattle.std.proofs.Common.{◌≡◌, ◌≢◌, ℕ, zero, suc, ◌+◌, ◌-◌, ◌<◌, ◌≤◌, Bool, true, false, cond, not, List, [], ◌∷◌, length, Option, Some, None, refl, sym, ap, ◌∙◌, subst, arith, map, take, drop, set, replicate, ⊎_elim}
 use Rattle.std.specs.Prelude.{slice_index, find, ◌==◌, nat_lt, slice_get}
 use Rattle.std.specs.Option.{option_map}

@@ -1,4 +1,5 @@
--- One round's cuts and placement, candidate by candidate.
+-- The loops of the plain mechanism: one round's cuts and placement, candidate by candidate, and the rounds
+-- until one is settled.
 use Rattle.std.proofs.Common.{◌≡◌, ◌≢◌, ℕ, zero, suc, ◌+◌, ◌*◌, ◌<◌, ◌≤◌, Bool, true, false, cond, List, [], length, Option, refl, sym, ap, ◌∙◌, subst, arith, map, set, ⊎_elim}
 use Rattle.std.specs.Prelude.{slice_index, slice_index_or, is_some, nat_lt, if◌then◌else◌}
 use Rattle.std.specs.List.{position_or_len}

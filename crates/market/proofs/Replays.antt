@@ -1,4 +1,5 @@
--- A round that starts from the kept choices of the round before it.
+-- A round that starts from the kept choices of the round before it: the rows of a table, the seats that
+-- the kept turns take, and the turns that are run.
 use Rattle.std.proofs.Common.{◌≡◌, ◌≢◌, ℕ, zero, suc, ◌+◌, ◌<◌, ◌≤◌, Bool, cond, not, List, [], length, Option, Some, None, refl, sym, ap, ◌∙◌, subst, arith, get_or, map, set, replicate, ⊎_elim}
 use Rattle.std.specs.Prelude.{is_some, nat_lt, slice_get, slice_index, slice_index_or, unwrap_or}
 use Rattle.std.specs.List.{position_or_len, range_with_len}

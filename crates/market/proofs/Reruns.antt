@@ -1,4 +1,5 @@
--- What a cut leaves: a turn whose choice stands within the new cut, with the same earlier choices, keeps its choice.
+-- What a cut leaves: a turn whose choice stands within the new cut, with the same earlier choices, keeps
+-- its choice. So up to the first changed turn the next round makes the choices of this one.
 use Rattle.std.proofs.Common.{◌≡◌, ℕ, zero, suc, ◌+◌, ◌<◌, ◌≤◌, Bool, false, not, ◌&&◌, List, [], ◌∷◌, ◌++◌, length, Option, Some, None, refl, sym, ap, ◌∙◌, subst, arith, get_or, map, take, replicate, ⊎_elim}
 use Rattle.std.specs.Prelude.{find, nat_lt, slice_index}
 use Rattle.std.proofs.lemmas.Bool.{cases_lt, cases_Bool, false≢true, ltb-true}
@@ -159,7 +160,7 @@ pub first-le : (m : Problem) (c : ℕ → ℕ → Option ℕ) (cuts : List ℕ) 
 unfolding first_changed
 first-le m c cuts t = prefix_len-le-length (λ i. not (is_cut_away m c cuts t i)) (order_of m t)
 
--- THE RERUN LAW: up to the first changed turn the next round's dictatorship makes the choices of this round's
+-- the law of reruns: up to the first changed turn the next round's dictatorship makes the choices of this one's
 pub record KeepsUpto (m : Problem) (cuts : List ℕ) (t : ℕ) : Type 0 where
   pub chosen' : chosen (type_dictatorship m (next_cuts m cuts) t)
       (first_changed m (tentative m cuts) cuts t)

@@ -1,21 +1,20 @@
--- What a round cuts, and that the rounds end.
-use Rattle.std.proofs.Common.{◌≡◌, ℕ, zero, suc, ◌+◌, ◌<◌, ◌≤◌, Bool, true, false, cond, List, [], ◌++◌, length, Option, Some, None, refl, sym, ap, ◌∙◌, subst, arith, ⊎_elim, map, take, drop}
-use Rattle.std.specs.Prelude.{find, filter, slice_index, is_some, if◌then◌else◌}
+-- Who is cut after a round, and where; and that the rounds end. Who takes several loses an entry, so the
+-- entries left fall from round to round until nobody does.
+use Rattle.std.proofs.Common.{◌≡◌, ℕ, zero, suc, ◌+◌, ◌<◌, ◌≤◌, Bool, true, false, cond, List, [], length, Option, Some, None, refl, sym, ap, ◌∙◌, subst, arith, ⊎_elim, map}
+use Rattle.std.specs.Prelude.{find, slice_index, is_some, if◌then◌else◌}
 use Rattle.std.specs.List.{range_with_len}
 use Rattle.std.proofs.lemmas.Bool.{cases_eq, cases_lt, cases_order, cases_Bool, false≢true, eqb-true, eqb-false, ltb-true, lt-ltb}
-use Rattle.std.proofs.lemmas.List.{get_or_past, take-append-drop, take-take}
+use Rattle.std.proofs.lemmas.List.{get_or_past}
 use Rattle.std.proofs.lemmas.List.FromFn.{get_or-map-range_with_len, length-map-range_with_len}
-use Rattle.std.proofs.lemmas.List.Elements.{filter-append}
 use Rattle.std.proofs.lemmas.List.Folds.{find_at}
 use Rattle.std.proofs.Math.ListN.{get_or-map as get_or-map_past}
 use Rattle.market.specs.Counting.{count_below}
-use Rattle.market.specs.Problems.{Problem, place_of, kind_of, list_of, order_of, turn_of}
-use Rattle.market.specs.Dictatorships.{IsPrefixOf, ShortensLists}
-use Rattle.market.specs.Mechanism.{is_offered, turn_list, type_dictatorship, tentative, has_several, is_taken, best_place, next_cut, next_cuts, whole_cuts, cuts_after, several_count, is_settled, settled_from, entry_count, entries_left, mechanism_rounds, RoundsEnd, cutting_rounds, placed_at, best_in, cut_in, cuts_in, has_several_in, several_in}
+use Rattle.market.specs.Problems.{Problem, place_of, kind_of, list_of}
+use Rattle.market.specs.Mechanism.{tentative, has_several, is_taken, best_place, next_cut, next_cuts, whole_cuts, cuts_after, several_count, is_settled, settled_from, entry_count, entries_left, mechanism_rounds, RoundsEnd, cutting_rounds, placed_at, best_in, cut_in, cuts_in, has_several_in, several_in}
 use Rattle.market.proofs.Firsts.{find_passes, find_first, first_at, place_same}
-use Rattle.market.proofs.Turns.{is_programme-true, is_programme-from, shorter_lists_free_seats}
+use Rattle.market.proofs.Turns.{is_programme-true, is_programme-from}
 use Rattle.market.proofs.Counts.{Passes, count_one, count_two, count_some, count_some_two, sum_lt, sum_same}
-use Rattle.market.proofs.Tentatives.{TakesBy, tentative-takes, takes_by, type-list, type-list_past, seats_before}
+use Rattle.market.proofs.Tentatives.{tentative-takes}
 
 some_from : (o : Option ℕ) → is_some o ≡ true → (p : ℕ) × (o ≡ Some p)
 some_from None e = absurd (false≢true e)
@@ -205,94 +204,6 @@ next_cuts-le m cuts i =
     (λ l. let e = next_cuts-at m cuts i l in let h = next_cut-le m cuts i in omega arith)
     (λ p. let e = next_cuts-past m cuts i p in omega arith)
     (cases_lt i (length m.lists))
-
--- what is kept of the list ends with the best programme taken
-pub kept_best : (m : Problem) (cuts : List ℕ) (t i p : ℕ) → i < length m.lists
-    → tentative m cuts t i ≡ Some p
-    → (b : ℕ) × IsBest m cuts i b × (place_of b (list_of m i) < slice_index (next_cuts m cuts) i)
-kept_best m cuts t i p l e =
-    let r = best_by m cuts t i p e in
-    let at = next_cuts-at m cuts i l in
-    let x = tentative-takes m cuts (kind_of m r.best) i r.best r.is_best.takes in (
-      r.best,
-      r.is_best,
-      ⊎_elim
-          (λ s. let n = next_cut-several m cuts i s in omega (arith, r.is_best.place))
-          (λ s. let n = next_cut-same m cuts i s in omega (arith, x.within))
-          (cases_Bool (has_several m cuts i)),
-    )
-
--- ---- shorter lists
-
-turn_list-prefix : (m : Problem) (cuts shorter : List ℕ) (t i : ℕ)
-    → slice_index shorter i ≤ slice_index cuts i
-    → IsPrefixOf (turn_list m shorter t i) (turn_list m cuts t i)
-unfolding turn_list
-turn_list-prefix m cuts shorter t i l =
-    let c = slice_index cuts i in
-    let s = slice_index shorter i in
-    let whole = take c (list_of m i) in
-    let keep = is_offered m t i in (
-      filter keep (drop s whole),
-      ap (λ (xs : List ℕ). filter keep xs ++ filter keep (drop s whole))
-          (sym (take-take s c (list_of m i) l))
-          ∙ sym (filter-append keep (take s whole) (drop s whole))
-          ∙ ap (filter keep) (take-append-drop s whole),
-    )
-
-same_quota : (m : Problem) (cuts shorter : List ℕ) (t : ℕ)
-    → (type_dictatorship m shorter t).quota ≡ (type_dictatorship m cuts t).quota
-unfolding type_dictatorship
-same_quota m cuts shorter t = refl
-
-same_fill : (m : Problem) (cuts shorter : List ℕ) (t : ℕ)
-    → (type_dictatorship m shorter t).fill ≡ (type_dictatorship m cuts t).fill
-unfolding type_dictatorship
-same_fill m cuts shorter t = refl
-
-pub shortens : (m : Problem) (cuts shorter : List ℕ) (t : ℕ)
-    → ((i : ℕ) → slice_index shorter i ≤ slice_index cuts i)
-    → ShortensLists (type_dictatorship m cuts t) (type_dictatorship m shorter t)
-shortens m cuts shorter t le =
-    record {
-      quota = same_quota m cuts shorter t;
-      fill = same_fill m cuts shorter t;
-      lists = λ k.
-          ⊎_elim
-          (λ l.
-          let i = slice_index (order_of m t) k in
-          let r = turn_list-prefix m cuts shorter t i (le i) in (
-            r.0,
-            ap (λ (xs : List ℕ). xs ++ r.0) (type-list m shorter t k l) ∙ r.1
-                ∙ sym (type-list m cuts t k l),
-          ))
-          (λ p. (
-            [],
-            ap (λ (xs : List ℕ). xs ++ []) (type-list_past m shorter t k p)
-                ∙ sym (type-list_past m cuts t k p),
-          ))
-          (cases_lt k (length (order_of m t)));
-    }
-
--- who takes a programme and keeps it in the list still takes one that is as good
-pub still_takes : (m : Problem) (cuts shorter : List ℕ) (t i p : ℕ)
-    → ((i : ℕ) → slice_index shorter i ≤ slice_index cuts i) → tentative m cuts t i ≡ Some p
-    → place_of p (list_of m i) < slice_index shorter i → TakesBy m shorter t i p
-unfolding seats_before
-still_takes m cuts shorter t i p le e w =
-    let x = tentative-takes m cuts t i p e in
-    let free =
-    shorter_lists_free_seats (type_dictatorship m cuts t) (type_dictatorship m shorter t)
-    (shortens m cuts shorter t le) (turn_of m t i) p in
-    takes_by m shorter t i p
-    (record {
-      turn = x.turn;
-      offered = x.offered;
-      kind = x.kind;
-      listed = x.listed;
-      within = w;
-      room = omega (arith, x.room);
-    })
 
 -- ---- the rounds end
 

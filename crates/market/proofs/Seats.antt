@@ -1,4 +1,5 @@
--- Seats kept in an array, against the choices counted.
+-- Seats kept in an array, against the choices counted: for each programme its fill, and the turns so far
+-- that took it.
 use Rattle.std.proofs.Common.{◌≡◌, ℕ, suc, ◌+◌, ◌<◌, ◌≤◌, Bool, cond, not, List, [], ◌∷◌, ◌++◌, length, Some, refl, sym, ap, ◌∙◌, subst, arith, set, take, map, ⊎_elim}
 use Rattle.std.specs.Prelude.{slice_index, slice_get, nat_lt}
 use Rattle.std.specs.List.{position_or_len, range_with_len}

@@ -1,4 +1,6 @@
--- How many of the first turns take a programme, against how many hold it.
+-- How many of the first turns take a programme, against how many hold it. Where different turns are of
+-- different candidates the tally is at most the number of holders, and where each holder has a turn it is
+-- at least that: by induction on the turns, with one holder cleared at each.
 use Rattle.std.proofs.Common.{◌≡◌, ◌≢◌, ℕ, zero, suc, ◌+◌, ◌<◌, ◌≤◌, false, cond, List, [], ◌∷◌, length, Option, Some, None, refl, sym, ap, ◌∙◌, subst, arith, get_or, set, ⊎_elim}
 use Rattle.std.proofs.lemmas.Bool.{cases_lt, cases_Bool}
 use Rattle.std.proofs.lemmas.List.{get_or-set_same, get_or-set_other, set_past, get_or_past}

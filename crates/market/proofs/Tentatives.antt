@@ -1,4 +1,5 @@
--- What a candidate takes in a type, against the candidate's own list.
+-- What a candidate takes in a type, against the candidate's own list: the first entry within the cut that
+-- is of the type and has a seat left at the candidate's turn.
 use Rattle.std.proofs.Common.{◌≡◌, ℕ, zero, suc, ◌<◌, ◌≤◌, Bool, true, ◌&&◌, List, [], ◌∷◌, length, Option, Some, None, refl, sym, ap, ◌∙◌, arith, get_or, ⊎_elim, map, take, replicate}
 use Rattle.std.specs.Prelude.{find, ◌==◌, slice_index}
 use Rattle.std.proofs.lemmas.Bool.{cases_lt, eqb-true, eq-eqb, ne_eqb, and_parts, and_from}

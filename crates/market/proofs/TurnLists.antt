@@ -1,4 +1,5 @@
--- What a market's lists in turn order give.
+-- A market's lists in turn order: how they are made, and that the dictatorships copied from them have the
+-- lists of their turns.
 use Rattle.std.proofs.Common.{◌≡◌, ℕ, ◌+◌, ◌-◌, ◌*◌, ◌<◌, ◌≤◌, List, [], ◌++◌, length, sym, ap, ◌∙◌, subst, arith, map, take, drop}
 use Rattle.std.specs.Prelude.{slice_index, slice_index_or, filter, ◌==◌}
 use Rattle.std.proofs.lemmas.List.{length-map, get_or-map, length-take, length-drop, get_or-drop, get_or-take, length-append}

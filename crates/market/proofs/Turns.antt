@@ -1,12 +1,13 @@
--- What a serial dictatorship does, turn by turn.
-use Rattle.std.proofs.Common.{◌≡◌, ℕ, zero, suc, ◌+◌, ◌<◌, ◌≤◌, Bool, true, false, cond, List, [], ◌∷◌, ◌++◌, length, Option, Some, None, refl, sym, ap, ◌∙◌, arith, length-append, ⊎_elim}
+-- What a serial dictatorship does, turn by turn: what is picked was open, and by induction on the turns
+-- no programme is filled past its quota.
+use Rattle.std.proofs.Common.{◌≡◌, ℕ, zero, suc, ◌+◌, ◌<◌, ◌≤◌, Bool, true, false, cond, [], ◌∷◌, ◌++◌, length, Option, Some, None, refl, sym, ap, ◌∙◌, arith, length-append, ⊎_elim}
 use Rattle.std.specs.Prelude.{find, slice_index}
-use Rattle.std.proofs.lemmas.Bool.{ltb-true, lt-ltb, eqb-true, eq-eqb, cases_lt, cases_Bool, false≢true}
+use Rattle.std.proofs.lemmas.Bool.{ltb-true, lt-ltb, eqb-true, eq-eqb, cases_Bool, false≢true}
 use Rattle.std.proofs.lemmas.List.Folds.{find_at}
 use Rattle.std.proofs.lemmas.List.Sums.{sum_by_push}
 use Rattle.market.specs.Counting.{is_programme, count_of}
-use Rattle.market.specs.Dictatorships.{Dictatorship, has_seat, list_at, first_open, with_next, chosen, choice, picked, taken, ShortensLists, FreesSeats}
-use Rattle.market.proofs.Firsts.{find_passes, find_free}
+use Rattle.market.specs.Dictatorships.{Dictatorship, has_seat, list_at, first_open, with_next, chosen, choice, picked, taken}
+use Rattle.market.proofs.Firsts.{find_passes}
 
 -- whether p has a seat left at turn k
 unfoldable pub is_open : Dictatorship → ℕ → ℕ → Bool
@@ -91,51 +92,3 @@ taken-le-quota d p h (suc k) =
     omega arith)
     (λ f. let none = no_more (is_programme p (picked d k)) f in omega arith)
     (cases_Bool (is_programme p (picked d k)))
-
--- a programme that is open under the older lists is open under the newer ones
-open_free : (older newer : Dictatorship) → ShortensLists older newer → (k : ℕ)
-    → ((q : ℕ) → taken newer k q ≤ taken older k q) → (p : ℕ) → is_open older k p ≡ true
-    → is_open newer k p ≡ true
-open_free older newer s k ih p o =
-    let l = is_open-true older k p o in
-    let h = ih p in
-    let f = ap (λ (xs : List ℕ). slice_index xs p) s.fill in
-    let q = ap (λ (xs : List ℕ). slice_index xs p) s.quota in
-    is_open-from newer k p (omega arith)
-
--- what the newer list takes and is open under the older ones is taken under the older ones
-picked_free : (older newer : Dictatorship) → ShortensLists older newer → (k : ℕ)
-    → ((q : ℕ) → taken newer k q ≤ taken older k q) → (p : ℕ) → picked newer k ≡ Some p
-    → is_open older k p ≡ true → picked older k ≡ Some p
-picked_free older newer s k ih p e o =
-    let rest = s.lists k in
-    let found =
-    find_free (is_open older k) (is_open newer k) (open_free older newer s k ih)
-    (list_at newer k) rest.0 p (sym (picked-find newer k) ∙ e) o in
-    picked-find older k ∙ ap (find (is_open older k)) (sym rest.1) ∙ found
-
--- with shorter lists each programme has at every turn at most as many seats taken
-pub shorter_lists_free_seats : (older newer : Dictatorship) → ShortensLists older newer
-    → FreesSeats older newer
-shorter_lists_free_seats older newer s zero p = let e = taken-zero newer p in omega arith
-shorter_lists_free_seats older newer s (suc k) p =
-    let ih = shorter_lists_free_seats older newer s k in
-    let here = ih p in
-    let n = taken-suc newer k p in
-    let o = taken-suc older k p in
-    ⊎_elim
-    (λ t.
-    let took = is_programme-true p (picked newer k) t in
-    let room = is_open-true newer k p (picked-open newer k p took) in
-    let f = ap (λ (xs : List ℕ). slice_index xs p) s.fill in
-    let q = ap (λ (xs : List ℕ). slice_index xs p) s.quota in
-    let one = one_more (is_programme p (picked newer k)) t in
-    ⊎_elim
-    (λ less. omega arith)
-    (λ same.
-    let old = picked_free older newer s k ih p took (is_open-from older k p (omega arith)) in
-    let too = one_more (is_programme p (picked older k)) (is_programme-from p (picked older k) old) in
-    omega arith)
-    (cases_lt (taken newer k p) (taken older k p)))
-    (λ f. let none = no_more (is_programme p (picked newer k)) f in omega arith)
-    (cases_Bool (is_programme p (picked newer k)))

@@ -24,7 +24,8 @@ pub record IsRound (m : Problem) (cuts : List ℕ) (table : List (List (Option �
   pub each : (t i : ℕ) → t < m.types → i < length m.lists
       → slice_index_or (slice_index_or table t []) i None ≡ tentative m cuts t i
 
--- each choice is a programme of its type, of a candidate who has a turn in it, and stands within the candidate's cut
+-- each choice is a programme of its type, of a candidate who has a turn in it, and stands within the
+-- candidate's cut
 pub record IsWithinCuts (m : Problem) (table : List (List (Option ℕ))) (cuts : List ℕ) : Type 0 where
   pub kind : (t i p : ℕ) → choice_in table t i ≡ Some p → kind_of m p ≡ t
   pub turn : (t i p : ℕ) → choice_in table t i ≡ Some p → turn_of m t i < length (order_of m t)

@@ -1,7 +1,7 @@
 -- One placement compared with another, candidate by candidate, and one market with a wider one.
 use Rattle.std.specs.Prelude.{◌≡◌, ℕ, ◌≤◌, List, Option, Some, None}
 use Rattle.market.specs.Problems.{Problem, place_of, kind_of, quota_of, list_of}
-use Rattle.market.specs.Stability.{held_by}
+use Rattle.market.specs.Stability.{held_by, IsStable}
 
 -- who is given p holds p or a programme listed higher
 abbrev pub HoldsAtLeast : List ℕ → Option ℕ → Option ℕ → Type 0
@@ -21,3 +21,8 @@ pub record Widens (m wider : Problem) : Type 0 where
   pub ranks : wider.ranks ≡ m.ranks
   pub kinds : (p : ℕ) → kind_of wider p ≡ kind_of m p
   pub quotas : (p : ℕ) → quota_of m p ≤ quota_of wider p
+
+-- stable, and in every stable placement each candidate holds the same programme or one listed higher
+pub record IsWorstStable (m : Problem) (held : List (Option ℕ)) : Type 0 where
+  pub stable : IsStable m held
+  pub worst : (other : List (Option ℕ)) → IsStable m other → GivesAtLeast m held other

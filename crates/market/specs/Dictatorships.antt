@@ -1,9 +1,10 @@
--- One serial dictatorship: turn after turn takes the first programme of its list that still has a seat.
+-- One serial dictatorship: each turn takes the first programme of its list that still has a seat.
 use Rattle.std.specs.Prelude.{◌≡◌, ℕ, zero, suc, ◌+◌, ◌<◌, ◌≤◌, Bool, List, [], ◌∷◌, ◌++◌, map, length, Option, nat_lt, slice_get, slice_index, slice_index_or}
 use Rattle.std.specs.List.{position_or_len, range_with_len}
 use Rattle.market.specs.Counting.{count_of}
 
--- for each programme its quota and its fill, the seats taken before the first turn; for each turn its list
+-- for each programme its quota and its fill, which is the seats taken before the first turn; for each
+-- turn its list
 pub record Dictatorship : Type 0 where
   pub quota : List ℕ
   pub fill : List ℕ

@@ -8,8 +8,9 @@ use Rattle.market.specs.Problems.{Problem}
 abbrev pub prog : ℕ → ℕ → Prog
 prog t q = record { kind = t; quota = q }
 
--- two programmes of two types with a seat each, and two candidates who each want first the programme in
--- which the other has the better rank: both the swap and its reverse are stable
+-- two programmes of two types with a seat each, and two candidates who each want first the programme
+-- in which the other has the better rank; the mechanism gives each the second wish, and the exchange of
+-- the two is stable as well
 abbrev pub exchange : Problem
 exchange =
     record {
@@ -20,7 +21,8 @@ exchange =
       ranks = (1 ∷ 2 ∷ []) ∷ (1 ∷ 2 ∷ []) ∷ [];
     }
 
--- the first candidate is best in both types, takes both seats, and is cut: that frees a seat for the second
+-- the first candidate is best in both types, takes both seats and is cut: the seat that this frees goes
+-- to the second
 abbrev pub freed_seat : Problem
 freed_seat =
     record {
@@ -42,7 +44,7 @@ three_rounds =
       ranks = (1 ∷ 2 ∷ 3 ∷ []) ∷ (1 ∷ 2 ∷ 3 ∷ []) ∷ [];
     }
 
--- a dictatorship of two programmes with a seat each, and two turns: the second finds its first entry full
+-- two programmes with a seat each, and two turns: the second finds its first entry full
 abbrev pub two_turns : Dictatorship
 two_turns =
     record {

@@ -1,4 +1,4 @@
--- The dictatorship of a type over local numbers: those that the type's programmes have among themselves.
+-- The dictatorship of a type over local numbers: those of the type's programmes among themselves.
 use Rattle.std.specs.Prelude.{◌≡◌, ℕ, ◌+◌, ◌<◌, ◌≤◌, List, map, length, drop, ◌==◌, filter, slice_index}
 use Rattle.std.specs.List.{range_with_len}
 use Rattle.market.specs.Counting.{count_below}
@@ -39,7 +39,7 @@ IsFillBefore m cuts t from fill =
     (j : ℕ) → j < length (programmes_of m t)
     → slice_index fill j ≡ taken (type_dictatorship m cuts t) from (slice_index (programmes_of m t) j)
 
--- each turn makes the choice that the same turn makes in the type's own dictatorship, which begins at turn 0
+-- each turn makes the choice that it makes in the type's own dictatorship, which begins at turn 0
 abbrev pub ChoosesAlike : Problem → List ℕ → ℕ → ℕ → Dictatorship → Type 0
 ChoosesAlike m cuts t from d =
     (k : ℕ) → from + k < length (order_of m t)

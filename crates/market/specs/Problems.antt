@@ -1,4 +1,4 @@
--- A placement problem as plain lists and numbers. Candidates, programmes and score types are indexes.
+-- A placement problem as lists and numbers. Candidates, programmes and score types are indexes.
 use Rattle.std.specs.Prelude.{◌≡◌, ℕ, ◌<◌, ◌≤◌, Bool, List, [], length, Option, IsTrue, is_some, ◌==◌, slice_get, slice_index, slice_index_or}
 use Rattle.std.specs.List.{position_or_len}
 use Rattle.market.specs.declared.programme.Prog.{Prog}

@@ -22,7 +22,7 @@ pub record IsTurnTable (count : ℕ) (order table : List ℕ) : Type 0 where
   pub candidates : length table ≡ count
   pub each : (i : ℕ) → i < count → slice_index table i ≡ place_of i order
 
--- for each type the turns of all candidates and its programmes, and for each programme its local number
+-- for each type the turns of all candidates and its programmes; for each programme its local number
 pub record HasTables (m : Problem) (tables members : List (List ℕ)) (locals : List ℕ) : Type 0 where
   pub valid : IsValid m
   pub table_count : length tables ≡ m.types

@@ -29,7 +29,11 @@ impl Model for Dict {
 
     ghost Value = { Dictatorship };
 
-    ghost view = { λ d. record { quota = d.quota.items; fill = d.fill.items; lists = lists_of d.lists } };
+    ghost view = { λ d. record {
+      quota = d.quota.items;
+      fill = d.fill.items;
+      lists = lists_of d.lists;
+    } };
 
     ghost invariant = { λ d. IsValidDictatorship
         (record { quota = d.quota.items; fill = d.fill.items; lists = lists_of d.lists }) };
@@ -53,7 +57,11 @@ impl Dict {
 
     // The same of lists in one piece.
     pub(crate) fn from_flat(quota: Vec<u32>, fill: Vec<u32>, lists: FlatLists) -> Dict
-        requires { IsValidDictatorship (record { quota = quota.items; fill = fill.items; lists = lists }) }
+        requires { IsValidDictatorship (record {
+          quota = quota.items;
+          fill = fill.items;
+          lists = lists;
+        }) }
         ensures quota { result.quota ≡ quota.items }
         ensures fill { result.fill ≡ fill.items }
         ensures lists { result.lists ≡ lists }

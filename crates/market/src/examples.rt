@@ -39,7 +39,8 @@ pub fn freed_seat_placement()
 /// One cut leads to the next. Three rounds, two cuts, eighteen turns of whole rounds; eleven where
 /// only what changed is run again: six, then three of the second type, then two of the first.
 pub fn three_rounds_placement()
-    ensures placement { (mechanism three_rounds).placement ≡ Option.Some 0 ∷ Option.Some 2 ∷ Option.Some 1 ∷ [] }
+    ensures placement { (mechanism three_rounds).placement
+        ≡ Option.Some 0 ∷ Option.Some 2 ∷ Option.Some 1 ∷ [] }
     ensures rounds { (mechanism three_rounds).rounds ≡ 3 }
     ensures cuts { (mechanism three_rounds).cuts ≡ 2 }
     ensures whole_rounds { (mechanism three_rounds).turns ≡ 18 }

@@ -21,7 +21,8 @@ impl Model for FlatLists {
 
     ghost view = { λ f. flat_lists f.items.items f.bounds.items };
 
-    ghost invariant = { λ f. IsFlat f.items.items f.bounds.items (flat_lists f.items.items f.bounds.items) };
+    ghost invariant = { λ f. IsFlat f.items.items f.bounds.items
+        (flat_lists f.items.items f.bounds.items) };
 }
 
 impl FlatLists {

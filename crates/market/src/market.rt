@@ -205,7 +205,8 @@ impl Market {
         requires from { from_turn ≤ length (order_of self.now kind) }
         requires fill { IsFill self.now kind fill.now }
 
-        ensures dictatorship { IfOk result (λ d. d ≡ local_dictatorship self.now cuts.now kind from_turn fill.now) }
+        ensures dictatorship { IfOk result (λ d. d
+            ≡ local_dictatorship self.now cuts.now kind from_turn fill.now) }
 
         // With the seats that the turns before `from_turn` take, its turns choose as those of the
         // type's own dictatorship over the market's numbers.
@@ -221,7 +222,8 @@ impl Market {
     // The quotas of the programmes of a type.
     fn quotas(&self, alloc: Global, kind: u32) -> Result<Vec<u32>, AllocError>
         requires { kind < self.now.types }
-        ensures { IfOk result (λ quota. quota.items ≡ map (quota_of self.now) (programmes_of self.now kind)) }
+        ensures { IfOk result (λ quota. quota.items
+            ≡ map (quota_of self.now) (programmes_of self.now kind)) }
     {
         let mut quota = Vec::new(alloc);
         let members = self.type_programmes(kind);

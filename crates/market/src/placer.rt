@@ -21,7 +21,8 @@ pub trait Placer {
         turns: &mut Steps<L>,
     ) -> Result<Outcome, AllocError>
         requires sync { IsSync R.row }
-        ensures placement { IfOk result (λ outcome. outcome.placement ≡ mechanism_placement market.now) }
+        ensures placement { IfOk result (λ outcome. outcome.placement
+            ≡ mechanism_placement market.now) }
         ensures rounds { IfOk result (λ outcome. outcome.rounds ≡ mechanism_rounds market.now) }
         ensures cuts { IfOk result (λ outcome. outcome.cuts ≡ mechanism_cuts market.now) }
         ensures turns { IfOk result (λ outcome. turns.new ≡ turns.old + outcome.turns) };

@@ -1,8 +1,10 @@
 // A programme.
 
-/// A programme: the index of its score type, and its quota, which is its number of seats.
+/// A programme.
 #[derive(Clone, Copy)]
 pub struct Prog {
+    /// The index of its score type.
     pub kind: u32,
+    /// How many seats it has.
     pub quota: u32,
 }

@@ -24,7 +24,11 @@ impl Model for TypeLists {
 
     ghost Value = { FlatTypeLists };
 
-    ghost view = { λ f. record { items = f.items.items; places = f.places.items; bounds = f.bounds.items } };
+    ghost view = { λ f. record {
+      items = f.items.items;
+      places = f.places.items;
+      bounds = f.bounds.items;
+    } };
 }
 
 impl TypeLists {
@@ -61,7 +65,8 @@ fn add_list(
 ) -> Result<(), AllocError>
     requires count { length locals.now ≡ length programmes.now }
     requires short { length list.now ≤ 48 }
-    requires entries { (j : ℕ) → j < length list.now → slice_index list.now j < length programmes.now }
+    requires entries { (j : ℕ) → j < length list.now
+        → slice_index list.now j < length programmes.now }
     ensures items { IfOk result (λ _. items.new.items ≡ items.old.items
         ++ map (slice_index locals.now) (filter (λ p. kind_in programmes.now p == kind) list.now)) }
     ensures places { IfOk result (λ _. places.new.items ≡ places.old.items

@@ -55,6 +55,7 @@ pub fn read_whole<H: Shelf>(alloc: Global, shelf: &mut H, name: &str) -> Result<
     // A file is too long exactly where more than 2^30 bytes were given.
     ensures long { IsErrOf result ReadStop.TooLong → HasMore (H.files shelf.old) name.now (2 ^ 30) }
     ensures long_cause { IsErrOf result ReadStop.TooLong → GaveMore (H.tally shelf.old) (H.tally shelf.new) (2 ^ 30) }
+    ensures tally { H.tally shelf.old ≤ H.tally shelf.new }
     ensures short { OnOk result (H.tally shelf.new ≤ H.tally shelf.old + 2 ^ 30) }
     ensures short_failed { IsErrOf result ReadStop.Failed → H.tally shelf.new ≤ H.tally shelf.old + 2 ^ 30 }
 

@@ -1,5 +1,5 @@
--- How often a number stands in a list. Lists in rising order that have each number equally often are
--- equal.
+-- How often a number stands in a list. Lists in rising order that have each number equally often
+-- are equal.
 use Rattle.std.proofs.Common.{◌≡◌, ◌≢◌, ℕ, zero, suc, ◌+◌, ◌%◌, ◌<◌, ◌≤◌, ◌==◌, List, [], ◌∷◌, length, refl, sym, ap, ◌∙◌, arith, if◌then◌else◌, ⊎_elim, ◌⊎◌}
 use Rattle.std.proofs.lemmas.Bool.{cases_lt}
 use Rattle.std.proofs.lemmas.Bool.Decides.{nat_tests}
@@ -31,10 +31,12 @@ copies-sum x (y ∷ ys) = sum_by-cons (one_if x) y ys ∙ ap (λ n. one_if x y +
 
 -- a permutation has each number equally often
 pub copies-permutation : (x : ℕ) (xs ys : List ℕ) → IsPermutation xs ys → copies x ys ≡ copies x xs
-copies-permutation x xs ys p = sym (copies-sum x ys) ∙ sum_by-IsPermutation (one_if x) xs ys p ∙ copies-sum x xs
+copies-permutation x xs ys p = sym (copies-sum x ys) ∙ sum_by-IsPermutation (one_if x) xs ys p
+    ∙ copies-sum x xs
 
 -- a number that stands nowhere
-pub copies-none : (x : ℕ) (ys : List ℕ) → ((k : ℕ) → k < length ys → slice_index ys k ≢ x) → copies x ys ≡ 0
+pub copies-none : (x : ℕ) (ys : List ℕ) → ((k : ℕ) → k < length ys → slice_index ys k ≢ x)
+    → copies x ys ≡ 0
 copies-none x [] h = refl
 copies-none x (y ∷ ys) h =
     let here : one_if x y ≡ 0 = one_if-other x y (λ e. h 0 (omega arith) (sym e)) in
@@ -45,10 +47,12 @@ copies-none x (y ∷ ys) h =
 pub copies-at : (ys : List ℕ) (k : ℕ) → k < length ys → 1 ≤ copies (slice_index ys k) ys
 copies-at [] k lt = absurd (omega arith)
 copies-at (y ∷ ys) zero lt = let here : one_if y y ≡ 1 = one_if-same y y refl in omega arith
-copies-at (y ∷ ys) (suc k) lt = let rest : 1 ≤ copies (slice_index ys k) ys = copies-at ys k (omega arith) in omega arith
+copies-at (y ∷ ys) (suc k) lt = let rest : 1 ≤ copies (slice_index ys k) ys =
+    copies-at ys k (omega arith) in omega arith
 
 -- a number that stands at two places
-pub copies-twice : (ys : List ℕ) (i j : ℕ) → i < j → j < length ys → slice_index ys i ≡ slice_index ys j → 2 ≤ copies (slice_index ys j) ys
+pub copies-twice : (ys : List ℕ) (i j : ℕ) → i < j → j < length ys
+    → slice_index ys i ≡ slice_index ys j → 2 ≤ copies (slice_index ys j) ys
 copies-twice [] i j below lt e = absurd (omega arith)
 copies-twice (y ∷ ys) i zero below lt e = absurd (omega arith)
 copies-twice (y ∷ ys) zero (suc j) below lt e =
@@ -56,11 +60,13 @@ copies-twice (y ∷ ys) zero (suc j) below lt e =
     let rest : 1 ≤ copies (slice_index ys j) ys = copies-at ys j (omega arith) in
     omega arith
 copies-twice (y ∷ ys) (suc i) (suc j) below lt e =
-    let rest : 2 ≤ copies (slice_index ys j) ys = copies-twice ys i j (omega arith) (omega arith) e in
+    let rest : 2 ≤ copies (slice_index ys j) ys =
+    copies-twice ys i j (omega arith) (omega arith) e in
     omega arith
 
 -- in a list whose numbers tell their places no number stands twice
-pub copies-placed : (m x o : ℕ) (ys : List ℕ) → ((k : ℕ) → k < length ys → slice_index ys k % m ≡ o + k) → copies x ys ≤ 1
+pub copies-placed : (m x o : ℕ) (ys : List ℕ)
+    → ((k : ℕ) → k < length ys → slice_index ys k % m ≡ o + k) → copies x ys ≤ 1
 copies-placed m x o [] h = omega arith
 copies-placed m x o (y ∷ ys) h =
     let next : (k : ℕ) → k < length ys → slice_index ys k % m ≡ suc o + k =
@@ -95,7 +101,8 @@ Rises-head x y ys r one = ⊎_elim
     (cases_lt x y)
 
 -- rising lists that have each number equally often are equal
-pub Rises-unique : (xs ys : List ℕ) → Rises xs → Rises ys → ((x : ℕ) → copies x xs ≡ copies x ys) → xs ≡ ys
+pub Rises-unique : (xs ys : List ℕ) → Rises xs → Rises ys → ((x : ℕ) → copies x xs ≡ copies x ys)
+    → xs ≡ ys
 Rises-unique [] [] r s h = refl
 Rises-unique [] (y ∷ ys) r s h =
     let one : 1 ≤ copies y (y ∷ ys) = copies-at (y ∷ ys) 0 (omega arith) in
@@ -121,10 +128,12 @@ Rises-unique (x ∷ xs) (y ∷ ys) r s h =
     cc
 
 -- in a rising list whose neighbours differ no number stands twice
-pub copies-differ : (x : ℕ) (xs : List ℕ) → Rises xs → ((k : ℕ) → k + 1 < length xs → slice_index xs k ≢ slice_index xs (k + 1)) → copies x xs ≤ 1
+pub copies-differ : (x : ℕ) (xs : List ℕ) → Rises xs
+    → ((k : ℕ) → k + 1 < length xs → slice_index xs k ≢ slice_index xs (k + 1)) → copies x xs ≤ 1
 copies-differ x [] r h = omega arith
 copies-differ x (y ∷ ys) r h =
-    let rest : copies x ys ≤ 1 = copies-differ x ys (Rises-tail y ys r) (λ k lt. differ-tail y ys h k lt) in
+    let rest : copies x ys ≤ 1 =
+    copies-differ x ys (Rises-tail y ys r) (λ k lt. differ-tail y ys h k lt) in
     ⊎_elim
     (λ (other : one_if x y ≡ 0). omega arith)
     (λ (same : x ≡ y).
@@ -137,6 +146,10 @@ copies-differ x (y ∷ ys) r h =
     omega arith)
     (one_if-cases x y)
   where
-    differ-tail : (y : ℕ) (ys : List ℕ) → ((k : ℕ) → k + 1 < suc (length ys) → slice_index (y ∷ ys) k ≢ slice_index (y ∷ ys) (k + 1))
+    differ-tail : (y : ℕ) (ys : List ℕ)
+        → ((k : ℕ) → k + 1 < suc (length ys)
+        → slice_index (y ∷ ys) k ≢ slice_index (y ∷ ys) (k + 1))
         → (k : ℕ) → k + 1 < length ys → slice_index ys k ≢ slice_index ys (k + 1)
-    differ-tail y ys h k lt e = h (suc k) (omega arith) (e ∙ (let n : suc (k + 1) ≡ suc k + 1 = omega arith in ap (slice_index (y ∷ ys)) n))
+    differ-tail y ys h k lt e =
+        h (suc k) (omega arith) (e
+        ∙ (let n : suc (k + 1) ≡ suc k + 1 = omega arith in ap (slice_index (y ∷ ys)) n))

@@ -17,7 +17,8 @@ is-not-below a b h = grind (arith, nat_tests)
 abbrev Finds : List ℕ → Option Repeat → Type 0
 Finds xs r = MatchOption r (NoRepeat xs (length xs)) (λ r. IsFirstRepeat xs r.earlier r.later)
 
-pub earlier-first : (candidates ranks : List ℕ) (c r : Option Repeat) → length candidates ≡ length ranks → Finds candidates c → Finds ranks r
+pub earlier-first : (candidates ranks : List ℕ) (c r : Option Repeat)
+    → length candidates ≡ length ranks → Finds candidates c → Finds ranks r
     → IsFirstDuplicate candidates ranks (earlier_duplicate c r)
 earlier-first candidates ranks None None size g h = (g, h)
 earlier-first candidates ranks None (Some r) size g h =
@@ -27,6 +28,9 @@ earlier-first candidates ranks (Some c) None size g h =
     let within = g.within in
     (g, λ i j below lt. h i j below (omega arith))
 earlier-first candidates ranks (Some c) (Some r) size g h =
-    cond_both (nat_lt r.later c.later) (Some (Rank r)) (Some (Candidate c)) (IsFirstDuplicate candidates ranks)
-    (λ yes. let first = is-below r.later c.later yes in (h, λ i j below lt. g.first i j below (omega arith)))
-    (λ no. let first = is-not-below r.later c.later no in (g, λ i j below lt. h.first i j below (omega arith)))
+    cond_both (nat_lt r.later c.later) (Some (Rank r)) (Some (Candidate c))
+    (IsFirstDuplicate candidates ranks)
+    (λ yes. let first = is-below r.later c.later yes in
+    (h, λ i j below lt. g.first i j below (omega arith)))
+    (λ no. let first = is-not-below r.later c.later no in
+    (g, λ i j below lt. h.first i j below (omega arith)))

@@ -20,7 +20,8 @@ use Rattle.rank_lists.specs.RowsRead.{unrelated, row_at}
 use Rattle.rank_lists.proofs.RowGroups.{HasFields, HasFields-from, first_of-none, candidate_group-same, rank_group-same, same_candidate-group, same_rank-group}
 
 -- where the least of some faults is none, each is none
-least_fault-each : (fault : ℕ → Option FileFault) (n : ℕ) → least_fault fault n ≡ None → (k : ℕ) → k < n → fault k ≡ None
+least_fault-each : (fault : ℕ → Option FileFault) (n : ℕ) → least_fault fault n ≡ None → (k : ℕ)
+    → k < n → fault k ≡ None
 unfolding least_fault
 least_fault-each fault zero h k lt = absurd (omega arith)
 least_fault-each fault (suc n) h k lt =
@@ -31,50 +32,66 @@ least_fault-each fault (suc n) h k lt =
     (cases_lt k n)
 
 -- where each fault is none, the least is none
-least_fault-none : (fault : ℕ → Option FileFault) (n : ℕ) → ((k : ℕ) → k < n → fault k ≡ None) → least_fault fault n ≡ None
+least_fault-none : (fault : ℕ → Option FileFault) (n : ℕ) → ((k : ℕ) → k < n → fault k ≡ None)
+    → least_fault fault n ≡ None
 unfolding least_fault
 least_fault-none fault zero h = refl
-least_fault-none fault (suc n) h = rw (least_fault-none fault n (λ k lt. h k (omega arith))) (h n (omega arith))
+least_fault-none fault (suc n) h =
+    rw (least_fault-none fault n (λ k lt. h k (omega arith))) (h n (omega arith))
 
-row_fault-at : (meaning : List Row → Row → Option FileFault) (body : List Row) (k : ℕ) → k < length body
-    → row_fault ranks_form reading meaning body k ≡ first_of (shape_fault ranks_form k (row_at body k)) (first_of (reading (row_at body k)) (meaning (take k body) (row_at body k)))
+row_fault-at : (meaning : List Row → Row → Option FileFault) (body : List Row) (k : ℕ)
+    → k < length body
+    → row_fault ranks_form reading meaning body k
+    ≡ first_of (shape_fault ranks_form k (row_at body k))
+    (first_of (reading (row_at body k)) (meaning (take k body) (row_at body k)))
 row_fault-at meaning body k lt =
-    ap (option_and_then (fault_behind ranks_form reading meaning (take k body))) (slice_get-get_or body k (0, []) lt)
-    ∙ ap (λ n. first_of (shape_fault ranks_form n (row_at body k)) (first_of (reading (row_at body k)) (meaning (take k body) (row_at body k))))
+    ap (option_and_then (fault_behind ranks_form reading meaning (take k body)))
+    (slice_get-get_or body k (0, []) lt)
+    ∙ ap (λ n. first_of (shape_fault ranks_form n (row_at body k))
+    (first_of (reading (row_at body k)) (meaning (take k body) (row_at body k))))
     (length-take-le k body (omega arith))
 
 not-true : (b : Bool) → (b ≡ true → ⊥) → b ≡ false
 not-true b h = ⊎_elim (λ (yes : b ≡ true). absurd (h yes)) (λ (no : b ≡ false). no) (cases_Bool b)
 
 -- no row passes the test
-find-none : (p : Row → Bool) (rows : List Row) → ((i : ℕ) → i < length rows → p (row_at rows i) ≡ false) → find p rows ≡ None
+find-none : (p : Row → Bool) (rows : List Row)
+    → ((i : ℕ) → i < length rows → p (row_at rows i) ≡ false) → find p rows ≡ None
 find-none p [] h = refl
-find-none p (row ∷ rows) h = rw (h 0 (omega arith)) (find-none p rows (λ i lt. h (suc i) (omega arith)))
+find-none p (row ∷ rows) h =
+    rw (h 0 (omega arith)) (find-none p rows (λ i lt. h (suc i) (omega arith)))
 
 -- the first row that passes the test
-find-some : (p : Row → Bool) (rows : List Row) (i : ℕ) → i < length rows → p (row_at rows i) ≡ true → ((j : ℕ) → j < i → p (row_at rows j) ≡ false) → find p rows ≡ Some (row_at rows i)
+find-some : (p : Row → Bool) (rows : List Row) (i : ℕ) → i < length rows → p (row_at rows i) ≡ true
+    → ((j : ℕ) → j < i → p (row_at rows j) ≡ false) → find p rows ≡ Some (row_at rows i)
 find-some p [] i lt passes before = absurd (omega arith)
 find-some p (row ∷ rows) zero lt passes before = rw passes refl
 find-some p (row ∷ rows) (suc i) lt passes before =
-    rw (before 0 (omega arith)) (find-some p rows i (omega arith) passes (λ j below. before (suc j) (omega arith)))
+    rw (before 0 (omega arith))
+    (find-some p rows i (omega arith) passes (λ j below. before (suc j) (omega arith)))
 
 -- rows in groups: those of one group repeat one another
-module _ (body : List Row) (n : ℕ) (all : n ≤ length body) (group : Row → ℕ) (same : Row → Row → Bool)
-    (to : (i k : ℕ) → i < n → k < n → same (row_at body k) (row_at body i) ≡ true → group (row_at body i) ≡ group (row_at body k))
-    (from : (i k : ℕ) → i < n → k < n → group (row_at body i) ≡ group (row_at body k) → same (row_at body k) (row_at body i) ≡ true) where
+module _ (body : List Row) (n : ℕ) (all : n ≤ length body) (group : Row → ℕ)
+    (same : Row → Row → Bool)
+    (to : (i k : ℕ) → i < n → k < n → same (row_at body k) (row_at body i) ≡ true
+    → group (row_at body i) ≡ group (row_at body k))
+    (from : (i k : ℕ) → i < n → k < n → group (row_at body i) ≡ group (row_at body k)
+    → same (row_at body k) (row_at body i) ≡ true) where
   groups-length : length (map group (take n body)) ≡ n
   groups-length = length-map (take n body) group ∙ length-take-le n body all
 
   group-at : (k : ℕ) → k < n → slice_index (map group (take n body)) k ≡ group (row_at body k)
   group-at k lt =
       let size = length-take-le n body all in
-      get_or-map group (take n body) k (0, []) 0 (omega arith) ∙ ap group (get_or-take n body k (0, []) lt)
+      get_or-map group (take n body) k (0, []) 0 (omega arith)
+      ∙ ap group (get_or-take n body k (0, []) lt)
 
   earlier-at : (k i : ℕ) → k < n → i < k → row_at (take k body) i ≡ row_at body i
   earlier-at k i lt below = get_or-take k body i (0, []) below
 
   -- a row that repeats no earlier one
-  repeat-none : (m k : ℕ) (file : FileKind) (line field : ℕ) → NoRepeat (map group (take n body)) m → k < m → m ≤ n
+  repeat-none : (m k : ℕ) (file : FileKind) (line field : ℕ) → NoRepeat (map group (take n body)) m
+      → k < m → m ≤ n
       → repeat_fault file line field (same (row_at body k)) (take k body) ≡ None
   repeat-none m k file line field distinct lt le =
       let size = length-take-le k body (omega arith) in
@@ -82,27 +99,34 @@ module _ (body : List Row) (n : ℕ) (all : n ≤ length body) (group : Row → 
       find-none (same (row_at body k)) (take k body) (λ i below.
       let here : i < k = omega arith in
       rw (earlier-at k i (omega arith) here) (not-true _ (λ yes.
-      distinct i k here lt (group-at i (omega arith) ∙ to i k (omega arith) (omega arith) yes ∙ sym (group-at k (omega arith)))))) in
+      distinct i k here lt (group-at i (omega arith) ∙ to i k (omega arith) (omega arith) yes
+      ∙ sym (group-at k (omega arith)))))) in
       ap (option_map (λ row. duplicate_at file line field row.0)) none
 
   -- the first row that repeats an earlier one
-  repeat-found : (i k : ℕ) (file : FileKind) (line field : ℕ) → IsFirstRepeat (map group (take n body)) i k
-      → repeat_fault file line field (same (row_at body k)) (take k body) ≡ Some (duplicate_at file line field (row_at body i).0)
+  repeat-found : (i k : ℕ) (file : FileKind) (line field : ℕ)
+      → IsFirstRepeat (map group (take n body)) i k
+      → repeat_fault file line field (same (row_at body k)) (take k body)
+      ≡ Some (duplicate_at file line field (row_at body i).0)
   repeat-found i k file line field first =
       let whole = groups-length in
       let order : i < k = first.order in
       let within : k < n = omega (arith, first.within) in
       let size = length-take-le k body (omega arith) in
-      let groups : group (row_at body i) ≡ group (row_at body k) = sym (group-at i (omega arith)) ∙ first.same ∙ group-at k within in
+      let groups : group (row_at body i) ≡ group (row_at body k) = sym (group-at i (omega arith))
+      ∙ first.same ∙ group-at k within in
       let found : find (same (row_at body k)) (take k body) ≡ Some (row_at (take k body) i) =
       find-some (same (row_at body k)) (take k body) i (omega arith)
       (rw (earlier-at k i within order) (from i k (omega arith) within groups))
       (λ j below. rw (earlier-at k j within (omega arith)) (not-true _ (λ yes.
       first.first j i below order
-      (group-at j (omega arith) ∙ to j k (omega arith) within yes ∙ sym groups ∙ sym (group-at i (omega arith)))))) in
-      ap (option_map (λ row. duplicate_at file line field row.0)) (found ∙ ap (λ row. Some row) (earlier-at k i within order))
+      (group-at j (omega arith) ∙ to j k (omega arith) within yes ∙ sym groups
+      ∙ sym (group-at i (omega arith)))))) in
+      ap (option_map (λ row. duplicate_at file line field row.0))
+      (found ∙ ap (λ row. Some row) (earlier-at k i within order))
 
-module _ (bytes : List ℕ) (n : ℕ) (left : List Row) (r : IsReadTo ranks_form reading unrelated bytes n left) where
+module _ (bytes : List ℕ) (n : ℕ) (left : List Row)
+    (r : IsReadTo ranks_form reading unrelated bytes n left) where
   abbrev body : List Row
   body = data_rows bytes
 
@@ -113,7 +137,8 @@ module _ (bytes : List ℕ) (n : ℕ) (left : List Row) (r : IsReadTo ranks_form
   own : (k : ℕ) → k < n → (shape_fault ranks_form k (at k) ≡ None) × (reading (at k) ≡ None)
   own k lt =
       let within = r.within in
-      let here = sym (row_fault-at unrelated body k (omega arith)) ∙ least_fault-each _ n r.none k lt in
+      let here = sym (row_fault-at unrelated body k (omega arith))
+      ∙ least_fault-each _ n r.none k lt in
       let parts = first_of-none _ _ here in
       (parts.0, (first_of-none _ _ parts.1).0)
 
@@ -126,29 +151,41 @@ module _ (bytes : List ℕ) (n : ℕ) (left : List Row) (r : IsReadTo ranks_form
   abbrev ranks : List ℕ
   ranks = map rank_group (take n body)
 
-  to-candidate : (i k : ℕ) → i < n → k < n → same_candidate (at k) (at i) ≡ true → candidate_group (at i) ≡ candidate_group (at k)
+  to-candidate : (i k : ℕ) → i < n → k < n → same_candidate (at k) (at i) ≡ true
+      → candidate_group (at i) ≡ candidate_group (at k)
   to-candidate i k a b e = candidate_group-same (at k) (at i) e
 
-  from-candidate : (i k : ℕ) → i < n → k < n → candidate_group (at i) ≡ candidate_group (at k) → same_candidate (at k) (at i) ≡ true
-  from-candidate i k a b e = same_candidate-group (at k) (at i) (read-fields k b) (read-fields i a) e
+  from-candidate : (i k : ℕ) → i < n → k < n → candidate_group (at i) ≡ candidate_group (at k)
+      → same_candidate (at k) (at i) ≡ true
+  from-candidate i k a b e =
+      same_candidate-group (at k) (at i) (read-fields k b) (read-fields i a) e
 
-  to-rank : (i k : ℕ) → i < n → k < n → same_rank (at k) (at i) ≡ true → rank_group (at i) ≡ rank_group (at k)
+  to-rank : (i k : ℕ) → i < n → k < n → same_rank (at k) (at i) ≡ true
+      → rank_group (at i) ≡ rank_group (at k)
   to-rank i k a b e = rank_group-same (at k) (at i) e
 
-  from-rank : (i k : ℕ) → i < n → k < n → rank_group (at i) ≡ rank_group (at k) → same_rank (at k) (at i) ≡ true
+  from-rank : (i k : ℕ) → i < n → k < n → rank_group (at i) ≡ rank_group (at k)
+      → same_rank (at k) (at i) ≡ true
   from-rank i k a b e = same_rank-group (at k) (at i) (read-fields k b) (read-fields i a) e
 
-  no-candidate : (m k : ℕ) → NoRepeat candidates m → k < m → m ≤ n → repeat_fault Ranks (at k).0 2 (same_candidate (at k)) (take k body) ≡ None
-  no-candidate m k distinct lt le = repeat-none body n r.within candidate_group same_candidate to-candidate from-candidate m k Ranks (at k).0 2 distinct lt le
+  no-candidate : (m k : ℕ) → NoRepeat candidates m → k < m → m ≤ n
+      → repeat_fault Ranks (at k).0 2 (same_candidate (at k)) (take k body) ≡ None
+  no-candidate m k distinct lt le =
+      repeat-none body n r.within candidate_group same_candidate to-candidate from-candidate m k
+      Ranks (at k).0 2 distinct lt le
 
-  no-rank : (m k : ℕ) → NoRepeat ranks m → k < m → m ≤ n → repeat_fault Ranks (at k).0 3 (same_rank (at k)) (take k body) ≡ None
-  no-rank m k distinct lt le = repeat-none body n r.within rank_group same_rank to-rank from-rank m k Ranks (at k).0 3 distinct lt le
+  no-rank : (m k : ℕ) → NoRepeat ranks m → k < m → m ≤ n
+      → repeat_fault Ranks (at k).0 3 (same_rank (at k)) (take k body) ≡ None
+  no-rank m k distinct lt le =
+      repeat-none body n r.within rank_group same_rank to-rank from-rank m k Ranks
+      (at k).0 3 distinct lt le
 
   first_of-both : (a b : Option FileFault) → a ≡ None → b ≡ None → first_of a b ≡ None
   first_of-both a b g h = rw g h
 
   -- the rows before the first repeat have no fault
-  clear : (m : ℕ) → m ≤ n → NoRepeat candidates m → NoRepeat ranks m → IsReadTo ranks_form reading meaning bytes m (drop m body)
+  clear : (m : ℕ) → m ≤ n → NoRepeat candidates m → NoRepeat ranks m
+      → IsReadTo ranks_form reading meaning bytes m (drop m body)
   clear m le c d =
       let within = r.within in
       record {
@@ -158,45 +195,57 @@ module _ (bytes : List ℕ) (n : ℕ) (left : List Row) (r : IsReadTo ranks_form
         none = least_fault-none _ m (λ k lt.
             let free = own k (omega arith) in
             row_fault-at meaning body k (omega arith)
-            ∙ first_of-both _ _ free.0 (first_of-both _ _ free.1 (first_of-both _ _ (no-candidate m k c lt le) (no-rank m k d lt le))));
+            ∙ first_of-both _ _ free.0
+            (first_of-both _ _ free.1
+            (first_of-both _ _ (no-candidate m k c lt le) (no-rank m k d lt le))));
       }
 
   -- a row behind clear ones that repeats one of them has the file's first fault
-  stops : (k : ℕ) (f : FileFault) → k < n → NoRepeat candidates k → NoRepeat ranks k → meaning (take k body) (at k) ≡ Some f → ranks_fault bytes ≡ Some f
+  stops : (k : ℕ) (f : FileFault) → k < n → NoRepeat candidates k → NoRepeat ranks k
+      → meaning (take k body) (at k) ≡ Some f → ranks_fault bytes ≡ Some f
   stops k f lt c d found =
       let within = r.within in
       let free = own k lt in
       let rest : drop k body ≡ at k ∷ drop (suc k) body = drop-cons body k (0, []) (omega arith) in
-      let read = subst (λ rows. IsReadTo ranks_form reading meaning bytes k rows) rest (clear k (omega arith) c d) in
-      IsReadTo-stops ranks_form reading meaning bytes k (at k) (drop (suc k) body) f read (rw (free.0, free.1) found)
+      let read = subst (λ rows. IsReadTo ranks_form reading meaning bytes k rows) rest
+      (clear k (omega arith) c d) in
+      IsReadTo-stops ranks_form reading meaning bytes k (at k) (drop (suc k) body) f read
+      (rw (free.0, free.1) found)
 
   size : length (take n body) ≡ n
   size = length-take-le n body r.within
 
   -- no repeat at all
-  pub clear-all : NoRepeat candidates (length candidates) → NoRepeat ranks (length ranks) → IsReadTo ranks_form reading meaning bytes n left
+  pub clear-all : NoRepeat candidates (length candidates) → NoRepeat ranks (length ranks)
+      → IsReadTo ranks_form reading meaning bytes n left
   clear-all c d =
       let sizes = length-map (take n body) candidate_group in
       let sizes' = length-map (take n body) rank_group in
       let whole = size in
-      let read = clear n (omega arith) (λ i j below lt. c i j below (omega arith)) (λ i j below lt. d i j below (omega arith)) in
+      let read = clear n (omega arith) (λ i j below lt. c i j below (omega arith))
+      (λ i j below lt. d i j below (omega arith)) in
       subst (λ rows. IsReadTo ranks_form reading meaning bytes n rows) (sym r.left_is) read
 
   -- the first repeat is that of a candidate in a type
-  pub candidate-first : (i k : ℕ) → IsFirstRepeat candidates i k → NoRepeat ranks k → ranks_fault bytes ≡ Some (duplicate_at Ranks (at k).0 2 (at i).0)
+  pub candidate-first : (i k : ℕ) → IsFirstRepeat candidates i k → NoRepeat ranks k
+      → ranks_fault bytes ≡ Some (duplicate_at Ranks (at k).0 2 (at i).0)
   candidate-first i k first d =
       let sizes = length-map (take n body) candidate_group in
       let whole = size in
       let within : k < n = omega (arith, first.within) in
-      let found = repeat-found body n r.within candidate_group same_candidate to-candidate from-candidate i k Ranks (at k).0 2 first in
+      let found = repeat-found body n r.within candidate_group same_candidate to-candidate
+      from-candidate i k Ranks (at k).0 2 first in
       stops k (duplicate_at Ranks (at k).0 2 (at i).0) within first.first d (rw found refl)
 
   -- the first repeat is that of a rank in a type
-  pub rank-first : (i k : ℕ) → IsFirstRepeat ranks i k → NoRepeat candidates (k + 1) → ranks_fault bytes ≡ Some (duplicate_at Ranks (at k).0 3 (at i).0)
+  pub rank-first : (i k : ℕ) → IsFirstRepeat ranks i k → NoRepeat candidates (k + 1)
+      → ranks_fault bytes ≡ Some (duplicate_at Ranks (at k).0 3 (at i).0)
   rank-first i k first c =
       let sizes = length-map (take n body) rank_group in
       let whole = size in
       let within : k < n = omega (arith, first.within) in
-      let found = repeat-found body n r.within rank_group same_rank to-rank from-rank i k Ranks (at k).0 3 first in
-      stops k (duplicate_at Ranks (at k).0 3 (at i).0) within (λ a b below lt. c a b below (omega arith)) first.first
+      let found = repeat-found body n r.within rank_group same_rank to-rank from-rank i k Ranks
+      (at k).0 3 first in
+      stops k (duplicate_at Ranks (at k).0 3 (at i).0) within
+      (λ a b below lt. c a b below (omega arith)) first.first
       (rw (no-candidate (k + 1) k c (omega arith) (omega arith)) found)

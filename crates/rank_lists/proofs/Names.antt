@@ -8,7 +8,8 @@ use Rattle.rank_lists.specs.Groups.{name_number}
 
 -- one byte more
 pub name-fits : (k v b : ℕ) → v < 256 ^ k → b < 256 → v * 256 + b < 256 ^ (k + 1)
-name-fits k v b small byte = let step : 256 ^ (k + 1) ≡ 256 ^ k * 256 = rw add-one (pow-suc 256 k) in omega arith
+name-fits k v b small byte = let step : 256 ^ (k + 1) ≡ 256 ^ k * 256 =
+    rw add-one (pow-suc 256 k) in omega arith
 
 -- at most eight bytes
 pub short-name : (k : ℕ) → k ≤ 8 → 256 ^ k ≤ 256 ^ 8
@@ -49,7 +50,9 @@ and-both false b h = absurd (cc)
 
 type-bytes : (bs : List ℕ) → list_all is_type_byte bs ≡ true → AreBytes bs
 type-bytes [] h = tt
-type-bytes (b ∷ bs) h = let both = and-both (is_type_byte b) (list_all is_type_byte bs) h in (type-byte b both.0, type-bytes bs both.1)
+type-bytes (b ∷ bs) h = let both =
+    and-both (is_type_byte b) (list_all is_type_byte bs) h in
+    (type-byte b both.0, type-bytes bs both.1)
 
 -- what a name of a type is
 pub record IsName (text : List ℕ) : Type 0 where
@@ -61,7 +64,8 @@ IsName-from text h =
     let parts = and-both _ (list_all is_type_byte text) h in
     record { short = name-length text parts.0; bytes = type-bytes text parts.1 }
   where
-    name-length : (text : List ℕ) → (nat_le 1 (length text) && nat_le (length text) 8) ≡ true → length text ≤ 8
+    name-length : (text : List ℕ) → (nat_le 1 (length text) && nat_le (length text) 8) ≡ true
+        → length text ≤ 8
     name-length text h = grind (arith, nat_tests)
 
 -- the number of a name fits a word

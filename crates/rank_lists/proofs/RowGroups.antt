@@ -1,5 +1,5 @@
--- A row without a fault of its own has a candidate, a type name and a rank within their limits, so
--- two such rows are in the same group exactly where the tests for duplicates say so.
+-- A row without a fault of its own has a candidate, a type name and a rank within their limits,
+-- so two such rows are in the same group exactly where the tests for duplicates say so.
 use Rattle.std.proofs.Common.{◌≡◌, ℕ, ◌<◌, ◌≤◌, ◌==◌, ◌&&◌, List, Bool, true, false, nat_le, not, length, refl, ap, arith, Option, Some, None, Result, Ok, Err}
 use Rattle.std.proofs.lemmas.Bool.{cond_both}
 use Rattle.std.proofs.lemmas.Bool.Decides.{nat_tests}
@@ -30,12 +30,15 @@ pub first_of-none : (a b : Option FileFault) → first_of a b ≡ None → (a �
 first_of-none (Some f) b h = absurd (cc)
 first_of-none None b h = (refl, h)
 
-number-read : (file : FileKind) (line field : ℕ) (text : List ℕ) (low high : ℕ) → reading_fault file line field (number_of text low high) ≡ None
+number-read : (file : FileKind) (line field : ℕ) (text : List ℕ) (low high : ℕ)
+    → reading_fault file line field (number_of text low high) ≡ None
     → (low ≤ value text) × (value text ≤ high)
 number-read file line field text low high =
-    let P : Result ℕ FaultKind → Type 0 = λ r. reading_fault file line field r ≡ None → (low ≤ value text) × (value text ≤ high) in
+    let P : Result ℕ FaultKind → Type 0 = λ r. reading_fault file line field r ≡ None
+    → (low ≤ value text) × (value text ≤ high) in
     cond_both (is_number text) _ (Err NotNumber) P
-    (λ yes. cond_both (nat_le low (value text) && nat_le (value text) high) (Ok (value text)) (Err OutOfRange) P
+    (λ yes. cond_both (nat_le low (value text) && nat_le (value text) high) (Ok (value text))
+    (Err OutOfRange) P
     (λ inside none. between low (value text) high inside)
     (λ outside none. absurd (cc)))
     (λ no none. absurd (cc))
@@ -43,9 +46,11 @@ number-read file line field text low high =
     between : (low v high : ℕ) → (nat_le low v && nat_le v high) ≡ true → (low ≤ v) × (v ≤ high)
     between low v high h = (grind (arith, nat_tests), grind (arith, nat_tests))
 
-name-read : (file : FileKind) (line field : ℕ) (text : List ℕ) → reading_fault file line field (type_name_of text) ≡ None → IsName text
+name-read : (file : FileKind) (line field : ℕ) (text : List ℕ)
+    → reading_fault file line field (type_name_of text) ≡ None → IsName text
 name-read file line field text =
-    let P : Result (List ℕ) FaultKind → Type 0 = λ r. reading_fault file line field r ≡ None → IsName text in
+    let P : Result (List ℕ) FaultKind → Type 0 = λ r. reading_fault file line field r ≡ None
+    → IsName text in
     cond_both (is_type_name text) (Ok text) (Err BadTypeName) P
     (λ yes none. IsName-from text yes)
     (λ no none. absurd (cc))
@@ -56,7 +61,13 @@ HasFields-from row h =
     let later = first_of-none _ _ parts.1 in
     let candidate = number-read Ranks row.0 1 (field_at row 0) 1 99999999999 parts.0 in
     let rank = number-read Ranks row.0 3 (field_at row 2) 1 99999999 later.1 in
-    record { candidate = candidate.1; name = name-read Ranks row.0 2 (field_at row 1) later.0; low = rank.0; rank = rank.1 }
+    record {
+      candidate = candidate.1;
+      name = name-read Ranks row.0 2 (field_at row 1) later.0;
+      low =
+          rank.0;
+      rank = rank.1;
+    }
 
 and-both : (a b : Bool) → (a && b) ≡ true → (a ≡ true) × (b ≡ true)
 and-both true b h = (refl, h)
@@ -72,24 +83,29 @@ true-eq : (a b : ℕ) → (a == b) ≡ true → a ≡ b
 true-eq a b e = grind (arith, nat_tests)
 
 -- rows that rank the same candidate in the same type are in one group
-pub candidate_group-same : (row other : Row) → same_candidate row other ≡ true → candidate_group other ≡ candidate_group row
+pub candidate_group-same : (row other : Row) → same_candidate row other ≡ true
+    → candidate_group other ≡ candidate_group row
 candidate_group-same row other h =
     let parts = and-both _ _ h in
     let candidates : candidate_in row ≡ candidate_in other = true-eq _ _ parts.0 in
-    let names : type_in row ≡ type_in other = (bytes_eq-Decides (type_in row) (type_in other)).0 parts.1 in
+    let names : type_in row ≡ type_in other =
+    (bytes_eq-Decides (type_in row) (type_in other)).0 parts.1 in
     let numbers : name_number (type_in row) ≡ name_number (type_in other) = ap name_number names in
     omega arith
 
-pub rank_group-same : (row other : Row) → same_rank row other ≡ true → rank_group other ≡ rank_group row
+pub rank_group-same : (row other : Row) → same_rank row other ≡ true
+    → rank_group other ≡ rank_group row
 rank_group-same row other h =
     let parts = and-both _ _ h in
     let ranks : rank_in row ≡ rank_in other = true-eq _ _ parts.0 in
-    let names : type_in row ≡ type_in other = (bytes_eq-Decides (type_in row) (type_in other)).0 parts.1 in
+    let names : type_in row ≡ type_in other =
+    (bytes_eq-Decides (type_in row) (type_in other)).0 parts.1 in
     let numbers : name_number (type_in row) ≡ name_number (type_in other) = ap name_number names in
     omega arith
 
 -- rows of one group rank the same candidate in the same type
-pub same_candidate-group : (row other : Row) → HasFields row → HasFields other → candidate_group other ≡ candidate_group row → same_candidate row other ≡ true
+pub same_candidate-group : (row other : Row) → HasFields row → HasFields other
+    → candidate_group other ≡ candidate_group row → same_candidate row other ≡ true
 same_candidate-group row other g h e =
     let low : candidate_in row ≤ 99999999999 = g.candidate in
     let high : candidate_in other ≤ 99999999999 = h.candidate in
@@ -98,7 +114,8 @@ same_candidate-group row other g h e =
     let names : type_in row ≡ type_in other = IsName-same _ _ g.name h.name numbers in
     both-and _ _ (eq-true _ _ candidates) ((bytes_eq-Decides (type_in row) (type_in other)).1 names)
 
-pub same_rank-group : (row other : Row) → HasFields row → HasFields other → rank_group other ≡ rank_group row → same_rank row other ≡ true
+pub same_rank-group : (row other : Row) → HasFields row → HasFields other
+    → rank_group other ≡ rank_group row → same_rank row other ≡ true
 same_rank-group row other g h e =
     let low : rank_in row ≤ 99999999 = g.rank in
     let high : rank_in other ≤ 99999999 = h.rank in
@@ -112,17 +129,20 @@ pub few-rows : (index : ℕ) (row : Row) → own_fault index row ≡ None → in
 few-rows index row h =
     let shape = first_of-none (shape_fault ranks_form index row) (reading row) h in
     let rows = fault_if (nat_le 20000000 index) (fault_at Ranks row.0 0 TooManyRows) in
-    let behind = first_of-none (long_fault ranks_form row) (first_of rows (count_fault row)) shape.0 in
+    let behind = first_of-none (long_fault ranks_form row) (first_of rows (count_fault row))
+    shape.0 in
     allowed (nat_le 20000000 index) (fault_at Ranks row.0 0 TooManyRows) (below index)
     (first_of-none rows (count_fault row) behind.1).0
   where
     count_fault : Row → Option FileFault
-    count_fault row = fault_if (not (length (fields_of row) == 3)) (fault_at Ranks row.0 0 FieldCount)
+    count_fault row = fault_if (not (length (fields_of row) == 3))
+        (fault_at Ranks row.0 0 FieldCount)
 
     below : (index : ℕ) → nat_le 20000000 index ≡ false → index < 20000000
     below index h = grind (arith, nat_tests)
 
-    allowed : (test : Bool) (fault : FileFault) → (test ≡ false → index < 20000000) → fault_if test fault ≡ None → index < 20000000
+    allowed : (test : Bool) (fault : FileFault) → (test ≡ false → index < 20000000)
+        → fault_if test fault ≡ None → index < 20000000
     allowed true fault h none = absurd (cc)
     allowed false fault h none = h refl
 
@@ -131,5 +151,8 @@ first_of-nothing (Some f) = refl
 first_of-nothing None = refl
 
 -- the fault of a row by itself is its fault beside rows that it has nothing to do with
-pub own_fault-unrelated : (index : ℕ) (row : Row) → first_of (shape_fault ranks_form index row) (first_of (reading row) None) ≡ own_fault index row
-own_fault-unrelated index row = ap (first_of (shape_fault ranks_form index row)) (first_of-nothing (reading row))
+pub own_fault-unrelated : (index : ℕ) (row : Row)
+    → first_of (shape_fault ranks_form index row) (first_of (reading row) None)
+    ≡ own_fault index row
+own_fault-unrelated index row =
+    ap (first_of (shape_fault ranks_form index row)) (first_of-nothing (reading row))

@@ -1,5 +1,5 @@
--- A list whose numbers have their places behind them, and the same list sorted: equal numbers become
--- neighbours, and their places tell which of them repeats first.
+-- A list whose numbers have their places behind them, and the same list sorted: equal numbers
+-- become neighbours, and their places tell which of them repeats first.
 use Rattle.std.proofs.Common.{◌≡◌, ℕ, ◌+◌, ◌/◌, ◌%◌, ◌<◌, ◌≤◌, List, length, map, suc, zero, add-one, zero-add, sym, ap, ◌∙◌, arith, ⊎_elim, Option, Some, None, MatchOption}
 use Rattle.std.specs.Prelude.{slice_index, IsPermutation}
 use Rattle.std.proofs.lemmas.Bool.{cases_lt}
@@ -16,7 +16,8 @@ use Rattle.rank_lists.proofs.Counts.{copies, copies-permutation, copies-twice, c
 abbrev pub numbers_of : List ℕ → List ℕ
 numbers_of placed = map (λ p. p / 33554432) placed
 
-module _ (placed sorted : List ℕ) (is : IsPlaced placed) (p : IsPermutation placed sorted) (up : Rises sorted) where
+module _ (placed sorted : List ℕ) (is : IsPlaced placed) (p : IsPermutation placed sorted)
+    (up : Rises sorted) where
   size : length sorted ≡ length placed
   size = length_permutation placed sorted p
 
@@ -29,31 +30,40 @@ module _ (placed sorted : List ℕ) (is : IsPlaced placed) (p : IsPermutation pl
       let le : slice_index sorted k ≤ x = up k (k + 1) (omega arith) lt in
       let equal : slice_index sorted k ≡ x = omega arith in
       let twice : 2 ≤ copies x sorted = copies-twice sorted k (k + 1) (omega arith) lt equal in
-      let once : copies x placed ≤ 1 = copies-placed 33554432 x 0 placed (λ j in_it. is.places j in_it ∙ sym (zero-add j)) in
+      let once : copies x placed ≤ 1 =
+      copies-placed 33554432 x 0 placed (λ j in_it. is.places j in_it ∙ sym (zero-add j)) in
       let same : copies x sorted ≡ copies x placed = copies-permutation x placed sorted p in
       absurd (omega arith))
       (cases_lt (slice_index sorted k) (slice_index sorted (k + 1)))
 
   -- what stands in the sorted list stood at its own place
-  back : (k : ℕ) → k < length sorted → (slice_index sorted k % 33554432 < length placed) × (slice_index placed (slice_index sorted k % 33554432) ≡ slice_index sorted k)
+  back : (k : ℕ) → k < length sorted → (slice_index sorted k % 33554432 < length placed)
+      × (slice_index placed (slice_index sorted k % 33554432) ≡ slice_index sorted k)
   back k lt =
       let x = slice_index sorted k in
-      let there = Contains-permutation sorted placed x (IsPermutation-sym placed sorted p) (Contains-get_or sorted k 0 lt) in
-      let found : slice_index placed there.0 ≡ x = sym (get_or_default_zero placed there.0 x there.1) ∙ there.2 in
-      let place : x % 33554432 ≡ there.0 = sym (ap (λ n. n % 33554432) found) ∙ is.places there.0 there.1 in
+      let there = Contains-permutation sorted placed x (IsPermutation-sym placed sorted p)
+      (Contains-get_or sorted k 0 lt) in
+      let found : slice_index placed there.0 ≡ x =
+      sym (get_or_default_zero placed there.0 x there.1) ∙ there.2 in
+      let place : x % 33554432 ≡ there.0 = sym (ap (λ n. n % 33554432) found)
+      ∙ is.places there.0 there.1 in
       rw place (there.1, found)
 
   -- what stood at a place stands in the sorted list
-  forth : (k : ℕ) → k < length placed → (at : ℕ) × (at < length sorted) × (slice_index sorted at ≡ slice_index placed k)
+  forth : (k : ℕ) → k < length placed
+      → (at : ℕ) × (at < length sorted) × (slice_index sorted at ≡ slice_index placed k)
   forth k lt =
       let x = slice_index placed k in
       let there = Contains-permutation placed sorted x p (Contains-get_or placed k 0 lt) in
       (there.0, there.1, sym (get_or_default_zero sorted there.0 x there.1) ∙ there.2)
 
   -- between two equal numbers all are equal, so the later one has an equal neighbour before it
-  neighbour : (i j a b : ℕ) → i < j → j < length placed → slice_index placed i / 33554432 ≡ slice_index placed j / 33554432
-      → a < length sorted → b < length sorted → slice_index sorted a ≡ slice_index placed i → slice_index sorted b ≡ slice_index placed j
-      → (k : ℕ) × (k + 1 < length sorted) × IsPair sorted k × (slice_index sorted (k + 1) % 33554432 ≡ j)
+  neighbour : (i j a b : ℕ) → i < j → j < length placed
+      → slice_index placed i / 33554432 ≡ slice_index placed j / 33554432
+      → a < length sorted → b < length sorted → slice_index sorted a ≡ slice_index placed i
+      → slice_index sorted b ≡ slice_index placed j
+      → (k : ℕ) × (k + 1 < length sorted) × IsPair sorted k
+      × (slice_index sorted (k + 1) % 33554432 ≡ j)
   neighbour i j a zero below lt same in_a in_b at_a at_b =
       let places : slice_index placed i % 33554432 ≡ i = is.places i (omega arith) in
       let places' : slice_index placed j % 33554432 ≡ j = is.places j lt in
@@ -64,31 +74,41 @@ module _ (placed sorted : List ℕ) (is : IsPlaced placed) (p : IsPermutation pl
       let places' : slice_index placed j % 33554432 ≡ j = is.places j lt in
       ⊎_elim
       (λ (before : b < a).
-      let le : slice_index sorted (suc b) ≤ slice_index sorted a = up (suc b) a (omega arith) in_a in
+      let le : slice_index sorted (suc b) ≤ slice_index sorted a =
+      up (suc b) a (omega arith) in_a in
       absurd (omega arith))
       (λ (le : a ≤ b).
       let low : slice_index sorted a ≤ slice_index sorted b = up a b le (omega arith) in
-      let high : slice_index sorted b ≤ slice_index sorted (suc b) = up b (suc b) (omega arith) in_b in
-      let pair : slice_index sorted b / 33554432 ≡ slice_index sorted (suc b) / 33554432 = omega arith in
+      let high : slice_index sorted b ≤ slice_index sorted (suc b) =
+      up b (suc b) (omega arith) in_b in
+      let pair : slice_index sorted b / 33554432 ≡ slice_index sorted (suc b) / 33554432 =
+      omega arith in
       (b, rw add-one in_b, rw add-one pair, rw add-one (ap (λ n. n % 33554432) at_b ∙ places')))
       (cases_lt b a)
 
-  complete : (i j : ℕ) → i < j → j < length placed → slice_index placed i / 33554432 ≡ slice_index placed j / 33554432
-      → (k : ℕ) × (k + 1 < length sorted) × IsPair sorted k × (slice_index sorted (k + 1) % 33554432 ≡ j)
+  complete : (i j : ℕ) → i < j → j < length placed
+      → slice_index placed i / 33554432 ≡ slice_index placed j / 33554432
+      → (k : ℕ) × (k + 1 < length sorted) × IsPair sorted k
+      × (slice_index sorted (k + 1) % 33554432 ≡ j)
   complete i j below lt same =
       let at_i = forth i (omega arith) in
       let at_j = forth j lt in
       neighbour i j at_i.0 at_j.0 below lt same at_i.1 at_j.1 at_i.2 at_j.2
 
-  number-at : (k : ℕ) → k < length placed → slice_index (numbers_of placed) k ≡ slice_index placed k / 33554432
+  number-at : (k : ℕ) → k < length placed
+      → slice_index (numbers_of placed) k ≡ slice_index placed k / 33554432
   number-at k lt = get_or-map (λ n. n / 33554432) placed k 0 0 lt
 
   -- two places of a list with the same number are seen in the sorted list
-  seen : (i j : ℕ) → i < j → j < length placed → slice_index (numbers_of placed) i ≡ slice_index (numbers_of placed) j
-      → (k : ℕ) × (k + 1 < length sorted) × IsPair sorted k × (slice_index sorted (k + 1) % 33554432 ≡ j)
-  seen i j below lt same = complete i j below lt (sym (number-at i (omega arith)) ∙ same ∙ number-at j lt)
+  seen : (i j : ℕ) → i < j → j < length placed
+      → slice_index (numbers_of placed) i ≡ slice_index (numbers_of placed) j
+      → (k : ℕ) × (k + 1 < length sorted) × IsPair sorted k
+      × (slice_index sorted (k + 1) % 33554432 ≡ j)
+  seen i j below lt same =
+      complete i j below lt (sym (number-at i (omega arith)) ∙ same ∙ number-at j lt)
 
-  first-of-pairs : (r : Repeat) → IsLeastOfPairs sorted (length sorted) r → IsFirstRepeat (numbers_of placed) r.earlier r.later
+  first-of-pairs : (r : Repeat) → IsLeastOfPairs sorted (length sorted) r
+      → IsFirstRepeat (numbers_of placed) r.earlier r.later
   first-of-pairs r least =
       let k = least.at in
       let a = slice_index sorted k in
@@ -113,14 +133,16 @@ module _ (placed sorted : List ℕ) (is : IsPlaced placed) (p : IsPermutation pl
         same = at_a ∙ pair ∙ sym at_b;
         first = λ i j below lt same.
             let other = seen i j below (omega arith) same in
-            let le : r.later ≤ slice_index sorted (other.0 + 1) % 33554432 = least.least other.0 other.1 other.2 in
+            let le : r.later ≤ slice_index sorted (other.0 + 1) % 33554432 =
+            least.least other.0 other.1 other.2 in
             let place : slice_index sorted (other.0 + 1) % 33554432 ≡ j = other.3 in
             omega arith;
       }
 
   -- the least of the pairs is the first repeat
   pub first-repeat : (r : Option Repeat) → IsLeastPair sorted (length sorted) r
-      → MatchOption r (NoRepeat (numbers_of placed) (length (numbers_of placed))) (λ r. IsFirstRepeat (numbers_of placed) r.earlier r.later)
+      → MatchOption r (NoRepeat (numbers_of placed) (length (numbers_of placed)))
+      (λ r. IsFirstRepeat (numbers_of placed) r.earlier r.later)
   first-repeat None none = λ i j below lt same.
       let sizes = length-map placed (λ n. n / 33554432) in
       let other = seen i j below (omega arith) same in

@@ -1,5 +1,5 @@
--- The table of rows that have no fault: its orders hold distinct candidates, and the ranks beside them
--- rise strictly. Sorted keys give just this table.
+-- The table of rows that have no fault: its orders hold distinct candidates, and the ranks beside
+-- them rise strictly. Sorted keys give just this table.
 use Rattle.std.proofs.Common.{◌≡◌, ℕ, ◌/◌, ◌%◌, ◌<◌, ◌≤◌, List, [], length, map, sym, ap, ◌∙◌, arith, subst, zero-add, ⊎_elim}
 use Rattle.std.specs.Prelude.{slice_index, slice_index_or, IsPermutation}
 use Rattle.std.proofs.lemmas.Bool.{cases_lt}
@@ -18,7 +18,8 @@ use Rattle.rank_lists.proofs.Ranking.{Comes-candidate, candidates-once, ranks-on
 use Rattle.rank_lists.proofs.RowGroups.{HasFields}
 use Rattle.rank_lists.proofs.Standings.{Each, Each-at, AreSmall, by_rank-Each, by_rank-AreSmall, by_rank-Rises, copies-by_rank, sorted-keys, keys-candidates, keys-ranks}
 
-module _ (names : List (List ℕ)) (numbers : List ℕ) (rows : List Row) (few : length numbers ≤ 4294967296) where
+module _ (names : List (List ℕ)) (numbers : List ℕ) (rows : List Row)
+    (few : length numbers ≤ 4294967296) where
   abbrev all : List Standing
   all = standings names numbers rows
 
@@ -30,13 +31,16 @@ module _ (names : List (List ℕ)) (numbers : List ℕ) (rows : List Row) (few :
 
   small : (kind : ℕ) → AreSmall (in_type kind all)
   small kind = standings-Each names numbers (λ s. s.candidate < 4294967296) kind rows
-      (λ k s lt c. let below : s.candidate < length numbers = Comes-candidate names numbers (row_at rows k) s c in omega arith)
+      (λ k s lt c. let below : s.candidate < length numbers =
+      Comes-candidate names numbers (row_at rows k) s c in omega arith)
 
   order-at : (kind : ℕ) → kind < length names → order_at table kind ≡ turns_of all kind
-  order-at kind lt = get_or-map-range_with_len (turns_of all) 0 (length names) kind kind [] lt (zero-add kind)
+  order-at kind lt = get_or-map-range_with_len (turns_of all) 0 (length names) kind kind [] lt
+      (zero-add kind)
 
   ranks-at : (kind : ℕ) → kind < length names → ranks_at table kind ≡ ranks_of all kind
-  ranks-at kind lt = get_or-map-range_with_len (ranks_of all) 0 (length names) kind kind [] lt (zero-add kind)
+  ranks-at kind lt = get_or-map-range_with_len (ranks_of all) 0 (length names) kind kind [] lt
+      (zero-add kind)
 
   orders-size : length table.orders ≡ length names
   orders-size = length-map-range_with_len (turns_of all) 0 (length names)
@@ -45,19 +49,23 @@ module _ (names : List (List ℕ)) (numbers : List ℕ) (rows : List Row) (few :
   ranks-size = length-map-range_with_len (ranks_of all) 0 (length names)
 
   -- the turns of a type are its standings by rising rank
-  turns-are : (kind : ℕ) (keys order ranks : List ℕ) → keys ≡ map key_of (in_type kind all) → AreTurns keys order ranks
+  turns-are : (kind : ℕ) (keys order ranks : List ℕ) → keys ≡ map key_of (in_type kind all)
+      → AreTurns keys order ranks
       → (order ≡ turns_of all kind) × (ranks ≡ ranks_of all kind)
   turns-are kind keys order ranks e t =
       let perm = subst (λ xs. IsPermutation xs t.sorted) e t.permutation in
-      let sorted : t.sorted ≡ map key_of (sorted_in kind) = sorted-keys (in_type kind all) t.sorted (small kind) perm t.rises in
+      let sorted : t.sorted ≡ map key_of (sorted_in kind) =
+      sorted-keys (in_type kind all) t.sorted (small kind) perm t.rises in
       let fits = by_rank-AreSmall (in_type kind all) (small kind) in (
-        t.order_is ∙ ap (map (λ key. key % 4294967296)) sorted ∙ keys-candidates (sorted_in kind) fits,
+        t.order_is ∙ ap (map (λ key. key % 4294967296)) sorted
+            ∙ keys-candidates (sorted_in kind) fits,
         t.ranks_are ∙ ap (map (λ key. key / 4294967296)) sorted ∙ keys-ranks (sorted_in kind) fits,
       )
 
   -- the turns of all types are the table
   pub all-turns : (given orders ranks : List (List ℕ)) → length given ≡ length names
-      → ((kind : ℕ) → kind < length names → known_keys numbers (slice_index_or given kind []) ≡ map key_of (in_type kind all))
+      → ((kind : ℕ) → kind < length names → known_keys numbers (slice_index_or given kind [])
+      ≡ map key_of (in_type kind all))
       → AreAllTurns numbers given orders ranks → (orders ≡ table.orders) × (ranks ≡ table.ranks)
   all-turns given orders ranks size keys t =
       let orders_size = t.orders_size in
@@ -66,15 +74,23 @@ module _ (names : List (List ℕ)) (numbers : List ℕ) (rows : List Row) (few :
       let whole' = ranks-size in (
         same_lists orders table.orders (omega arith) (λ kind d lt.
             get_or_default orders kind d [] lt
-            ∙ (turns-are kind (known_keys numbers (slice_index_or given kind [])) (slice_index_or orders kind []) (slice_index_or ranks kind []) (keys kind (omega arith)) (t.turns kind (omega arith))).0
-            ∙ sym (order-at kind (omega arith)) ∙ get_or_default table.orders kind [] d (omega arith)),
+            ∙ (turns-are kind (known_keys numbers (slice_index_or given kind []))
+            (slice_index_or orders kind []) (slice_index_or ranks kind [])
+            (keys kind (omega arith)) (t.turns kind (omega arith))).0
+            ∙ sym (order-at kind (omega arith))
+            ∙ get_or_default table.orders kind [] d (omega arith)),
         same_lists ranks table.ranks (omega arith) (λ kind d lt.
             get_or_default ranks kind d [] lt
-            ∙ (turns-are kind (known_keys numbers (slice_index_or given kind [])) (slice_index_or orders kind []) (slice_index_or ranks kind []) (keys kind (omega arith)) (t.turns kind (omega arith))).1
-            ∙ sym (ranks-at kind (omega arith)) ∙ get_or_default table.ranks kind [] d (omega arith)),
+            ∙ (turns-are kind (known_keys numbers (slice_index_or given kind []))
+            (slice_index_or orders kind []) (slice_index_or ranks kind [])
+            (keys kind (omega arith)) (t.turns kind (omega arith))).1
+            ∙ sym (ranks-at kind (omega arith))
+            ∙ get_or_default table.ranks kind [] d (omega arith)),
       )
 
-  module _ (fields : (k : ℕ) → k < length rows → HasFields (row_at rows k)) (one_candidate : NoRepeat (map candidate_group rows) (length rows)) (one_rank : NoRepeat (map rank_group rows) (length rows)) where
+  module _ (fields : (k : ℕ) → k < length rows → HasFields (row_at rows k))
+      (one_candidate : NoRepeat (map candidate_group rows) (length rows))
+      (one_rank : NoRepeat (map rank_group rows) (length rows)) where
     -- a standing within the limits
     record IsGood (s : Standing) : Type 0 where
       candidate : s.candidate < length numbers
@@ -82,7 +98,8 @@ module _ (names : List (List ℕ)) (numbers : List ℕ) (rows : List Row) (few :
       high : s.rank ≤ 99999999
 
     good : (kind : ℕ) → Each IsGood (sorted_in kind)
-    good kind = by_rank-Each IsGood (in_type kind all) (standings-Each names numbers IsGood kind rows (λ k s lt c.
+    good kind = by_rank-Each IsGood (in_type kind all)
+        (standings-Each names numbers IsGood kind rows (λ k s lt c.
         let f = fields k lt in
         let rank = c.rank in
         let low = f.low in
@@ -96,41 +113,55 @@ module _ (names : List (List ℕ)) (numbers : List ℕ) (rows : List Row) (few :
     first : Standing
     first = record { kind = 0; candidate = 0; rank = 0 }
 
-    good-at : (kind k : ℕ) → k < length (sorted_in kind) → IsGood (slice_index_or (sorted_in kind) k first)
+    good-at : (kind k : ℕ) → k < length (sorted_in kind)
+        → IsGood (slice_index_or (sorted_in kind) k first)
     good-at kind k lt = Each-at IsGood (sorted_in kind) (good kind) k first lt
 
-    candidate-at : (kind k : ℕ) → k < length (sorted_in kind) → slice_index (turns_of all kind) k ≡ (slice_index_or (sorted_in kind) k first).candidate
+    candidate-at : (kind k : ℕ) → k < length (sorted_in kind)
+        → slice_index (turns_of all kind) k ≡ (slice_index_or (sorted_in kind) k first).candidate
     candidate-at kind k lt = get_or-map (λ s. s.candidate) (sorted_in kind) k first 0 lt
 
-    rank-at : (kind k : ℕ) → k < length (sorted_in kind) → slice_index (ranks_of all kind) k ≡ (slice_index_or (sorted_in kind) k first).rank
+    rank-at : (kind k : ℕ) → k < length (sorted_in kind)
+        → slice_index (ranks_of all kind) k ≡ (slice_index_or (sorted_in kind) k first).rank
     rank-at kind k lt = get_or-map (λ s. s.rank) (sorted_in kind) k first 0 lt
 
-    key-at : (kind k : ℕ) → k < length (sorted_in kind) → slice_index (map key_of (sorted_in kind)) k ≡ key_of (slice_index_or (sorted_in kind) k first)
+    key-at : (kind k : ℕ) → k < length (sorted_in kind)
+        → slice_index (map key_of (sorted_in kind)) k
+        ≡ key_of (slice_index_or (sorted_in kind) k first)
     key-at kind k lt = get_or-map key_of (sorted_in kind) k first 0 lt
 
     distinct : (kind : ℕ) → IsDistinct (turns_of all kind)
     distinct kind i j below lt same =
         let x = slice_index (turns_of all kind) j in
-        let twice : 2 ≤ copies x (turns_of all kind) = copies-twice (turns_of all kind) i j below lt same in
-        let kept : copies x (turns_of all kind) ≡ copies x (map (λ s. s.candidate) (in_type kind all)) = copies-by_rank (λ s. s.candidate) x (in_type kind all) in
-        let once : copies x (map (λ s. s.candidate) (in_type kind all)) ≤ 1 = candidates-once names numbers kind x rows one_candidate in
+        let twice : 2 ≤ copies x (turns_of all kind) =
+        copies-twice (turns_of all kind) i j below lt same in
+        let kept : copies x (turns_of all kind)
+        ≡ copies x (map (λ s. s.candidate) (in_type kind all)) =
+        copies-by_rank (λ s. s.candidate) x (in_type kind all) in
+        let once : copies x (map (λ s. s.candidate) (in_type kind all)) ≤ 1 =
+        candidates-once names numbers kind x rows one_candidate in
         omega arith
 
     distinct-ranks : (kind : ℕ) → IsDistinct (ranks_of all kind)
     distinct-ranks kind i j below lt same =
         let x = slice_index (ranks_of all kind) j in
-        let twice : 2 ≤ copies x (ranks_of all kind) = copies-twice (ranks_of all kind) i j below lt same in
-        let kept : copies x (ranks_of all kind) ≡ copies x (map (λ s. s.rank) (in_type kind all)) = copies-by_rank (λ s. s.rank) x (in_type kind all) in
-        let once : copies x (map (λ s. s.rank) (in_type kind all)) ≤ 1 = ranks-once names numbers kind x rows one_rank in
+        let twice : 2 ≤ copies x (ranks_of all kind) =
+        copies-twice (ranks_of all kind) i j below lt same in
+        let kept : copies x (ranks_of all kind) ≡ copies x (map (λ s. s.rank) (in_type kind all)) =
+        copies-by_rank (λ s. s.rank) x (in_type kind all) in
+        let once : copies x (map (λ s. s.rank) (in_type kind all)) ≤ 1 =
+        ranks-once names numbers kind x rows one_rank in
         omega arith
 
-    rise : (kind j k : ℕ) → j < k → k < length (ranks_of all kind) → slice_index (ranks_of all kind) j < slice_index (ranks_of all kind) k
+    rise : (kind j k : ℕ) → j < k → k < length (ranks_of all kind)
+        → slice_index (ranks_of all kind) j < slice_index (ranks_of all kind) k
     rise kind j k below lt =
         let size = length-map (sorted_in kind) (λ s. s.rank) in
         let keys_size = length-map (sorted_in kind) key_of in
         let low = (good-at kind j (omega arith)).candidate in
         let high = (good-at kind k (omega arith)).candidate in
-        let keys : slice_index (map key_of (sorted_in kind)) j ≤ slice_index (map key_of (sorted_in kind)) k =
+        let keys : slice_index (map key_of (sorted_in kind)) j ≤ slice_index
+        (map key_of (sorted_in kind)) k =
         by_rank-Rises (in_type kind all) (small kind) j k (omega arith) (omega arith) in
         let key_j = key-at kind j (omega arith) in
         let key_k = key-at kind k (omega arith) in
@@ -150,7 +181,8 @@ module _ (names : List (List ℕ)) (numbers : List ℕ) (rows : List Row) (few :
         record {
           types = omega arith;
           beside = λ kind lt. rw (ranks-at kind (omega arith), order-at kind (omega arith))
-              (length-map (sorted_in kind) (λ s. s.rank) ∙ sym (length-map (sorted_in kind) (λ s. s.candidate)));
+              (length-map (sorted_in kind) (λ s. s.rank)
+              ∙ sym (length-map (sorted_in kind) (λ s. s.candidate)));
           entries = λ kind k lt. rw (order-at kind (omega arith)) (λ within.
               let size = length-map (sorted_in kind) (λ s. s.candidate) in
               let here = candidate-at kind k (omega arith) in

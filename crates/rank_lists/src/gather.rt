@@ -31,9 +31,10 @@ pub(crate) struct Gathered {
     pub(crate) stop: Option<FileFault>,
 }
 
-// The numbers of candidates are below this, and so are ranks below the other.
+// More than the number of any candidate.
 const CANDIDATES: u128 = 1 << 37;
 
+// More than any rank.
 const RANKS: u128 = 1 << 27;
 
 impl RankRows {

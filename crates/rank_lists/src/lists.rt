@@ -67,10 +67,7 @@ impl RankLists {
         ensures { IsTableRead (ranks_fault bytes.now)
             (ranks_table (T.names types.now) (C.numbers candidates.now) bytes.now) result }
     {
-        let Gathered { rows, stop } = match gather(alloc, bytes, types) {
-            Ok(gathered) => gathered,
-            Err(stop) => return Err(stop),
-        };
+        let Gathered { rows, stop } = gather(alloc, bytes, types)?;
         let RankRows {
             candidates: by_candidate,
             ranks: by_rank,

@@ -49,13 +49,6 @@ impl Repeats {
         }
     }
 
-    /// How many numbers there are.
-    pub(crate) fn len(&self) -> usize
-        ensures { result ≡ length self.now }
-    {
-        self.placed.len()
-    }
-
     /// Adds a number.
     pub(crate) fn push(&mut self, number: u128) -> Result<(), AllocError>
         requires room { length self.old < 33554432 }

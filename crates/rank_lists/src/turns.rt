@@ -9,9 +9,10 @@ use place_base::Finder;
 use std::alloc::{AllocError, Global};
 use std::marker::Model;
 
-// A rank stands above the number of the candidate as the file has it, or above its index.
+// More than the number of any candidate, behind which a rank stands in the keys of the file.
 const NUMBERS: u64 = 1 << 37;
 
+// More than any index, behind which a rank stands in the keys that are sorted.
 const INDEXES: u64 = 1 << 32;
 
 /// The ranks given in one type, each with the number of its candidate behind it, in file order.

@@ -8,5 +8,6 @@ abbrev pub invariant-loop-kind : goal.invariant-loop-kind
 invariant-loop-kind l = record {
   count : length l.tables.items ≡ l.kind;
   ranks : (kind : ℕ) → kind < l.kind
-      → AreRanksTo l.candidates (slice_index_or l.orders kind []) (slice_index_or l.ranks kind []) (length (slice_index_or l.orders kind [])) (slice_index_or l.tables.items kind []);
+      → AreRanksTo l.candidates (slice_index_or l.orders kind []) (slice_index_or l.ranks kind [])
+      (length (slice_index_or l.orders kind [])) (slice_index_or l.tables.items kind []);
 }

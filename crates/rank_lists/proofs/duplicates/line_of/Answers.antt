@@ -5,7 +5,8 @@ use Rattle.record_files.specs.Rows.{Row}
 use Rattle.rank_lists.proofs.duplicates.line_of.Goals as goal
 
 -- a row that is given is the first of those left
-next-drops : (r : Option Row) (old new : List Row) → MatchOption r ((old ≡ []) × (new ≡ [])) (λ row. old ≡ row ∷ new) → new ≡ drop 1 old
+next-drops : (r : Option Row) (old new : List Row)
+    → MatchOption r ((old ≡ []) × (new ≡ [])) (λ row. old ≡ row ∷ new) → new ≡ drop 1 old
 next-drops None old new h = h.1 ∙ sym (ap (drop 1) h.0)
 next-drops (Some row) old new h = sym (ap (drop 1) h)
 
@@ -17,6 +18,7 @@ loop-preserved c =
 pub unreachable-requires : goal.unreachable-requires
 unreachable-requires c =
     let none : 0 ≡ length (data_rows c.args.bytes.now) - c.loop.counter =
-    sym (ap length c.in-None.ensures.0) ∙ ap length c.loop.invariant ∙ length-drop c.loop.counter (data_rows c.args.bytes.now) in
+    sym (ap length c.in-None.ensures.0) ∙ ap length c.loop.invariant
+    ∙ length-drop c.loop.counter (data_rows c.args.bytes.now) in
     let within = c.requires.within in
     omega arith

@@ -8,7 +8,10 @@ use Rattle.rank_lists.proofs.repeats.are_distinct.Goals as goal
 pub returns : goal.returns
 returns c = λ differ.
     let sorted = c.sort_unstable.new.self.items in
-    let up : Rises sorted = λ i j le lt. IsNonDecreasingBy-from_sort (λ x. x) sorted c.sort_unstable.ensures.sorted i j 0 le lt in
-    let permutation = subst (λ short. IsPermutation short sorted) c.in_ok-short.ensures c.sort_unstable.ensures.permutation in
-    let apart = subst (λ xs. NeighboursDiffer xs (length xs)) c.deref.ensures.value (c.neighbours_differ.ensures differ) in
+    let up : Rises sorted = λ i j le lt. IsNonDecreasingBy-from_sort
+    (λ x. x) sorted c.sort_unstable.ensures.sorted i j 0 le lt in
+    let permutation = subst (λ short. IsPermutation short sorted) c.in_ok-short.ensures
+    c.sort_unstable.ensures.permutation in
+    let apart = subst (λ xs. NeighboursDiffer xs (length xs)) c.deref.ensures.value
+    (c.neighbours_differ.ensures differ) in
     short-distinct c.args.placed.now sorted permutation up apart

@@ -6,7 +6,8 @@ use Rattle.rank_lists.proofs.row.name_number.Goals as goal
 pub overflow_mul-number : goal.overflow_mul-number
 overflow_mul-number c =
     let taken = length c.args.bytes.now - c.bytes.left in
-    let small : c.bytes.number * 256 + 0 < 256 ^ (taken + 1) = name-fits taken c.bytes.number 0 c.bytes.invariant.small (omega arith) in
+    let small : c.bytes.number * 256 + 0 < 256 ^ (taken + 1) =
+    name-fits taken c.bytes.number 0 c.bytes.invariant.small (omega arith) in
     let short : 256 ^ (taken + 1) ≤ 256 ^ 8 = short-name (taken + 1) (omega arith) in
     omega arith
 
@@ -15,7 +16,8 @@ overflow_add-number c =
     let taken = length c.args.bytes.now - c.bytes.left in
     let fits = (c.type_inv.bytes (c.bytes.left - 1)).fits in
     let byte : c.from.result < 256 = omega arith in
-    let small : c.bytes.number * 256 + c.from.result < 256 ^ (taken + 1) = name-fits taken c.bytes.number c.from.result c.bytes.invariant.small byte in
+    let small : c.bytes.number * 256 + c.from.result < 256 ^ (taken + 1) =
+    name-fits taken c.bytes.number c.from.result c.bytes.invariant.small byte in
     let short : 256 ^ (taken + 1) ≤ 256 ^ 8 = short-name (taken + 1) (omega arith) in
     omega arith
 

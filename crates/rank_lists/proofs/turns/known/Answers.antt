@@ -8,25 +8,35 @@ use Rattle.rank_lists.proofs.Gathering.{append-nothing}
 use Rattle.rank_lists.proofs.turns.known.Goals as goal
 
 -- one key more
-known-next : (numbers keys : List ℕ) (i : ℕ) (o : Option ℕ) → i < length keys → position (nat_eq (slice_index keys i % 137438953472)) numbers ≡ o
+known-next : (numbers keys : List ℕ) (i : ℕ) (o : Option ℕ) → i < length keys
+    → position (nat_eq (slice_index keys i % 137438953472)) numbers ≡ o
     → known_keys numbers (take (i + 1) keys)
-    ≡ known_keys numbers (take i keys) ++ cons_option (option_map (λ index. slice_index keys i / 137438953472 * 4294967296 + index) o) []
+    ≡ known_keys numbers (take i keys) ++ cons_option
+    (option_map (λ index. slice_index keys i / 137438953472 * 4294967296 + index) o) []
 known-next numbers keys i o lt e =
     ap (known_keys numbers) (take_more keys i 0 lt)
     ∙ filter_map-append (known_key numbers) (take i keys) (slice_index keys i ∷ [])
-    ∙ ap (λ found. known_keys numbers (take i keys) ++ cons_option (option_map (λ index. slice_index keys i / 137438953472 * 4294967296 + index) found) []) e
+    ∙ ap (λ found. known_keys numbers (take i keys) ++ cons_option
+    (option_map (λ index. slice_index keys i / 137438953472 * 4294967296 + index) found) []) e
 
 pub loop-key-preserved : goal.loop-key-preserved
 loop-key-preserved g c =
     let numbers = g.C.Finder.numbers c.args.candidates.now in
-    let next = known-next numbers c.args.keys.now c.loop-key.key-index (Some c.in-Some.index) c.loop-key-test.true (sym c.find.ensures ∙ c.in-Some.is) in
+    let next = known-next numbers c.args.keys.now c.loop-key.key-index (Some c.in-Some.index)
+    c.loop-key-test.true (sym c.find.ensures ∙ c.in-Some.is) in
     c.in_ok-push.ensures.items
-    ∙ ap (λ index. c.loop-key.known.items ++ (slice_index c.args.keys.now c.loop-key.key-index / 137438953472 * 4294967296 + index) ∷ []) c.from.ensures
-    ∙ ap (λ known. known ++ (slice_index c.args.keys.now c.loop-key.key-index / 137438953472 * 4294967296 + c.in-Some.index) ∷ []) c.loop-key.invariant
+    ∙ ap (λ index. c.loop-key.known.items ++
+    (slice_index c.args.keys.now c.loop-key.key-index / 137438953472 * 4294967296 + index) ∷ [])
+    c.from.ensures
+    ∙ ap (λ known. known ++ (slice_index c.args.keys.now
+    c.loop-key.key-index / 137438953472 * 4294967296 + c.in-Some.index) ∷ [])
+    c.loop-key.invariant
     ∙ sym next
 
 pub loop-key-preserved-in_default : goal.loop-key-preserved-in_default
 loop-key-preserved-in_default g c =
     let numbers = g.C.Finder.numbers c.args.candidates.now in
-    let next = known-next numbers c.args.keys.now c.loop-key.key-index None c.loop-key-test.true (sym c.find.ensures ∙ c.in_default.is) in
-    c.loop-key.invariant ∙ sym (append-nothing (known_keys numbers (take c.loop-key.key-index c.args.keys.now))) ∙ sym next
+    let next = known-next numbers c.args.keys.now c.loop-key.key-index None c.loop-key-test.true
+    (sym c.find.ensures ∙ c.in_default.is) in
+    c.loop-key.invariant ∙ sym
+    (append-nothing (known_keys numbers (take c.loop-key.key-index c.args.keys.now))) ∙ sym next

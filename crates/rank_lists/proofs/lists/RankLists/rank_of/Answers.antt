@@ -13,7 +13,8 @@ returns-then-rank-eq0 c =
     let count = has.count in
     let types = c.requires.kind in
     let ranks : c.items.result.now ≡ slice_index_or tables c.args.kind [] =
-    c.items.ensures ∙ c.index.ensures ∙ get_or_default tables c.args.kind c.index.result.now [] (omega arith) in
+    c.items.ensures ∙ c.index.ensures
+    ∙ get_or_default tables c.args.kind c.index.result.now [] (omega arith) in
     lookup-none table tables has c.args.kind c.args.candidate types c.requires.candidate
     (ap (λ list. slice_index list c.args.candidate) (sym ranks) ∙ c.if-rank-eq0.true)
 
@@ -25,7 +26,8 @@ returns-else-rank-eq0 c =
     let count = has.count in
     let types = c.requires.kind in
     let ranks : c.items.result.now ≡ slice_index_or tables c.args.kind [] =
-    c.items.ensures ∙ c.index.ensures ∙ get_or_default tables c.args.kind c.index.result.now [] (omega arith) in
+    c.items.ensures ∙ c.index.ensures
+    ∙ get_or_default tables c.args.kind c.index.result.now [] (omega arith) in
     ap (λ list. Some (slice_index list c.args.candidate)) ranks
     ∙ lookup-some table tables has c.args.kind c.args.candidate types c.requires.candidate
     (λ none. c.if-rank-eq0.false (ap (λ list. slice_index list c.args.candidate) ranks ∙ none))

@@ -9,44 +9,56 @@ pub returns-in-Some : goal.returns-in-Some
 returns-in-Some g c =
     let names = g.T.TypeFinder.names c.args.types.now in
     let numbers = g.C.Finder.numbers c.args.candidates.now in
-    let found = subst (IsFirstDuplicate c.in-Ok.gathered.rows.candidates c.in-Ok.gathered.rows.ranks) c.in-Some.is c.in-Ok-first_duplicate.ensures in
-    duplicate-first names numbers c.args.bytes.now c.in-Ok.gathered c.in-Ok.ensures c.in-Some.duplicate found
+    let found = subst (IsFirstDuplicate c.in_ok-rows.field-0.rows.candidates
+    c.in_ok-rows.field-0.rows.ranks) c.in-Some.is c.in-Ok.ensures in
+    duplicate-first names numbers c.args.bytes.now c.in_ok-rows.field-0 c.in_ok-rows.ensures
+    c.in-Some.duplicate found
     ∙ ap (λ fault. Some fault) (sym c.fault.ensures)
 
 pub returns-in-Some-stop : goal.returns-in-Some-stop
 returns-in-Some-stop g c =
     let names = g.T.TypeFinder.names c.args.types.now in
     let numbers = g.C.Finder.numbers c.args.candidates.now in
-    let gathers = c.in-Ok.ensures in
-    let none = subst (IsFirstDuplicate c.in-Ok.gathered.rows.candidates c.in-Ok.gathered.rows.ranks) c.in_default-duplicate.is c.in-Ok-first_duplicate.ensures in
+    let gathers = c.in_ok-rows.ensures in
+    let none = subst (IsFirstDuplicate c.in_ok-rows.field-0.rows.candidates c.in_ok-rows.field-0.rows.ranks)
+    c.in_default-duplicate.is c.in-Ok.ensures in
     let stop = subst (λ o. StopsAt gathers.count gathers.left o) c.in-Some-stop.is gathers.stop in
-    stop-first names numbers c.args.bytes.now c.in-Ok.gathered gathers none c.in-Some-stop.fault stop
+    stop-first names numbers c.args.bytes.now c.in_ok-rows.field-0 gathers none c.in-Some-stop.fault
+    stop
 
 pub of_turns-requires : goal.of_turns-requires
 of_turns-requires g c =
     let names = g.T.TypeFinder.names c.args.types.now in
     let numbers = g.C.Finder.numbers c.args.candidates.now in
     let bytes = c.args.bytes.now in
-    let gathers = c.in-Ok.ensures in
+    let gathers = c.in_ok-rows.ensures in
     let size : c.count.result ≡ length numbers = c.count.ensures.length in
     let low = c.count.type_inv in
     let few : length numbers ≤ 4294967296 = omega (arith, size, low) in
-    let none = subst (IsFirstDuplicate c.in-Ok.gathered.rows.candidates c.in-Ok.gathered.rows.ranks) c.in_default-duplicate.is c.in-Ok-first_duplicate.ensures in
-    let stop = subst (λ o. StopsAt gathers.count gathers.left o) c.in_default-stop.is gathers.stop in
-    let table = table-read names numbers bytes c.in-Ok.gathered gathers none stop few c.count.result _ _ size c.in-Ok-all_turns.ensures in
-    subst IsSound (sym table) (table-sound names numbers bytes c.in-Ok.gathered gathers none stop few)
+    let none = subst (IsFirstDuplicate c.in_ok-rows.field-0.rows.candidates c.in_ok-rows.field-0.rows.ranks)
+    c.in_default-duplicate.is c.in-Ok.ensures in
+    let stop = subst (λ o. StopsAt gathers.count gathers.left o) c.in_default-stop.is
+    gathers.stop in
+    let table = table-read names numbers bytes c.in_ok-rows.field-0 gathers none stop few c.count.result
+    _ _ size c.in-Ok-all_turns.ensures in
+    subst IsSound (sym table)
+    (table-sound names numbers bytes c.in_ok-rows.field-0 gathers none stop few)
 
 pub returns-in-Ok-of_turns : goal.returns-in-Ok-of_turns
 returns-in-Ok-of_turns g c =
     let names = g.T.TypeFinder.names c.args.types.now in
     let numbers = g.C.Finder.numbers c.args.candidates.now in
     let bytes = c.args.bytes.now in
-    let gathers = c.in-Ok.ensures in
+    let gathers = c.in_ok-rows.ensures in
     let size : c.count.result ≡ length numbers = c.count.ensures.length in
     let low = c.count.type_inv in
     let few : length numbers ≤ 4294967296 = omega (arith, size, low) in
-    let none = subst (IsFirstDuplicate c.in-Ok.gathered.rows.candidates c.in-Ok.gathered.rows.ranks) c.in_default-duplicate.is c.in-Ok-first_duplicate.ensures in
-    let stop = subst (λ o. StopsAt gathers.count gathers.left o) c.in_default-stop.is gathers.stop in (
-      no-fault names numbers bytes c.in-Ok.gathered gathers none stop,
-      c.in-Ok-of_turns.ensures ∙ table-read names numbers bytes c.in-Ok.gathered gathers none stop few c.count.result _ _ size c.in-Ok-all_turns.ensures,
+    let none = subst (IsFirstDuplicate c.in_ok-rows.field-0.rows.candidates c.in_ok-rows.field-0.rows.ranks)
+    c.in_default-duplicate.is c.in-Ok.ensures in
+    let stop = subst (λ o. StopsAt gathers.count gathers.left o) c.in_default-stop.is
+    gathers.stop in (
+      no-fault names numbers bytes c.in_ok-rows.field-0 gathers none stop,
+      c.in-Ok-of_turns.ensures
+          ∙ table-read names numbers bytes c.in_ok-rows.field-0 gathers none stop few c.count.result _ _
+          size c.in-Ok-all_turns.ensures,
     )

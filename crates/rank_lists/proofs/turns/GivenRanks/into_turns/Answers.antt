@@ -7,12 +7,16 @@ pub returns : goal.returns
 returns g c =
     let numbers = g.C.Finder.numbers c.args.candidates.now in
     let sorted = c.sort_unstable.new.self.items in
-    let keys = c.in_ok-keys.ensures ∙ ap (known_keys numbers) (c.deref.ensures.value ∙ c.self.view_is) in
+    let keys = c.in_ok-keys.ensures
+    ∙ ap (known_keys numbers) (c.deref.ensures.value ∙ c.self.view_is) in
     let P : List ℕ → Type 0 = λ keys. IsPermutation keys sorted in
     record {
       sorted = sorted;
       permutation = subst P keys c.sort_unstable.ensures.permutation;
-      rises = λ i j le lt. IsNonDecreasingBy-from_sort (λ x. x) sorted c.sort_unstable.ensures.sorted i j 0 le lt;
-      order_is = c.from_vec-order.ensures ∙ c.in_ok-candidates_of.ensures ∙ ap (map (λ key. key % 4294967296)) c.deref-2.ensures.value;
-      ranks_are = c.from_vec-ranks.ensures ∙ c.in_ok-ranks_of.ensures ∙ ap (map (λ key. key / 4294967296)) c.deref-3.ensures.value;
+      rises = λ i j le lt. IsNonDecreasingBy-from_sort
+          (λ x. x) sorted c.sort_unstable.ensures.sorted i j 0 le lt;
+      order_is = c.from_vec-order.ensures ∙ c.in_ok-candidates_of.ensures
+          ∙ ap (map (λ key. key % 4294967296)) c.deref-2.ensures.value;
+      ranks_are = c.from_vec-ranks.ensures ∙ c.in_ok-ranks_of.ensures
+          ∙ ap (map (λ key. key / 4294967296)) c.deref-3.ensures.value;
     }

@@ -1,0 +1,5 @@
+pub mod Finding
+pub mod Growing
+pub mod ListCodes
+pub mod PreferenceLists
+pub mod Reading

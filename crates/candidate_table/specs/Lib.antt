@@ -1,0 +1,4 @@
+pub mod Candidates
+pub mod Fields
+pub mod Growth
+pub mod Table

@@ -1,0 +1,18 @@
+//! The table of a candidates file: its candidates with their preference lists, or the file's first
+//! fault.
+#![tactic(auto)]
+
+// The entries of one preference list.
+mod entries;
+// What the fields of a row say.
+mod fields;
+// The numbers of candidates.
+mod numbers;
+// The table, its reading and its look-ups.
+mod table;
+
+pub use numbers::CandidateNumbers;
+pub use table::CandidateTable;
+
+#[cfg(test)]
+mod tests;

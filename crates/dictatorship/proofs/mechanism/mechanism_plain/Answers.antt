@@ -1,0 +1,63 @@
+use Rattle.std.proofs.Common.{ℕ, ◌∙◌, ap, sym, subst, arith, List, Option}
+use Rattle.market.proofs.Plain.{IsRoundsUpto-none, IsRoundsUpto-more, rounds-fall, rounds_small, total_small, outcome_is, settled-cuts}
+use Rattle.market.specs.Mechanism.{placed}
+use Rattle.market.specs.Choices.{IsRound}
+use Rattle.dictatorship.proofs.mechanism.mechanism_plain.Goals as goal
+
+pub rounds-init : goal.rounds-init
+rounds-init c = IsRoundsUpto-none c.args.market.now c.in_ok-cuts.cuts c.in_ok-cuts.ensures.cuts
+
+pub overflow_add-result : goal.overflow_add-result
+overflow_add-result c = let h =
+    rounds_small c.args.market.now c.all_turns-turns.ensures.valid c.rounds.rounds c.rounds.total
+    c.rounds.cuts c.rounds.invariant in omega arith
+
+pub overflow_add-rounds : goal.overflow_add-rounds
+overflow_add-rounds c = let h =
+    rounds_small c.args.market.now c.all_turns-turns.ensures.valid c.rounds.rounds c.rounds.total
+    c.rounds.cuts c.rounds.invariant in omega arith
+
+pub returns-then-settled : goal.returns-then-settled
+returns-then-settled c =
+    outcome_is c.args.market.now c.rounds.rounds c.rounds.total c.from.result
+    c.all_turns-turns.result c.rounds.cuts c.from_vec.result c.rounds.invariant
+    (sym c.cut_round-count.ensures.count ∙ c.if-settled.true)
+    (c.from_vec.ensures ∙ c.in_ok-held.ensures
+    ∙ ap (placed c.args.market.now)
+    (c.cut_round-count.ensures.cuts
+    ∙ settled-cuts c.args.market.now c.rounds.cuts c.rounds.invariant.cuts_fit
+    (sym c.cut_round-count.ensures.count ∙ c.if-settled.true)))
+    c.from.ensures
+    c.all_turns-turns.ensures.turns
+
+pub overflow_add-rounds-in-rounds : goal.overflow_add-rounds-in-rounds
+overflow_add-rounds-in-rounds c = let h =
+    rounds_small c.args.market.now c.all_turns-turns.ensures.valid c.rounds.rounds c.rounds.total
+    c.rounds.cuts c.rounds.invariant in omega arith
+
+pub overflow_add-total : goal.overflow_add-total
+overflow_add-total c = let h =
+    total_small c.args.market.now c.all_turns-turns.ensures.valid c.rounds.rounds c.rounds.total
+    c.cut_round-count.result c.rounds.cuts c.rounds.invariant c.cut_round-count.ensures.count in
+    omega arith
+
+pub rounds-smaller : goal.rounds-smaller
+rounds-smaller c =
+    rounds-fall c.args.market.now c.cut_round-count.result c.rounds.cuts c.cut_round-count.new.cuts
+    c.cut_round-count.ensures.cuts c.cut_round-count.ensures.count c.if-settled.false
+
+pub rounds-preserved : goal.rounds-preserved
+rounds-preserved c =
+    IsRoundsUpto-more c.args.market.now c.rounds.rounds c.rounds.total c.cut_round-count.result
+    c.rounds.cuts c.cut_round-count.new.cuts c.rounds.invariant c.cut_round-count.ensures.cuts
+    c.cut_round-count.ensures.count c.if-settled.false
+
+pub place_round-requires-clause-round : goal.place_round-requires-clause-round
+place_round-requires-clause-round c =
+    let same = c.cut_round-count.ensures.cuts
+    ∙ settled-cuts c.args.market.now c.rounds.cuts c.rounds.invariant.cuts_fit
+    (sym c.cut_round-count.ensures.count ∙ c.if-settled.true) in
+    subst (λ (table : List (List (Option ℕ))). IsRound c.args.market.now c.cut_round-count.new.cuts
+    table) (sym c.deref-then-settled.ensures.value)
+    (subst (λ (cuts : List ℕ). IsRound c.args.market.now cuts c.in_ok-table.table.items) (sym same)
+    c.in_ok-table.ensures)

@@ -1,0 +1,151 @@
+-- The table of the rows read grows as the rows do: a new row leaves the types of the earlier ones
+-- where they are, and what is wrong with it beside the rows is what is wrong with it beside the table.
+use Rattle.std.proofs.Common.{nat_le, ◌≡◌, ◌≤◌, ◌<◌, ℕ, Bool, true, false, cond, List, [], ◌∷◌, ◌++◌, map, find, length, length-append, refl, arith, sym, ap, ◌∙◌, Option, Some, None, nat_eq, ◌==◌}
+use Rattle.std.specs.List.{list_any, AllByRecursion}
+use Rattle.std.specs.Map.{lookup}
+use Rattle.std.specs.Option.{option_map}
+use Rattle.std.specs.Str.{bytes_eq}
+use Rattle.std.proofs.Math.Bool.{and-true}
+use Rattle.std.proofs.lemmas.Bool.{leb-false}
+use Rattle.std.proofs.lemmas.Cmp.{nat_list_eq_equiv}
+use Rattle.std.proofs.lemmas.List.{map-append, length-map}
+use Rattle.std.proofs.lemmas.List.Elements.{All-push, All-weaker}
+use Rattle.programme_table.specs.declared.row.ProgrammeRow.{ProgrammeRow}
+use Rattle.indexmap.specs.IndexSet.{insert_key}
+use Rattle.place_base.specs.declared.fault.FaultKind.TheVariants.{OutOfRange}
+use Rattle.place_base.specs.declared.fault.FileKind.TheVariants.{Programmes as programmes}
+use Rattle.record_files.specs.FirstFaults.{duplicate_at, fault_at, fault_if, first_of, repeat_fault, shape_fault}
+use Rattle.record_files.specs.Rows.{Row}
+use Rattle.programme_table.proofs.FirstAppearances.{any-first, any-insert_key_added, length-insert_key, first_appearances-snoc, place-insert_key_other, place-within}
+use Rattle.programme_table.specs.Growth.{clash, with_programme, is_full_for, line_with, row_fault_in, with_row}
+use Rattle.programme_table.specs.Programmes.{code_of, first_appearances, form, is_seventeenth, meaning, quota_of, reading, type_of, types_of}
+use Rattle.programme_table.specs.Table.{IsTable, Programmes, kind_in, line_of, programme_in, table_of}
+
+-- the row's type is among the names
+abbrev IsTyped : List (List ℕ) → Row → Type 0
+IsTyped names row = list_any (bytes_eq (type_of row)) names ≡ true
+
+weaker : {X : Type 0} (P Q : X → Type 0) → ((x : X) → P x → Q x) → (xs : List X) → AllByRecursion P xs
+    → AllByRecursion Q xs
+weaker P Q w [] all = tt
+weaker P Q w (x ∷ xs) all = (w x all.0, weaker P Q w xs all.1)
+
+-- each row's type is among the types of the rows
+typed : (rows : List Row) → AllByRecursion (IsTyped (types_of rows)) rows
+typed [] = tt
+typed (row ∷ rows) = (
+  rw (nat_list_eq_equiv.refl (type_of row)) refl,
+  weaker (IsTyped (types_of rows)) (IsTyped (types_of (row ∷ rows)))
+      (λ other there. any-first (type_of row) (type_of other) (types_of rows) there) rows (typed rows),
+)
+
+-- a type that is added leaves the programmes of the others as they were
+map-programme_in : (names : List (List ℕ)) (added : List ℕ) (rows : List Row)
+    → AllByRecursion (IsTyped names) rows
+    → map (programme_in (insert_key bytes_eq names added)) rows ≡ map (programme_in names) rows
+map-programme_in names added [] all = refl
+map-programme_in names added (row ∷ rows) all =
+    let same : programme_in (insert_key bytes_eq names added) row ≡ programme_in names row =
+    ap (λ kind. record { code = code_of row; kind = kind; quota = quota_of row })
+    (place-insert_key_other names (type_of row) added all.0) in
+    let later = map-programme_in names added rows all.1 in
+    cc
+
+-- the table of one more row
+pub table_of-snoc : (rows : List Row) (row : Row)
+    → table_of (rows ++ row ∷ []) ≡ with_row (table_of rows) row
+table_of-snoc rows row =
+    let before = types_of rows in
+    let after = insert_key bytes_eq before (type_of row) in
+    let names : types_of (rows ++ row ∷ []) ≡ after =
+    ap first_appearances (map-append type_of rows (row ∷ []))
+    ∙ first_appearances-snoc (map type_of rows) (type_of row) in
+    let programmes_are : map (programme_in (types_of (rows ++ row ∷ []))) (rows ++ row ∷ [])
+    ≡ map (programme_in before) rows ++ programme_in after row ∷ [] =
+    ap (λ types. map (programme_in types) (rows ++ row ∷ [])) names
+    ∙ map-append (programme_in after) rows (row ∷ [])
+    ∙ ap (λ earlier. earlier ++ programme_in after row ∷ [])
+    (map-programme_in before (type_of row) rows (typed rows)) in
+    let lines = map-append line_of rows (row ∷ []) in
+    λ j. record { rows = programmes_are j; lines = lines j; names = names j }
+
+-- the earlier line of a code
+repeat_fault-lookup : (code line : ℕ) (rows : List Row)
+    → option_map (duplicate_at programmes line 1) (lookup (nat_eq code) (map line_of rows))
+    ≡ repeat_fault programmes line 1 (λ other. code == code_of other) rows
+repeat_fault-lookup code line [] = refl
+repeat_fault-lookup code line (row ∷ rows) =
+    let later = repeat_fault-lookup code line rows in
+    elim (nat_eq code (code_of row)) as
+    (λ b. option_map (duplicate_at programmes line 1)
+    (cond b (Some row.0) (lookup (nat_eq code) (map line_of rows)))
+    ≡ option_map (λ other. duplicate_at programmes line 1 other.0)
+    (cond b (Some row) (find (λ other. code == code_of other) rows)))
+    [ true ↦ refl | false ↦ later ]
+
+-- what is wrong with a row beside the earlier rows is what is wrong with it beside their table
+pub row_fault_in-table_of : (rows : List Row) (row : Row)
+    → row_fault_in (table_of rows) row
+    ≡ first_of (shape_fault form (length rows) row) (first_of (reading row) (meaning rows row))
+row_fault_in-table_of rows row =
+    let count = length-map rows (programme_in (types_of rows)) in
+    let repeated = repeat_fault-lookup (code_of row) row.0 rows in
+    let full = fault_if (is_seventeenth rows row) (fault_at programmes row.0 2 OutOfRange) in
+    λ j. first_of (shape_fault form (count j) row) (first_of (reading row) (first_of (repeated j) full))
+
+-- where nothing clashes, no earlier programme has the code
+pub clash-new : (table : Programmes) (line code : ℕ) (name : List ℕ) → clash table line code name ≡ None
+    → line_with table code ≡ None
+clash-new table line code name none = by (line_with table code) none
+  where
+    by : (found : Option ℕ)
+        → first_of (option_map (duplicate_at programmes line 1) found)
+        (fault_if (is_full_for table name) (fault_at programmes line 2 OutOfRange)) ≡ None
+        → found ≡ None
+    by None h = refl
+    by (Some earlier) h = cc
+
+-- and there is room for the type
+pub clash-room : (table : Programmes) (line code : ℕ) (name : List ℕ)
+    → clash table line code name ≡ None → length table.names ≤ 16
+    → length (insert_key bytes_eq table.names name) ≤ 16
+clash-room table line code name none few =
+    let new = clash-new table line code name none in
+    let room : fault_if (is_full_for table name) (fault_at programmes line 2 OutOfRange) ≡ None =
+    rw new at none in
+    by (is_full_for table name) refl room (list_any (bytes_eq name) table.names) refl
+  where
+    by : (full : Bool) → is_full_for table name ≡ full
+        → fault_if full (fault_at programmes line 2 OutOfRange) ≡ None → (known : Bool)
+        → list_any (bytes_eq name) table.names ≡ known
+        → length (insert_key bytes_eq table.names name) ≤ 16
+    by true full none known there = cc
+    by false full none true there = rw there few
+    by false full none false there =
+        let room : nat_le 16 (length table.names) ≡ false =
+        sym (and-true (nat_le 16 (length table.names))) ∙ (rw there at full) in
+        let below : length table.names < 16 = leb-false 16 (length table.names) room in
+        rw there (omega (arith, length-append {A = List ℕ}))
+
+-- a table with one more programme fits
+pub IsTable-with : (table : Programmes) (line code : ℕ) (name : List ℕ) (quota : ℕ) → IsTable table
+    → length table.rows < 60000 → quota ≤ 100000
+    → clash table line code name ≡ None → IsTable (with_programme table line code name quota)
+IsTable-with table line code name quota fits room small none =
+    let names = insert_key bytes_eq table.names name in
+    let row : ProgrammeRow = record { code = code; kind = kind_in names name; quota = quota } in
+    let grown : length table.names ≤ length names = length-insert_key table.names name in
+    let kind : kind_in names name < length names =
+    place-within (bytes_eq name) names (any-insert_key_added table.names name) in
+    record {
+      codes = map-append (λ (at : ℕ × ℕ). at.0) table.lines ((code, line) ∷ [])
+          ∙ ap (λ codes. codes ++ code ∷ []) fits.codes
+          ∙ sym (map-append (λ (one : ProgrammeRow). one.code) table.rows (row ∷ []));
+      kinds = All-push (λ (one : ProgrammeRow). one.kind < length names) table.rows row
+          (All-weaker (λ (one : ProgrammeRow). one.kind < length table.names)
+          (λ (one : ProgrammeRow). one.kind < length names) (λ one below. omega arith) table.rows
+          fits.kinds) kind;
+      quotas = All-push (λ (one : ProgrammeRow). one.quota ≤ 100000) table.rows row fits.quotas small;
+      few_rows = omega (arith, length-append table.rows (row ∷ []));
+      few_names = clash-room table line code name none fits.few_names;
+    }

@@ -1,0 +1,3 @@
+pub mod FirstAppearances
+pub mod Growing
+pub mod Reading
