@@ -36,7 +36,8 @@ impl Model for TypeName {
 
     ghost inverse = { λ text. record { bytes = text ++ replicate (8 - length text) 0; size = length text } };
 
-    ghost inverse_ok = { λ a h. let with_bytes : List ℕ → Inside = λ bytes. record { bytes = bytes; size = a.size } in
+    ghost inverse_ok = { λ a h.
+        let with_bytes : List ℕ → Inside = λ bytes. record { bytes = bytes; size = a.size } in
         Prim.rw h.1 (ap with_bytes (sym h.2)) };
 }
 

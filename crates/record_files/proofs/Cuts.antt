@@ -10,41 +10,51 @@ split-at_other : (c b : ℕ) (bs : List ℕ) → b ≢ c → split c (b ∷ bs) 
 split-at_other c b bs e = let t : (b == c) ≡ false = grind (arith, nat_tests) in rw t refl
 
 -- bytes with no c are one piece
-pub split-whole : (c : ℕ) (bs : List ℕ) → ((k : ℕ) → k < length bs → get_or bs k 0 ≢ c) → split c bs ≡ bs ∷ []
+pub split-whole : (c : ℕ) (bs : List ℕ) → ((k : ℕ) → k < length bs → get_or bs k 0 ≢ c)
+    → split c bs ≡ bs ∷ []
 split-whole c [] h = refl
 split-whole c (b ∷ bs) h =
-    split-at_other c b bs (h 0 (omega arith)) ∙ ap (put_first b) (split-whole c bs (λ k lt. h (suc k) (omega arith)))
+    split-at_other c b bs (h 0 (omega arith))
+    ∙ ap (put_first b) (split-whole c bs (λ k lt. h (suc k) (omega arith)))
 
 -- the first piece ends at the first c
-pub split-cut : (c : ℕ) (bs : List ℕ) (i : ℕ) → i < length bs → get_or bs i 0 ≡ c → ((k : ℕ) → k < i → get_or bs k 0 ≢ c)
+pub split-cut : (c : ℕ) (bs : List ℕ) (i : ℕ) → i < length bs → get_or bs i 0 ≡ c
+    → ((k : ℕ) → k < i → get_or bs k 0 ≢ c)
     → split c bs ≡ take i bs ∷ split c (drop (i + 1) bs)
 split-cut c [] i lt e h = absurd (omega arith)
 split-cut c (b ∷ bs) zero lt e h = split-at_same c b bs e
 split-cut c (b ∷ bs) (suc i) lt e h =
     split-at_other c b bs (h 0 (omega arith))
     ∙ ap (put_first b) (split-cut c bs i (omega arith) e (λ k below. h (suc k) (omega arith)))
-    ∙ (let n : suc (i + 1) ≡ suc i + 1 = omega arith in ap (λ m. (b ∷ take i bs) ∷ split c (drop m (b ∷ bs))) n)
+    ∙ (let n : suc (i + 1) ≡ suc i + 1 = omega arith in
+    ap (λ m. (b ∷ take i bs) ∷ split c (drop m (b ∷ bs))) n)
 
 empty-of : (xs : List ℕ) → length xs ≡ 0 → xs ≡ []
 empty-of [] h = refl
 empty-of (x ∷ xs) h = absurd (omega arith)
 
-numbered-empty : (line : ℕ) (text : List ℕ) (texts : List (List ℕ)) → without_cr text ≡ [] → numbered line (text ∷ texts) ≡ numbered (line + 1) texts
+numbered-empty : (line : ℕ) (text : List ℕ) (texts : List (List ℕ)) → without_cr text ≡ []
+    → numbered line (text ∷ texts) ≡ numbered (line + 1) texts
 numbered-empty line text texts e = rw e refl
 
-numbered-full : (line : ℕ) (text : List ℕ) (texts : List (List ℕ)) → 0 < length (without_cr text) → numbered line (text ∷ texts) ≡ (line, without_cr text) ∷ numbered (line + 1) texts
+numbered-full : (line : ℕ) (text : List ℕ) (texts : List (List ℕ)) → 0 < length (without_cr text)
+    → numbered line (text ∷ texts) ≡ (line, without_cr text) ∷ numbered (line + 1) texts
 numbered-full line text texts z = full-of (without_cr text) z
   where
-    full-of : (xs : List ℕ) → 0 < length xs → row_and line xs (numbered (line + 1) texts) ≡ (line, xs) ∷ numbered (line + 1) texts
+    full-of : (xs : List ℕ) → 0 < length xs
+        → row_and line xs (numbered (line + 1) texts) ≡ (line, xs) ∷ numbered (line + 1) texts
     full-of [] h = absurd (omega arith)
     full-of (x ∷ xs) h = refl
 
 -- a line that is empty is passed
-pub rows-passed : (line : ℕ) (rest text : List ℕ) (texts : List (List ℕ)) → split 10 rest ≡ text ∷ texts → length (without_cr text) ≡ 0
+pub rows-passed : (line : ℕ) (rest text : List ℕ) (texts : List (List ℕ))
+    → split 10 rest ≡ text ∷ texts → length (without_cr text) ≡ 0
     → rows_left false line rest ≡ numbered (line + 1) texts
-rows-passed line rest text texts e z = ap (numbered line) e ∙ numbered-empty line text texts (empty-of _ z)
+rows-passed line rest text texts e z = ap (numbered line) e
+    ∙ numbered-empty line text texts (empty-of _ z)
 
 -- a line that is not empty is a row
-pub rows-row : (line : ℕ) (rest text : List ℕ) (texts : List (List ℕ)) → split 10 rest ≡ text ∷ texts → 0 < length (without_cr text)
+pub rows-row : (line : ℕ) (rest text : List ℕ) (texts : List (List ℕ))
+    → split 10 rest ≡ text ∷ texts → 0 < length (without_cr text)
     → rows_left false line rest ≡ (line, without_cr text) ∷ numbered (line + 1) texts
 rows-row line rest text texts e z = ap (numbered line) e ∙ numbered-full line text texts z

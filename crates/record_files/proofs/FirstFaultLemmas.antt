@@ -19,7 +19,8 @@ pub record HasHead {X : Type 0} (xs : List X) (k : ℕ) (x : X) (left : List X) 
   pub behind : left ≡ drop (k + 1) xs
   pub taken : take (k + 1) xs ≡ take k xs ++ x ∷ []
 
-pub drop-head : {X : Type 0} (xs : List X) (k : ℕ) (x : X) (left : List X) → x ∷ left ≡ drop k xs → HasHead xs k x left
+pub drop-head : {X : Type 0} (xs : List X) (k : ℕ) (x : X) (left : List X) → x ∷ left ≡ drop k xs
+    → HasHead xs k x left
 drop-head xs k x left e =
     let sizes : suc (length left) ≡ length xs - k = ap length e ∙ length-drop k xs in
     let lt : k < length xs = omega arith in
@@ -34,7 +35,8 @@ drop-head xs k x left e =
     }
 
 -- with no fault so far, one more row without a fault makes none
-pub least_fault-next : (fault : ℕ → Option FileFault) (n : ℕ) → least_fault fault n ≡ None → fault n ≡ None → least_fault fault (n + 1) ≡ None
+pub least_fault-next : (fault : ℕ → Option FileFault) (n : ℕ) → least_fault fault n ≡ None
+    → fault n ≡ None → least_fault fault (n + 1) ≡ None
 unfolding least_fault
 least_fault-next fault n before here = rw add-one (rw before here)
 
@@ -42,7 +44,8 @@ first_of-some : (a b : Option FileFault) (f : FileFault) → a ≡ Some f → fi
 first_of-some a b f e = rw e refl
 
 -- with no fault so far, the next row's fault is the least
-pub least_fault-found : (fault : ℕ → Option FileFault) (n m : ℕ) (f : FileFault) → n < m → least_fault fault n ≡ None → fault n ≡ Some f → least_fault fault m ≡ Some f
+pub least_fault-found : (fault : ℕ → Option FileFault) (n m : ℕ) (f : FileFault) → n < m
+    → least_fault fault n ≡ None → fault n ≡ Some f → least_fault fault m ≡ Some f
 unfolding least_fault
 least_fault-found fault n zero f lt before here = absurd (omega arith)
 least_fault-found fault n (suc m) f lt before here =
@@ -53,22 +56,29 @@ least_fault-found fault n (suc m) f lt before here =
     rw none (subst (λ k. fault k ≡ Some f) same here))
     (cases_lt n m)
 
-module _ (form : Form) (reading : Row → Option FileFault) (meaning : List Row → Row → Option FileFault) (bytes : List ℕ) where
+module _ (form : Form) (reading : Row → Option FileFault)
+    (meaning : List Row → Row → Option FileFault) (bytes : List ℕ) where
   -- behind the header nothing has been read
-  pub IsReadTo-begin : (left : List Row) → first_row_fault form (rows bytes) ≡ None → left ≡ data_rows bytes → IsReadTo form reading meaning bytes 0 left
+  pub IsReadTo-begin : (left : List Row) → first_row_fault form (rows bytes) ≡ None
+      → left ≡ data_rows bytes → IsReadTo form reading meaning bytes 0 left
   unfolding least_fault
-  IsReadTo-begin left header e = record { header = header; left_is = e; within = omega arith; none = refl }
+  IsReadTo-begin left header e =
+      record { header = header; left_is = e; within = omega arith; none = refl }
 
   row_fault-at : (k : ℕ) (row : Row) (left : List Row) → HasHead (data_rows bytes) k row left
-      → row_fault form reading meaning (data_rows bytes) k ≡ first_of (shape_fault form k row) (first_of (reading row) (meaning (take k (data_rows bytes)) row))
+      → row_fault form reading meaning (data_rows bytes) k ≡ first_of (shape_fault form k row)
+      (first_of (reading row) (meaning (take k (data_rows bytes)) row))
   row_fault-at k row left h =
       ap (option_and_then (fault_behind form reading meaning (take k (data_rows bytes)))) h.head
-      ∙ ap (λ n. first_of (shape_fault form n row) (first_of (reading row) (meaning (take k (data_rows bytes)) row)))
+      ∙ ap (λ n. first_of (shape_fault form n row)
+      (first_of (reading row) (meaning (take k (data_rows bytes)) row)))
       (length-take-le k (data_rows bytes) (omega arith))
 
   -- a row without a fault is passed
-  pub IsReadTo-next : (k : ℕ) (row : Row) (left : List Row) → IsReadTo form reading meaning bytes k (row ∷ left)
-      → first_of (shape_fault form k row) (first_of (reading row) (meaning (take k (data_rows bytes)) row)) ≡ None
+  pub IsReadTo-next : (k : ℕ) (row : Row) (left : List Row)
+      → IsReadTo form reading meaning bytes k (row ∷ left)
+      → first_of (shape_fault form k row)
+      (first_of (reading row) (meaning (take k (data_rows bytes)) row)) ≡ None
       → IsReadTo form reading meaning bytes (k + 1) left
   IsReadTo-next k row left r none =
       let h = drop-head (data_rows bytes) k row left r.left_is in
@@ -80,21 +90,30 @@ module _ (form : Form) (reading : Row → Option FileFault) (meaning : List Row 
       }
 
   -- the rows read grow by the row passed
-  pub IsReadTo-take : (k : ℕ) (row : Row) (left : List Row) → IsReadTo form reading meaning bytes k (row ∷ left)
+  pub IsReadTo-take : (k : ℕ) (row : Row) (left : List Row)
+      → IsReadTo form reading meaning bytes k (row ∷ left)
       → take (k + 1) (data_rows bytes) ≡ take k (data_rows bytes) ++ row ∷ []
   IsReadTo-take k row left r = (drop-head (data_rows bytes) k row left r.left_is).taken
 
   -- a row with a fault has the file's first
-  pub IsReadTo-stops : (k : ℕ) (row : Row) (left : List Row) (f : FileFault) → IsReadTo form reading meaning bytes k (row ∷ left)
-      → first_of (shape_fault form k row) (first_of (reading row) (meaning (take k (data_rows bytes)) row)) ≡ Some f
+  pub IsReadTo-stops : (k : ℕ) (row : Row) (left : List Row) (f : FileFault)
+      → IsReadTo form reading meaning bytes k (row ∷ left)
+      → first_of (shape_fault form k row)
+      (first_of (reading row) (meaning (take k (data_rows bytes)) row)) ≡ Some f
       → first_fault form reading meaning bytes ≡ Some f
   IsReadTo-stops k row left f r found =
       let h = drop-head (data_rows bytes) k row left r.left_is in
-      rw r.header (least_fault-found _ k (length (data_rows bytes)) f h.within r.none (row_fault-at k row left h ∙ found))
+      rw r.header (least_fault-found _ k (length (data_rows bytes)) f h.within r.none
+      (row_fault-at k row left h ∙ found))
 
   -- where no row is left the file has no fault, and all rows were read
-  pub IsReadTo-ends : (k : ℕ) → IsReadTo form reading meaning bytes k [] → (first_fault form reading meaning bytes ≡ None) × (k ≡ length (data_rows bytes))
+  pub IsReadTo-ends : (k : ℕ) → IsReadTo form reading meaning bytes k []
+      → (first_fault form reading meaning bytes ≡ None) × (k ≡ length (data_rows bytes))
   IsReadTo-ends k r =
-      let sizes : 0 ≡ length (data_rows bytes) - k = ap length r.left_is ∙ length-drop k (data_rows bytes) in
-      let all : k ≡ length (data_rows bytes) = omega arith in
-      (rw r.header (subst (λ n. least_fault (row_fault form reading meaning (data_rows bytes)) n ≡ None) all r.none), all)
+      let sizes : 0 ≡ length (data_rows bytes) - k = ap length r.left_is
+      ∙ length-drop k (data_rows bytes) in
+      let all : k ≡ length (data_rows bytes) = omega arith in (
+        rw r.header (subst (λ n. least_fault (row_fault form reading meaning (data_rows bytes)) n
+            ≡ None) all r.none),
+        all,
+      )

@@ -16,4 +16,5 @@ start_of ends (suc index) = slice_index ends index + 1
 -- the number of fields, and where the first four end
 pub record IsCutAt (text ends : List ℕ) (count : ℕ) : Type 0 where
   pub total : count ≡ length (split 44 text)
-  pub fields : (index : ℕ) → index < count → index < 4 → IsFieldAt text index (start_of ends index) (slice_index ends index)
+  pub fields : (index : ℕ) → index < count → index < 4
+      → IsFieldAt text index (start_of ends index) (slice_index ends index)

@@ -58,16 +58,19 @@ abbrev pub shape_fault : Form → ℕ → Row → Option FileFault
 shape_fault form index row =
     first_of (long_fault form row)
     (first_of (fault_if (nat_le form.most_rows index) (fault_at form.file row.0 0 TooManyRows))
-    (fault_if (not (length (fields_of row) == form.fields)) (fault_at form.file row.0 0 FieldCount)))
+    (fault_if (not (length (fields_of row) == form.fields))
+    (fault_at form.file row.0 0 FieldCount)))
 
 -- the fault of a data row behind the earlier ones: its shape, then its fields by themselves, then
 -- what it means beside the earlier rows and the other files
-abbrev pub fault_behind : Form → (Row → Option FileFault) → (List Row → Row → Option FileFault) → List Row → Row → Option FileFault
+abbrev pub fault_behind : Form → (Row → Option FileFault) → (List Row → Row → Option FileFault)
+    → List Row → Row → Option FileFault
 fault_behind form reading meaning earlier row =
     first_of (shape_fault form (length earlier) row) (first_of (reading row) (meaning earlier row))
 
 -- the fault of the data row at an index
-abbrev pub row_fault : Form → (Row → Option FileFault) → (List Row → Row → Option FileFault) → List Row → ℕ → Option FileFault
+abbrev pub row_fault : Form → (Row → Option FileFault) → (List Row → Row → Option FileFault)
+    → List Row → ℕ → Option FileFault
 row_fault form reading meaning lines index =
     option_and_then (fault_behind form reading meaning (take index lines)) (slice_get lines index)
 
@@ -81,7 +84,8 @@ abbrev pub data_rows : List ℕ → List Row
 data_rows bytes = drop 1 (rows bytes)
 
 -- the first fault of a file: that of its first row, or that of the least data row that has one
-abbrev pub first_fault : Form → (Row → Option FileFault) → (List Row → Row → Option FileFault) → List ℕ → Option FileFault
+abbrev pub first_fault : Form → (Row → Option FileFault) → (List Row → Row → Option FileFault)
+    → List ℕ → Option FileFault
 first_fault form reading meaning bytes =
     first_of (first_row_fault form (rows bytes))
     (least_fault (row_fault form reading meaning (data_rows bytes)) (length (data_rows bytes)))

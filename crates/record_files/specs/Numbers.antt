@@ -30,5 +30,7 @@ value bs = value_after 0 bs
 abbrev pub number_of : List ℕ → ℕ → ℕ → Result ℕ FaultKind
 number_of field low high =
     if is_number field
-    then (if nat_le low (value field) && nat_le (value field) high then Ok (value field) else Err OutOfRange)
+    then (if nat_le low (value field) && nat_le (value field) high
+    then Ok (value field)
+    else Err OutOfRange)
     else Err NotNumber

@@ -6,7 +6,9 @@ use Rattle.record_files.specs.Form.{Form}
 use Rattle.record_files.specs.Rows.{Row, rows}
 
 -- the header and the first data rows have no fault, and these rows are left
-pub record IsReadTo (form : Form) (reading : Row → Option FileFault) (meaning : List Row → Row → Option FileFault) (bytes : List ℕ) (count : ℕ) (left : List Row) : Type 0 where
+pub record IsReadTo (form : Form) (reading : Row → Option FileFault)
+    (meaning : List Row → Row → Option FileFault) (bytes : List ℕ) (count : ℕ) (left : List Row)
+    : Type 0 where
   pub header : first_row_fault form (rows bytes) ≡ None
   pub left_is : left ≡ drop count (data_rows bytes)
   pub within : count ≤ length (data_rows bytes)

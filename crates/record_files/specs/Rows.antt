@@ -15,7 +15,8 @@ split c (b ∷ bs) = if b == c then [] ∷ split c bs else put_first b (split c 
 
 -- without one CR at its end
 abbrev pub without_cr : List ℕ → List ℕ
-without_cr text = if slice_index text (length text - 1) == 13 then take (length text - 1) text else text
+without_cr text =
+    if slice_index text (length text - 1) == 13 then take (length text - 1) text else text
 
 -- a row in front of others, where its text is not empty
 abbrev pub row_and : ℕ → List ℕ → List (ℕ × List ℕ) → List (ℕ × List ℕ)

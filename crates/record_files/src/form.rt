@@ -33,7 +33,12 @@ const LONGEST_LINE: usize = 1024;
 impl FileForm {
     /// The form of a file.
     pub fn new(file: FileKind, header: &'static [u8], fields: u32, most_rows: u32) -> FileForm
-        ensures { result ≡ record { file = file; header = header.entry.now; fields = fields; most_rows = most_rows } }
+        ensures { result ≡ record {
+          file = file;
+          header = header.entry.now;
+          fields = fields;
+          most_rows = most_rows;
+        } }
     {
         FileForm {
             file,
@@ -45,7 +50,9 @@ impl FileForm {
 
     /// Passes the header, or refuses the fault of the first row.
     pub fn read_header(&self, records: &mut Records<'_>) -> Result<(), FileFault>
-        ensures result { MatchResult result (λ _. first_row_fault self.now records.old ≡ None) (λ fault. first_row_fault self.now records.old ≡ Some fault) }
+        ensures result { MatchResult result
+            (λ _. first_row_fault self.now records.old ≡ None)
+            (λ fault. first_row_fault self.now records.old ≡ Some fault) }
         ensures passed { records.new ≡ drop 1 records.old }
     {
         let Some(row) = records.next() else {
@@ -60,7 +67,8 @@ impl FileForm {
         Ok(())
     }
 
-    /// The fault of a data row before its fields are read. The index counts the data rows before it.
+    /// The fault of a data row before its fields are read. The index counts the data rows before
+    /// it.
     pub fn shape_fault(&self, index: u32, row: &RecordRow<'_>) -> Option<FileFault>
         ensures { result ≡ shape_fault self.now index row.now }
     {

@@ -27,7 +27,8 @@ pub fn put_row_1(out: &mut Vec<u8>, a: Field<'_>) -> Result<(), AllocError>
 
 /// Appends a row of two fields. Where memory is refused the vector stays as it was.
 pub fn put_row_2(out: &mut Vec<u8>, a: Field<'_>, b: Field<'_>) -> Result<(), AllocError>
-    ensures row { OnOk result (out.new.items ≡ out.old.items ++ row_text (text_of a.entry ∷ text_of b.entry ∷ [])) }
+    ensures row { OnOk result (out.new.items
+        ≡ out.old.items ++ row_text (text_of a.entry ∷ text_of b.entry ∷ [])) }
     ensures same { OnErr result (out.new.items ≡ out.old.items) }
 {
     let (mut buffer_a, mut buffer_b) = (Buffer::new(), Buffer::new());

@@ -96,7 +96,8 @@ impl Cuts {
         requires { self.old.count < 2 ^ 31 }
         ensures count { self.new.count ≡ self.old.count + 1 }
         ensures here { self.old.count < 4 → slice_index self.new.ends self.old.count ≡ end }
-        ensures before { (k : ℕ) → k < self.old.count → slice_index self.new.ends k ≡ slice_index self.old.ends k }
+        ensures before { (k : ℕ) → k < self.old.count
+            → slice_index self.new.ends k ≡ slice_index self.old.ends k }
     {
         if self.count < 4 {
             self.ends[self.count as usize] = end;
@@ -171,8 +172,8 @@ impl<'a> Records<'a> {
         }
     }
 
-    /// The rows of a part of a file, counted from the part's line. Those of parts that start at 0 or
-    /// just behind an LF are rows of the file.
+    /// The rows of a part of a file, counted from the part's line. Those of parts that start at 0
+    /// or just behind an LF are rows of the file.
     pub fn of_part(bytes: &'a [u8], part: RowPart) -> Records<'a>
         requires size { length bytes.now ≤ 2 ^ 30 }
         requires stretch { (part.start ≤ part.end) × (part.end ≤ length bytes.now) }
@@ -220,7 +221,8 @@ impl<'a> Records<'a> {
 fn find_byte(sought: u8, bytes: &[u8]) -> usize
     ensures bound { result ≤ length bytes.now }
     ensures cut { result < length bytes.now
-        → split sought bytes.now ≡ take result bytes.now ∷ split sought (drop (result + 1) bytes.now) }
+        → split sought bytes.now
+        ≡ take result bytes.now ∷ split sought (drop (result + 1) bytes.now) }
     ensures whole { result ≡ length bytes.now → split sought bytes.now ≡ bytes.now ∷ [] }
 {
     for (index, byte) in bytes.iter().enumerate() {

@@ -5,4 +5,5 @@ use Rattle.place_base.proofs.type_name.is_name.Given as goal
 
 -- what is left decides
 abbrev pub invariant-loop-byte : goal.invariant-loop-byte
-invariant-loop-byte l = list_all is_type_byte l.bytes ≡ list_all is_type_byte (drop l.byte-index l.bytes)
+invariant-loop-byte l =
+    list_all is_type_byte l.bytes ≡ list_all is_type_byte (drop l.byte-index l.bytes)

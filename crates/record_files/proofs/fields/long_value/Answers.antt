@@ -8,10 +8,12 @@ loop-byte-preserved c =
     let xs = c.args.field.now in
     let i = c.loop-byte.byte-index in
     let v = c.loop-byte.sum in
-    let d : is_digit (get_or xs i 0) ≡ true = is_digit-between (get_or xs i 0) c.if-byte-lt48.false c.if-byte-gt57.false in
+    let d : is_digit (get_or xs i 0) ≡ true =
+    is_digit-between (get_or xs i 0) c.if-byte-lt48.false c.if-byte-gt57.false in
     record {
       small = omega arith;
       digits = c.loop-byte.invariant.digits ∙ digits-next xs i (omega arith) d;
       sum = c.loop-byte.invariant.sum ∙ ap (λ w. min w (2 ^ 64)) (value-next xs i v (omega arith))
-          ∙ capped (drop (i + 1) xs) (10 * v + (get_or xs i 0 - 48)) c.min-sum.result (2 ^ 64) (omega arith);
+          ∙ capped (drop (i + 1) xs) (10 * v + (get_or xs i 0 - 48)) c.min-sum.result (2 ^ 64)
+          (omega arith);
     }

@@ -5,13 +5,15 @@ use Rattle.record_files.proofs.fields.short_value.Goals as goal
 
 pub overflow_mul-sum : goal.overflow_mul-sum
 overflow_mul-sum c =
-    let small : 10 * c.loop-byte.sum + 0 < 10 ^ (c.loop-byte.byte-index + 1) = digits-fit _ _ 0 c.loop-byte.invariant.small (omega arith) in
+    let small : 10 * c.loop-byte.sum + 0 < 10 ^ (c.loop-byte.byte-index + 1) =
+    digits-fit _ _ 0 c.loop-byte.invariant.small (omega arith) in
     let fits : 10 ^ (c.loop-byte.byte-index + 1) ≤ 10 ^ 19 = short-fits _ (omega arith) in
     omega arith
 
 pub overflow_add-sum : goal.overflow_add-sum
 overflow_add-sum c =
-    let small : 10 * c.loop-byte.sum + c.from.result < 10 ^ (c.loop-byte.byte-index + 1) = digits-fit _ _ c.from.result c.loop-byte.invariant.small (omega arith) in
+    let small : 10 * c.loop-byte.sum + c.from.result < 10 ^ (c.loop-byte.byte-index + 1) =
+    digits-fit _ _ c.from.result c.loop-byte.invariant.small (omega arith) in
     let fits : 10 ^ (c.loop-byte.byte-index + 1) ≤ 10 ^ 19 = short-fits _ (omega arith) in
     omega arith
 
@@ -19,7 +21,8 @@ pub loop-byte-preserved : goal.loop-byte-preserved
 loop-byte-preserved c =
     let xs = c.args.field.now in
     let i = c.loop-byte.byte-index in
-    let d : is_digit (get_or xs i 0) ≡ true = is_digit-between (get_or xs i 0) c.if-byte-lt48.false c.if-byte-gt57.false in
+    let d : is_digit (get_or xs i 0) ≡ true =
+    is_digit-between (get_or xs i 0) c.if-byte-lt48.false c.if-byte-gt57.false in
     record {
       small = digits-fit _ _ c.from.result c.loop-byte.invariant.small (omega arith);
       digits = c.loop-byte.invariant.digits ∙ digits-next xs i (omega arith) d;

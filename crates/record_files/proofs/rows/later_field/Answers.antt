@@ -5,5 +5,6 @@ use Rattle.record_files.proofs.rows.later_field.Goals as goal
 -- a field that is not the last is followed by a comma
 pub overflow_add-rest : goal.overflow_add-rest
 overflow_add-rest c =
-    let one : c.find_byte-at.result ≡ length c.loop.rest.now → length (split 44 c.loop.rest.now) ≡ 1 = λ e. ap length (c.find_byte-at.ensures.whole e) in
+    let one : c.find_byte-at.result ≡ length c.loop.rest.now
+    → length (split 44 c.loop.rest.now) ≡ 1 = λ e. ap length (c.find_byte-at.ensures.whole e) in
     omega arith

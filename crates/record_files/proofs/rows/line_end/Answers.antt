@@ -16,4 +16,5 @@ returns-in-Some-clause-cut c = λ lt.
 
 pub returns-in-None-clause-whole : goal.returns-in-None-clause-whole
 returns-in-None-clause-whole c = λ _.
-    split-whole 10 c.args.bytes.now (λ k below here. c.in-None.ensures k (omega arith) below (same-is _ 10 here))
+    split-whole 10 c.args.bytes.now
+    (λ k below here. c.in-None.ensures k (omega arith) below (same-is _ 10 here))

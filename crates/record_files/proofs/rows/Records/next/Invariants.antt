@@ -7,7 +7,9 @@ abbrev pub invariant-lines : goal.invariant-lines
 invariant-lines l = record {
   room : l.self-inside.line + length l.self-inside.rest.now ≤ 2 ^ 31 + 1;
   short : length l.self-inside.rest.now ≤ 2 ^ 30;
-  same : rows_left l.self-inside.done l.self-inside.line l.self-inside.rest.now ≡ rows_left l.initial.self-inside.done l.initial.self-inside.line l.initial.self-inside.rest.now;
+  same : rows_left l.self-inside.done l.self-inside.line l.self-inside.rest.now
+      ≡ rows_left l.initial.self-inside.done l.initial.self-inside.line
+      l.initial.self-inside.rest.now;
 }
 
 abbrev pub decreases-lines : goal.decreases-lines
