@@ -1,2 +1,4 @@
 pub mod Holds
+pub mod ManyTurns
+pub mod Seats
 pub mod Sweeps

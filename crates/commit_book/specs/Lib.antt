@@ -3,3 +3,5 @@
 pub mod Book
 -- the call that takes, commits and releases
 pub mod Prefix
+-- seats that may draw
+pub mod Seats

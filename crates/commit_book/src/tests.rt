@@ -1,6 +1,6 @@
-// Two seats step on the words of a round, on one thread.
+// Seats step on the words of a round, on one thread.
 
-ghost use Rattle.std.specs.Prelude.{◌≡◌, ◌∷◌, [], length, IfOk, false};
+ghost use Rattle.std.specs.Prelude.{◌≡◌, ◌∷◌, [], length, IfOk, None, false};
 ghost use Rattle.market.specs.Examples.{two_turns};
 ghost use Rattle.word_rule.specs.Rounds.{knows, key_of, dict_of, IsSeatOf, IsNew, AllNew, IsOver};
 
@@ -11,6 +11,9 @@ use std::alloc::{AllocError, Global};
 use std::process::Abort;
 use std::test::Fail;
 use word_rule::{PhaseCopy, SharedRound, Words, WorkSeat, close_round, join_all, open_round};
+
+// A round of many turns, posted in falling order.
+mod falling_posts;
 
 // A list of these numbers.
 fn list(alloc: Global, items: &[u32]) -> Result<List, AllocError>
@@ -61,6 +64,7 @@ fn draws(rt: &impl Abort, round: &SharedRound, me: &mut WorkSeat, turn: u32)
     ensures seat { IsSeatOf round.now me.new }
     ensures share { (knows me.new).share ≡ (knows me.old).share }
     ensures done { (knows me.new).core.done ≡ false }
+    ensures owes { (knows me.new).core.owes ≡ false }
 {
     assert!(rt; me.claim.is_none() && me.phase.is_none());
     assert_eq!(rt; claim(round, me), Some(turn));
@@ -100,7 +104,7 @@ fn reads(rt: &impl Abort, round: &SharedRound, dict: &Dict, me: &mut WorkSeat) -
     read_entry(round, dict, me)
 }
 
-// The seat posts its turn at the entry that it met, and answers the place.
+// The seat posts its turn at the entry that it met, or past its whole list, and answers the place.
 fn posts(rt: &impl Abort, round: &SharedRound, dict: &Dict, me: &mut WorkSeat) -> u32
     requires seat { IsSeatOf round.now me.old }
     requires dict { dict.now ≡ dict_of round.now }
@@ -111,8 +115,9 @@ fn posts(rt: &impl Abort, round: &SharedRound, dict: &Dict, me: &mut WorkSeat) -
     let Some(claim) = me.claim else {
         panic!(rt; "no claim")
     };
-    if !claim.met {
-        panic!(rt; "no entry is met")
+    let places = dict.list(claim.turn).len();
+    if !claim.met && (claim.passed as usize) < places {
+        panic!(rt; "no entry is met, and some are left")
     }
     post(round, dict, me)
 }
@@ -204,6 +209,20 @@ fn releases(rt: &impl Abort, round: &SharedRound, me: &mut WorkSeat)
     release(round, me);
 }
 
+// The seat tries to take the mark, and commits what it then can.
+fn commits(rt: &impl Abort, round: &SharedRound, dict: &Dict, me: &mut WorkSeat) -> Option<u32>
+    requires seat { IsSeatOf round.now me.old }
+    requires dict { dict.now ≡ dict_of round.now }
+    ensures seat { IsSeatOf round.now me.new }
+    ensures share { (knows me.new).share ≡ (knows me.old).share }
+    ensures done { (knows me.new).core.done ≡ (knows me.old).core.done }
+    ensures paid { (knows me.new).core.owes ≡ false }
+    ensures free { (knows me.new).core.hold ≡ None }
+{
+    assert!(rt; me.claim.is_none() && me.phase.is_none());
+    commit_prefix(round, dict, me)
+}
+
 // Both seats are joined, which commit what is left, and the round is closed.
 fn closed(
     alloc: Global,
@@ -275,6 +294,7 @@ fn nothing_is_committed_past_an_empty_cell(rt: HostRuntime) -> Result<(), Fail> 
     assert_eq!(&rt; reads(&rt, &round, &dict, &mut first), false);
     assert_eq!(&rt; posts(&rt, &round, &dict, &mut first), 0);
     assert_eq!(&rt; takes(&rt, &round, &mut first), false);
+    assert_eq!(&rt; commits(&rt, &round, &dict, &mut first), None);
     releases(&rt, &round, &mut second);
     Ok(())
 }

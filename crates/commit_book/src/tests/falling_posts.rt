@@ -1,0 +1,150 @@
+// A round of 128 turns and 64 seats: twice all seats draw, and then post in falling order.
+
+ghost use Rattle.std.specs.Prelude.{◌≡◌, ◌≤◌, IfOk, true, false};
+ghost use Rattle.word_rule.specs.Rounds.{knows, dict_of, shares_of, AllOver};
+ghost use Rattle.commit_book.specs.Seats.{IsReady, AllReady};
+
+use super::{commits, draws, ends, list, posts, reads};
+use market::Dict;
+use std::alloc::{AllocError, Global};
+use std::process::Abort;
+use std::test::Fail;
+use word_rule::{SharedRound, Words, WorkSeat, close_round, join_all, open_round};
+
+const QUOTAS: [u32; 7] = [30, 20, 10, 15, 15, 20, 10];
+
+// 128 turns over seven programmes, of which each turn lists three. Some of the lists get full.
+fn many_turns(alloc: Global) -> Result<Dict, AllocError> {
+    let quota = Vec::from_slice(alloc, &QUOTAS)?;
+    let fill = vec![in alloc; 0, 0, 0, 0, 0, 0, 0]?;
+    let mut lists = Vec::with_capacity(alloc, 128)?;
+    for turn in 0..128 {
+        lists.push(list(alloc, &[turn % 3, turn % 5, turn % 7])?)?;
+    }
+    Ok(Dict::from_parts(quota, fill, lists))
+}
+
+// The last seat draws this turn, the seat before it the next one, and so on. They come back in the
+// order of their turns.
+fn draw_all(
+    alloc: Global,
+    rt: &impl Abort,
+    round: &SharedRound,
+    mut seats: Vec<WorkSeat>,
+    first: u32,
+) -> Result<Vec<WorkSeat>, AllocError>
+    requires ready { AllReady round.now seats.items }
+    requires first { first ≤ 64 }
+    ensures ready { IfOk result (λ drawn. AllReady round.now drawn.items) }
+    ensures shares { IfOk result (λ drawn. shares_of drawn.items ≡ shares_of seats.items) }
+{
+    let mut drawn = Vec::with_capacity(alloc, seats.len())?;
+    while let Some(mut me) = seats.pop() {
+        assert!(rt; drawn.len() < 64);
+        draws(rt, round, &mut me, first + drawn.len() as u32);
+        drawn.push(me)?;
+    }
+    Ok(drawn)
+}
+
+// The seat reads its turn's list up to the first entry with a seat left, posts the turn there, and
+// commits what it then can.
+fn works(rt: &impl Abort, round: &SharedRound, dict: &Dict, me: &mut WorkSeat) -> Option<u32>
+    requires ready { IsReady round.now me.old }
+    requires dict { dict.now ≡ dict_of round.now }
+    ensures ready { IsReady round.now me.new }
+    ensures share { (knows me.new).share ≡ (knows me.old).share }
+{
+    for _entry in 0..3 {
+        if !reads(rt, round, dict, me) {
+            break;
+        }
+    }
+    let _ = posts(rt, round, dict, me);
+    commits(rt, round, dict, me)
+}
+
+// From the last turn to the first each seat posts its turn. The first turn's cell stays empty until
+// the end, so that nothing is committed before, and then all.
+fn post_all(
+    alloc: Global,
+    rt: &impl Abort,
+    round: &SharedRound,
+    dict: &Dict,
+    mut drawn: Vec<WorkSeat>,
+) -> Result<Vec<WorkSeat>, AllocError>
+    requires ready { AllReady round.now drawn.items }
+    requires dict { dict.now ≡ dict_of round.now }
+    ensures ready { IfOk result (λ seats. AllReady round.now seats.items) }
+    ensures shares { IfOk result (λ seats. shares_of seats.items ≡ shares_of drawn.items) }
+{
+    let mut seats = Vec::with_capacity(alloc, drawn.len())?;
+    while let Some(mut me) = drawn.pop() {
+        let committed = if drawn.is_empty() { 64 } else { 0 };
+        assert_eq!(rt; works(rt, round, dict, &mut me), Some(committed));
+        seats.push(me)?;
+    }
+    Ok(seats)
+}
+
+// Each seat finds that no turn is left.
+fn end_all(
+    alloc: Global,
+    rt: &impl Abort,
+    round: &SharedRound,
+    mut seats: Vec<WorkSeat>,
+) -> Result<Vec<WorkSeat>, AllocError>
+    requires ready { AllReady round.now seats.items }
+    ensures over { IfOk result (λ over. AllOver round.now over.items) }
+    ensures shares { IfOk result (λ over. shares_of over.items ≡ shares_of seats.items) }
+{
+    let mut over = Vec::with_capacity(alloc, seats.len())?;
+    while let Some(mut me) = seats.pop() {
+        ends(rt, round, &mut me);
+        over.push(me)?;
+    }
+    Ok(over)
+}
+
+// The place of the first programme that has a seat left, of which one is taken.
+fn first_open(rt: &impl Abort, programmes: &[u32], left: &mut [u32]) -> u32 {
+    let mut place = 0;
+    for programme in programmes {
+        assert!(rt; place < 3 && (*programme as usize) < left.len());
+        if left[*programme as usize] > 0 {
+            left[*programme as usize] -= 1;
+            return place;
+        }
+        place += 1;
+    }
+    place
+}
+
+// The choices are those of one turn after the other.
+fn compare(alloc: Global, rt: &impl Abort, dict: &Dict, words: &Words) -> Result<(), AllocError> {
+    let mut left = Vec::from_slice(alloc, &QUOTAS)?;
+    assert_eq!(rt; words.committed(), 128);
+    for turn in 0..dict.turns() {
+        assert!(rt; turn < words.committed());
+        let place = first_open(rt, dict.list(turn), &mut left);
+        assert_eq!(rt; words.choice(turn), place, "turn {turn}");
+    }
+    Ok(())
+}
+
+#[test]
+fn turns_posted_in_falling_order_are_committed_in_order(rt: HostRuntime) -> Result<(), Fail> {
+    let alloc = rt.alloc();
+    let dict = many_turns(alloc)?;
+    let (round, seats) = open_round(alloc, &dict, 64)?;
+    let drawn = draw_all(alloc, &rt, &round, seats, 0)?;
+    let seats = post_all(alloc, &rt, &round, &dict, drawn)?;
+    let drawn = draw_all(alloc, &rt, &round, seats, 64)?;
+    let seats = post_all(alloc, &rt, &round, &dict, drawn)?;
+    let over = end_all(alloc, &rt, &round, seats)?;
+    let mut me = join_all(&round, over);
+    assert_eq!(&rt; commits(&rt, &round, &dict, &mut me), Some(0));
+    let words = close_round(round, me);
+    compare(alloc, &rt, &dict, &words)?;
+    Ok(())
+}
