@@ -115,7 +115,7 @@ fn finish(round: &SharedRound, me: &mut WorkSeat)
     let _ = claim(round, me);
 }
 
-// So does each of these.
+// Each of these seats finds that no turn is left.
 fn finished(
     alloc: Global,
     round: &SharedRound,

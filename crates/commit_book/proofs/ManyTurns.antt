@@ -38,7 +38,7 @@ small_snoc l xs m is all mine k list e =
 abbrev pub seven_programmes : List (List ℕ) → Dictatorship
 seven_programmes lists =
     record {
-      quota = 30 ∷ 20 ∷ 10 ∷ 15 ∷ 15 ∷ 20 ∷ 10 ∷ [];
+      quota = 28 ∷ 10 ∷ 6 ∷ 20 ∷ 4 ∷ 20 ∷ 3 ∷ [];
       fill = 0 ∷ 0 ∷ 0 ∷ 0 ∷ 0 ∷ 0 ∷ 0 ∷ [];
       lists = lists;
     }

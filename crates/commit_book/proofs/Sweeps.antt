@@ -8,8 +8,8 @@ use Rattle.word_rule.specs.Views.{SeatKnows}
 use Rattle.word_rule.specs.Holder.{is_odd, tried, released_with}
 use Rattle.word_rule.specs.Rounds.{knows}
 use Rattle.word_rule.specs.declared.seat.WorkSeat.{WorkSeat}
-use Rattle.commit_book.specs.Book.{as_holder, Looked, Released}
-use Rattle.commit_book.specs.Prefix.{swept, Swept}
+use Rattle.commit_book.specs.Book.{as_holder, IsLook, IsRelease}
+use Rattle.commit_book.specs.Prefix.{swept, IsSweep}
 use Rattle.commit_book.proofs.Holds.{phase_in, count_in}
 
 same_hold : (c g : ℕ) (x y : Phase) → hold_at c x ≡ hold_at g y → (c ≡ g) × (x ≡ y)
@@ -17,7 +17,7 @@ same_hold c g x y e = (ap count_in e, ap phase_in e)
 
 -- a release with c turns committed
 pub released_at : (old new : WorkSeat) (c : ℕ) (x : Phase) → (knows old).core.hold ≡ hold_at c x
-    → Released old new → knows new ≡ released_with (knows old) c
+    → IsRelease old new → knows new ≡ released_with (knows old) c
 released_at old new c x is w =
     let same = same_hold c w.committed x w.phase (sym is ∙ w.hold) in
     w.view ∙ ap (λ (n : ℕ). released_with (knows old) n) (sym same.0)
@@ -25,7 +25,7 @@ released_at old new c x is w =
 -- a release after a look that found nothing: what was taken, committed and given back
 swept_by : (old at mid new : WorkSeat) (number count : ℕ) (p : Phase)
     → knows at ≡ as_holder (tried (knows old) false number) (number + count) Idle
-    → knows mid ≡ as_holder (knows at) (number + count) p → Released mid new
+    → knows mid ≡ as_holder (knows at) (number + count) p → IsRelease mid new
     → knows new ≡ swept (knows old) number count
 swept_by old at mid new number count p view last free =
     released_at mid new (number + count) p (ap (λ (x : SeatKnows). x.core.hold) last) free
@@ -49,7 +49,7 @@ module _ (old at mid new : WorkSeat) (number count : ℕ) where
   swept_with : knows at ≡ as_holder (tried (knows old) false number) c Idle
       → knows new ≡ swept (knows old) number count
       → ((knows old).share ≡ (knows old).workers → (knows old).core.done ≡ true
-      → turn_count (knows old).dict ≤ c) → Swept old new count
+      → turn_count (knows old).dict ≤ c) → IsSweep old new count
   swept_with view is all =
       let hold : (knows at).core.hold ≡ hold_at c Idle = ap (λ (x : SeatKnows). x.core.hold) view in
       let turns = ap (λ (x : SeatKnows). turn_count x.dict) view in
@@ -65,7 +65,7 @@ module _ (old at mid new : WorkSeat) (number count : ℕ) where
 
   -- a prefix was committed where the last look found nothing
   pub swept_of : knows at ≡ as_holder (tried (knows old) false number) c Idle
-      → Looked at mid None → Released mid new → Swept old new count
+      → IsLook at mid None → IsRelease mid new → IsSweep old new count
   swept_of view look free =
       let hold : (knows at).core.hold ≡ hold_at c Idle = ap (λ (x : SeatKnows). x.core.hold) view in
       let same : look.committed ≡ c = (same_hold look.committed c Idle Idle (sym look.idle ∙ hold)).0 in

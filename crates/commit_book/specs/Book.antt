@@ -58,7 +58,7 @@ pub record MayRelease (me : WorkSeat) : Type 0 where
 
 -- a try on the mark: there is a word found at this step; the seat's view is the core's for it, and the
 -- answer is whether the word was even. A seat with every share is answered true
-pub record Tried (old new : WorkSeat) (answer : Bool) : Type 0 where
+pub record IsTake (old new : WorkSeat) (answer : Bool) : Type 0 where
   pub found : ℕ
   pub view : knows new ≡ tried (knows old) (is_odd found) (found / 2)
   pub answered : answer ≡ not (is_odd found)
@@ -67,7 +67,7 @@ pub record Tried (old new : WorkSeat) (answer : Bool) : Type 0 where
 -- a look at the first uncommitted turn: there is a cell found at this step; the seat's view is the core's
 -- for it, and the answer is the place posted there, none where the cell is empty. A done seat with every
 -- share finds a place
-pub record Saw (old new : SeatKnows) (committed : ℕ) (answer : Option ℕ) : Type 0 where
+pub record IsLookAt (old new : SeatKnows) (committed : ℕ) (answer : Option ℕ) : Type 0 where
   pub found : Cell
   pub view : new ≡ as_holder old committed (phase_after_look found)
   pub answered : MatchOption answer (found ≡ Empty) (λ place. found ≡ Posted place)
@@ -75,15 +75,15 @@ pub record Saw (old new : SeatKnows) (committed : ℕ) (answer : Option ℕ) : T
 
 -- a look: with all turns committed nothing is read, the view stays, and there is no answer; else the
 -- first uncommitted turn's cell is read
-pub record Looked (old new : WorkSeat) (answer : Option ℕ) : Type 0 where
+pub record IsLook (old new : WorkSeat) (answer : Option ℕ) : Type 0 where
   pub committed : ℕ
   pub idle : (knows old).core.hold ≡ hold_at committed Idle
   pub all : turn_count (knows old).dict ≤ committed → (knows new ≡ knows old) × (answer ≡ None)
-  pub left : committed < turn_count (knows old).dict → Saw (knows old) (knows new) committed answer
+  pub left : committed < turn_count (knows old).dict → IsLookAt (knows old) (knows new) committed answer
 
 -- a weighing: there is a seat count found at this step; the seat's view is the core's for it, and the
 -- answer is whether it has reached the quota
-pub record Weighed (old new : WorkSeat) (answer : Bool) : Type 0 where
+pub record IsWeigh (old new : WorkSeat) (answer : Bool) : Type 0 where
   pub committed : ℕ
   pub place : ℕ
   pub found : ℕ
@@ -94,7 +94,7 @@ pub record Weighed (old new : WorkSeat) (answer : Bool) : Type 0 where
 
 -- a seat taken: there is a seat count found at this step; the answer is whether one more has reached the
 -- quota, and the seat's view is the core's for it
-pub record SeatTaken (old new : WorkSeat) (answer : Bool) : Type 0 where
+pub record IsSeat (old new : WorkSeat) (answer : Bool) : Type 0 where
   pub committed : ℕ
   pub place : ℕ
   pub found : ℕ
@@ -103,13 +103,13 @@ pub record SeatTaken (old new : WorkSeat) (answer : Bool) : Type 0 where
   pub answered : answer ≡ nat_le (quota_of (knows old).dict (entry (knows old).dict committed place)) (found + 1)
 
 -- a commit: the answer is the turn, and one turn more is committed
-pub record Sealed (old new : WorkSeat) (answer : ℕ) : Type 0 where
+pub record IsSeal (old new : WorkSeat) (answer : ℕ) : Type 0 where
   pub phase : Phase
   pub hold : (knows old).core.hold ≡ hold_at answer phase
   pub view : knows new ≡ as_holder (knows old) (answer + 1) Idle
 
 -- a release: the mark is free with the number of committed turns
-pub record Released (old new : WorkSeat) : Type 0 where
+pub record IsRelease (old new : WorkSeat) : Type 0 where
   pub committed : ℕ
   pub phase : Phase
   pub hold : (knows old).core.hold ≡ hold_at committed phase

@@ -10,7 +10,7 @@ use Rattle.word_rule.specs.declared.seat.WorkSeat.{WorkSeat}
 use Rattle.commit_book.specs.Book.{as_holder}
 
 -- the holder knows where its turn goes: a seat was taken there, or its whole list is full
-pub record Settled (old new : WorkSeat) : Type 0 where
+pub record IsSettled (old new : WorkSeat) : Type 0 where
   pub place : ℕ
   pub phase : Phase
   pub allowed : Allowed (knows new).dict (knows new).core (Seals old.committed place phase)
@@ -18,7 +18,7 @@ pub record Settled (old new : WorkSeat) : Type 0 where
 
 -- the mark was held: there is an odd word found, and the seat's view is that of a miss. So other seats
 -- have a share
-pub record Missed (old new : WorkSeat) : Type 0 where
+pub record IsMiss (old new : WorkSeat) : Type 0 where
   pub found : ℕ
   pub odd : is_odd found ≡ true
   pub view : knows new ≡ tried (knows old) true (found / 2)
@@ -31,7 +31,7 @@ swept x number count = released_with (tried x false number) (number + count)
 
 -- the mark was free: there is an even word found, from whose number on so many turns were committed. A
 -- done seat with every share has committed every turn left
-pub record Swept (old new : WorkSeat) (count : ℕ) : Type 0 where
+pub record IsSweep (old new : WorkSeat) (count : ℕ) : Type 0 where
   pub found : ℕ
   pub even : is_odd found ≡ false
   pub view : knows new ≡ swept (knows old) (found / 2) count
@@ -40,5 +40,5 @@ pub record Swept (old new : WorkSeat) (count : ℕ) : Type 0 where
       → (knows new).released ≡ turn_count (knows old).dict
 
 -- a prefix committed: none where the mark was held, and else how many turns
-abbrev pub PrefixCommitted : WorkSeat → WorkSeat → Option ℕ → Type 0
-PrefixCommitted old new answer = MatchOption answer (Missed old new) (λ count. Swept old new count)
+abbrev pub IsPrefixCommit : WorkSeat → WorkSeat → Option ℕ → Type 0
+IsPrefixCommit old new answer = MatchOption answer (IsMiss old new) (λ count. IsSweep old new count)

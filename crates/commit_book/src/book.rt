@@ -3,7 +3,7 @@
 ghost use Rattle.std.specs.Prelude.{◌≡◌};
 ghost use Rattle.word_rule.specs.Rounds.{IsSeatOf, Stays, dict_of};
 ghost use Rattle.commit_book.specs.Book.{MayTake, MayLook, MayWeigh, MaySeat, MaySeal, MayRelease};
-ghost use Rattle.commit_book.specs.Book.{place_of, Tried, Looked, Weighed, SeatTaken, Sealed, Released};
+ghost use Rattle.commit_book.specs.Book.{place_of, IsTake, IsLook, IsWeigh, IsSeat, IsSeal, IsRelease};
 
 use market::Dict;
 use word_rule::{
@@ -17,7 +17,7 @@ pub fn take(round: &SharedRound, me: &mut WorkSeat) -> bool
     requires seat { IsSeatOf round.now me.old }
     requires may { MayTake me.old }
     ensures stays { Stays me.old me.new }
-    ensures event { Tried me.old me.new result }
+    ensures event { IsTake me.old me.new result }
 {
     let found = round.table.shared.fetch_or::<TakeStep>(&mut me.seat, 1, 1);
     if found % 2 == 1 {
@@ -34,7 +34,7 @@ pub fn look(round: &SharedRound, me: &mut WorkSeat) -> Option<u32>
     requires seat { IsSeatOf round.now me.old }
     requires may { MayLook me.old }
     ensures stays { Stays me.old me.new }
-    ensures event { Looked me.old me.new result }
+    ensures event { IsLook me.old me.new result }
 {
     if me.committed >= round.turns {
         return None;
@@ -57,7 +57,7 @@ pub fn weigh(round: &SharedRound, dict: &Dict, me: &mut WorkSeat) -> bool
     requires dict { dict.now ≡ dict_of round.now }
     requires may { MayWeigh me.old }
     ensures stays { Stays me.old me.new }
-    ensures event { Weighed me.old me.new result }
+    ensures event { IsWeigh me.old me.new result }
 {
     let Some(PhaseCopy::Scan(place)) = me.phase else {
         unreachable!()
@@ -81,7 +81,7 @@ pub fn seat(round: &SharedRound, dict: &Dict, me: &mut WorkSeat) -> bool
     requires dict { dict.now ≡ dict_of round.now }
     requires may { MaySeat me.old }
     ensures stays { Stays me.old me.new }
-    ensures event { SeatTaken me.old me.new result }
+    ensures event { IsSeat me.old me.new result }
 {
     let Some(PhaseCopy::Ready(place)) = me.phase else {
         unreachable!()
@@ -103,7 +103,7 @@ pub fn seal(round: &SharedRound, dict: &Dict, me: &mut WorkSeat) -> u32
     requires dict { dict.now ≡ dict_of round.now }
     requires may { MaySeal me.old }
     ensures stays { Stays me.old me.new }
-    ensures event { Sealed me.old me.new result }
+    ensures event { IsSeal me.old me.new result }
 {
     let Some(phase) = me.phase else {
         unreachable!()
@@ -137,7 +137,7 @@ pub fn release(round: &SharedRound, me: &mut WorkSeat)
     requires seat { IsSeatOf round.now me.old }
     requires may { MayRelease me.old }
     ensures stays { Stays me.old me.new }
-    ensures event { Released me.old me.new }
+    ensures event { IsRelease me.old me.new }
 {
     let free_mark = 2 * me.committed as u64;
     round

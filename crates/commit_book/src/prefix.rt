@@ -5,7 +5,7 @@ ghost use Rattle.interleaving_core.specs.declared.parts.Phase.TheVariants.{Idle,
 ghost use Rattle.interleaving_core.specs.Core.{hold_at};
 ghost use Rattle.word_rule.specs.Rounds.{IsSeatOf, Stays, dict_of, knows};
 ghost use Rattle.commit_book.specs.Book.{MayTake, as_holder};
-ghost use Rattle.commit_book.specs.Prefix.{Settled, PrefixCommitted};
+ghost use Rattle.commit_book.specs.Prefix.{IsSettled, IsPrefixCommit};
 
 use crate::book::{look, release, seal, seat, take, weigh};
 use market::Dict;
@@ -20,7 +20,7 @@ pub fn commit_prefix(round: &SharedRound, dict: &Dict, me: &mut WorkSeat) -> Opt
     requires dict { dict.now ≡ dict_of round.now }
     requires may { MayTake me.old }
     ensures stays { Stays me.old me.new }
-    ensures event { PrefixCommitted me.old me.new result }
+    ensures event { IsPrefixCommit me.old me.new result }
 {
     if !take(round, me) {
         return None;
@@ -52,7 +52,7 @@ fn settle(round: &SharedRound, dict: &Dict, me: &mut WorkSeat, place: u32)
     requires dict { dict.now ≡ dict_of round.now }
     requires scan { (knows me.old).core.hold ≡ hold_at me.old.committed (Scan place) }
     ensures stays { Stays me.old me.new }
-    ensures settled { Settled me.old me.new }
+    ensures settled { IsSettled me.old me.new }
 {
     let places = dict.list(me.committed).len() as u32;
     for _entry in place..places {

@@ -223,7 +223,7 @@ fn commits(rt: &impl Abort, round: &SharedRound, dict: &Dict, me: &mut WorkSeat)
     commit_prefix(round, dict, me)
 }
 
-// Both seats are joined, which commit what is left, and the round is closed.
+// Joins both seats, whose commit finds nothing left, and closes the round.
 fn closed(
     alloc: Global,
     rt: &impl Abort,

@@ -3,7 +3,7 @@
 use Rattle.std.proofs.Common.{◌≡◌, ℕ, zero, suc, ◌+◌, ◌-◌, ◌/◌, ◌%◌, ◌<◌, ◌≤◌, Bool, true, false, List, [], ◌∷◌, length, map, take, drop, get_or, None, eqb, sym, refl, ap, subst, ◌∙◌, arith}
 use Rattle.atomic_table.specs.Table.{State, Seen, Final}
 use Rattle.std.proofs.lemmas.Option.{get_or_from_slice_get}
-use Rattle.std.proofs.lemmas.List.{get_or-drop}
+use Rattle.std.proofs.lemmas.List.{get_or-drop, get_or-take, length-drop, length-take-le}
 use Rattle.std.proofs.Math.ListN.{get_or-map}
 use mathlib.Core.Option.{some}
 use lib.ListN.{get_elem?}
@@ -100,22 +100,6 @@ ends_committed words d released count e is =
           omega arith;
     }
 
-get_take : (n : ℕ) (l : List ℕ) (k : ℕ) → k < n → get_or (take n l) k 0 ≡ get_or l k 0
-get_take zero l k h = absurd (omega arith)
-get_take (suc n) [] k h = refl
-get_take (suc n) (x ∷ xs) zero h = refl
-get_take (suc n) (x ∷ xs) (suc k) h = get_take n xs k (omega arith)
-
-length_take : (n : ℕ) (l : List ℕ) → n ≤ length l → length (take n l) ≡ n
-length_take zero l h = refl
-length_take (suc n) [] h = absurd (omega arith)
-length_take (suc n) (x ∷ xs) h = ap suc (length_take n xs (omega arith))
-
-length_drop : (n : ℕ) (l : List ℕ) → n ≤ length l → n + length (drop n l) ≡ length l
-length_drop zero l h = omega arith
-length_drop (suc n) [] h = absurd (omega arith)
-length_drop (suc n) (x ∷ xs) h = let e = length_drop n xs (omega arith) in omega arith
-
 length_map : (f : ℕ → ℕ) (l : List ℕ) → length (map f l) ≡ length l
 length_map f [] = refl
 length_map f (x ∷ xs) = ap suc (length_map f xs)
@@ -125,15 +109,15 @@ pub places_count : (words : List ℕ) (first count : ℕ) → AreCommitted words
     → length (shown_places words first count) ≡ count
 places_count words first count a =
     let wide = a.wide in
-    let rest = length_drop first words (omega arith) in
+    let rest = length-drop first words in
     length_map shown_place (take count (drop first words))
-    ∙ length_take count (drop first words) (omega arith)
+    ∙ length-take-le count (drop first words) (omega arith)
 
 pub place_shown : (words : List ℕ) (first count k : ℕ) → k < count
     → get_or (shown_places words first count) k 0 ≡ shown_place (get_or words (first + k) 0)
 place_shown words first count k inside =
     get_or-map shown_place (take count (drop first words)) k 0
-    ∙ ap shown_place (get_take count (drop first words) k inside ∙ get_or-drop first words k 0)
+    ∙ ap shown_place (get_or-take count (drop first words) k 0 inside ∙ get_or-drop first words k 0)
 
 -- each place shown is the choice of its turn
 pub ends_choices : (words : List ℕ) (d : Dictatorship) (released count : ℕ) → Ends words d released

@@ -2,21 +2,22 @@
 -- its words and views are a sound core state. The event is allowed by what the seat's own view says,
 -- so the state after it is sound; and the table after the step shows that state, since the step
 -- changes one word and one view, as the event does.
-use Rattle.std.proofs.Common.{◌≡◌, ℕ, zero, suc, ◌/◌, ◌<◌, ◌≤◌, ◌≢◌, true, List, [], ◌∷◌, length, set, get_or, Some, sym, refl, ap, inr, ⊎_elim, subst, ◌∙◌, arith}
+use Rattle.std.proofs.Common.{◌≡◌, ℕ, ◌/◌, ◌<◌, ◌≤◌, ◌≢◌, true, List, length, set, get_or, Some, sym, refl, ap, inr, ⊎_elim, subst, ◌∙◌, arith}
 use Rattle.std.specs.Prelude.{slice_get}
 use Rattle.atomic_table.specs.Table.{State}
 use Rattle.market.specs.Dictatorships.{Dictatorship}
 use Rattle.interleaving_core.specs.Core.{View, Core}
-use Rattle.interleaving_core.specs.Events.{Action, Allowed, after}
+use Rattle.interleaving_core.specs.Events.{Action, Allowed, after, view_after}
 use Rattle.interleaving_core.specs.Sound.{ViewFits, Sound}
 use Rattle.interleaving_core.proofs.Places.{at_set, sum_set}
 use Rattle.interleaving_core.proofs.Keeps as core
 use Rattle.word_rule.specs.Layout.{core_of}
 use Rattle.word_rule.specs.Views.{SeatKnows, with_core, core_views}
 use Rattle.word_rule.specs.Copies.{IsInRange}
-use Rattle.word_rule.specs.Rule.{IsLive, Belongs, IsSoundTable, share_of, table_core}
+use Rattle.word_rule.specs.Rule.{IsLive, Belongs, IsSoundTable, HasNotDrawn, share_of, table_core}
 use Rattle.word_rule.specs.declared.rule.RoundKey.{RoundKey}
 use Rattle.word_rule.proofs.CoreViews.{place, at_place, set_place}
+use Rattle.word_rule.proofs.Undrawn.{here_set, new_view, nobody_before, undrawn_before}
 
 -- the seat's number, share and round stay, and it stands for others only where it is done
 pub record IsSameSeat (x y : SeatKnows) : Type 0 where
@@ -49,12 +50,6 @@ fits_in_range d c count v within f =
       seated = λ h j full e. (f.hold _ e).phase.0.0;
       seated_place = λ h j full e. (f.hold _ e).phase.1;
     }
-
-here_set : {A : Type 0} (l : List A) (i : ℕ) (x y : A) → slice_get l i ≡ Some x
-    → slice_get (set l i y) i ≡ Some y
-here_set [] i x y e = absurd (cc (e))
-here_set (z ∷ zs) zero x y e = refl
-here_set (z ∷ zs) (suc i) x y e = here_set zs i x y e
 
 -- a live seat after one has changed is a live seat from before, with the same number and share
 pub record Was (l : List SeatKnows) (i : ℕ) (a : SeatKnows) : Type 0 where
@@ -125,8 +120,9 @@ module _ (key : RoundKey) where
       → IsLive s.views id x → IsSameSeat x y → length words ≡ length s.words
       → Sound d (core_of d words (core_views (set s.views id y)))
       → get_or s.words 1 0 / 2 ≤ get_or words 1 0 / 2 → y.released ≤ get_or words 1 0 / 2
+      → (HasNotDrawn y.core → HasNotDrawn x.core × (get_or words 0 0 ≡ get_or s.words 0 0))
       → IsSoundTable key (table_after s id y words)
-  sound_keeps s h id x y words at same long sound grows behind =
+  sound_keeps s h id x y words at same long sound grows behind drew =
       let b = h.each id x at in
       let share = same.share in
       record {
@@ -162,6 +158,9 @@ module _ (key : RoundKey) where
             let pn = p.number in
             let qn = q.number in
             omega arith;
+        undrawn = λ nobody.
+            let mine = drew (nobody id y (live_after s id x y at same)) in
+            mine.1 ∙ h.undrawn (nobody_before s.views id x y at mine.0 nobody);
       }
 
   -- the views of the core after the step
@@ -181,7 +180,13 @@ module _ (key : RoundKey) where
   event_keeps s h id x y words a at same may long is grows behind =
       let own = at_place s.views id x at in
       let leads = ap (core_of d words) (views_after s id x y at same) ∙ is in
+      let shown = new_view (core_views s.views) (place s.views id) x.core y.core
+      (view_after d (table_core key s) x.core a) own (ap (λ (c : Core). c.views) is) in
       sound_keeps s h id x y words at same long
       (subst (Sound d) (sym leads)
       (core.keeps d (table_core key s) (place s.views id) x.core a h.valid h.sound own may))
       grows behind
+      (λ nothing.
+      let before = undrawn_before d (table_core key s) (place s.views id) x.core a
+      (subst HasNotDrawn shown nothing) in
+      (before.0, ap (λ (c : Core). c.claim_number) is ∙ before.1))

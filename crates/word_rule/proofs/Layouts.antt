@@ -1,6 +1,6 @@
 -- How the core state that words show changes with one word, and how a word is read.
-use Rattle.std.proofs.Common.{◌≡◌, ℕ, zero, suc, ◌+◌, ◌*◌, ◌/◌, ◌%◌, ◌<◌, ◌≤◌, true, false, List, [], ◌∷◌, length, map, take, drop, set, get_or, eqb, eq-eqb, ne_eqb, refl, ap, ◌∙◌, arith, get_or-set_same, get_or-set_other}
-use Rattle.std.proofs.lemmas.List.{map-set, drop-set-lt, drop-set-add, get_or-drop, take-set-le}
+use Rattle.std.proofs.Common.{◌≡◌, ℕ, ◌+◌, ◌*◌, ◌/◌, ◌%◌, ◌<◌, ◌≤◌, true, false, List, length, map, take, drop, set, get_or, eqb, eq-eqb, ne_eqb, ap, ◌∙◌, arith, get_or-set_same, get_or-set_other}
+use Rattle.std.proofs.lemmas.List.{map-set, drop-set-lt, drop-set-add, get_or-drop, get_or-take, take-set-le}
 use Rattle.market.specs.Dictatorships.{Dictatorship}
 use Rattle.interleaving_core.specs.declared.parts.Cell.{Cell}
 use Rattle.interleaving_core.specs.declared.parts.Cell.TheVariants.{Posted}
@@ -15,19 +15,13 @@ cell_posted j =
     let h : (2 * j + 1) / 2 ≡ j = omega arith in
     λ k. cell_by (a k) (b k) (h k)
 
-get_take : (n : ℕ) (l : List ℕ) (p : ℕ) → p < n → get_or (take n l) p 0 ≡ get_or l p 0
-get_take zero l p h = absurd (omega arith)
-get_take (suc n) [] p h = refl
-get_take (suc n) (x ∷ xs) zero h = refl
-get_take (suc n) (x ∷ xs) (suc p) h = get_take n xs p (omega arith)
-
 module _ (d : Dictatorship) (words : List ℕ) (views : List View) where
   abbrev m : ℕ
   m = programme_count d
 
   -- a seat count is read from its word
   pub seat_word : (p : ℕ) → p < m → seats_of (core_of d words views) p ≡ get_or words (2 + p) 0
-  seat_word p h = get_take m (drop 2 words) p h ∙ get_or-drop 2 words p 0
+  seat_word p h = get_or-take m (drop 2 words) p 0 h ∙ get_or-drop 2 words p 0
 
   -- the word 0 is the claim number
   pub claim_word : (n : ℕ) → 2 ≤ length words

@@ -1,11 +1,13 @@
 pub mod CoreViews
 pub mod Layouts
 pub mod MarkWords
+pub mod Undrawn
 pub mod Keeps
 pub mod Claimant
 pub mod Holder
 pub mod Shares
 pub mod Openings
 pub mod Alone
+pub mod ShownOpenings
 pub mod Endings
 pub mod Seats

@@ -1,5 +1,5 @@
--- The opening words with one seat that stands for every worker are the opening state of the core,
--- and so they are with the seats that it is split into.
+-- The opening words with one seat that stands for every worker are the opening state of the core, which
+-- is sound; and the seats that it is split into stand for every worker.
 use Rattle.std.proofs.Common.{◌≡◌, ℕ, zero, suc, ◌+◌, ◌<◌, ◌≤◌, false, List, [], ◌∷◌, ◌++◌, length, map, take, drop, replicate, Some, sym, refl, ap, inl, subst, ◌∙◌, arith, append-nil, length-append}
 use Rattle.std.specs.Prelude.{slice_get}
 use Rattle.std.proofs.Math.ListN.{length-replicate}
@@ -84,6 +84,7 @@ opens_with_first key valid some few =
           absurd (other (first x i a ai.there ∙ sym (first x j c cj.there)));
       last = λ i j a c ai cj other.
           absurd (other (first x i a ai.there ∙ sym (first x j c cj.there)));
+      undrawn = λ nobody. refl;
     }
   where
     only : (x : SeatKnows) (i : ℕ) (y : SeatKnows) → slice_get (x ∷ []) i ≡ Some y → x ≡ y
@@ -102,18 +103,7 @@ table_opens key words is valid some few =
     subst (λ (l : List ℕ). IsSoundTable key (table_opening l [] (first_of key))) (sym is)
     (opens_with_first key valid some few)
 
--- seats at the opening give the views of the opening
-pub new_views : (seats : List WorkSeat)
-    → ((k : ℕ) (me : WorkSeat) → slice_get seats k ≡ Some me
-    → ((knows me).core ≡ fresh_view) × ((knows me).share ≡ 1))
-    → core_views (map knows seats) ≡ replicate (length seats) fresh_view
-new_views [] new = refl
-new_views (x ∷ xs) new =
-    let a = new 0 x refl in
-    (λ i. shared_views (a.1 i) (a.0 i) ++ core_views (map knows xs))
-    ∙ ap (λ l. fresh_view ∷ l) (new_views xs (λ k me e. new (suc k) me e))
-
--- and stand for as many workers as they are
+-- seats at the opening stand for as many workers as they are
 pub new_shares : (seats : List WorkSeat)
     → ((k : ℕ) (me : WorkSeat) → slice_get seats k ≡ Some me → (knows me).share ≡ 1)
     → shares_of seats ≡ length seats
@@ -123,16 +113,7 @@ new_shares (x ∷ xs) new =
     let sum = sum_by-cons (λ me. share_of (knows me)) x xs in
     omega (arith, new_shares xs (λ k me e. new (suc k) me e))
 
--- so words and seats together are the opening state
-pub opens : (round : SharedRound) (d : Dictatorship) (workers : ℕ) (seats : List WorkSeat)
-    → IsValidDictatorship d → AllNew round seats → length seats ≡ workers
-    → core_of d (first_words d) (core_views (map knows seats)) ≡ opening d workers
-opens round d workers seats valid new count =
-    words_open d workers (core_views (map knows seats)) valid
-    (new_views seats (λ k me e. let a = new k me e in (a.fresh, a.share))
-    ∙ ap (λ (n : ℕ). replicate n fresh_view) count)
-
--- and the seats stand for all workers
+-- so they stand for all workers
 pub opens_shares : (round : SharedRound) (workers : ℕ) (seats : List WorkSeat) → AllNew round seats
     → length seats ≡ workers → shares_of seats ≡ workers
 opens_shares round workers seats new count = new_shares seats (λ k me e. (new k me e).share) ∙ count

@@ -11,13 +11,14 @@ use Rattle.interleaving_core.specs.declared.parts.Phase.{Phase}
 use Rattle.interleaving_core.specs.declared.parts.Phase.TheVariants.{Idle, Halted, Scan, Ready, Seated}
 use Rattle.interleaving_core.specs.Core.{View, Core, fresh_view}
 use Rattle.interleaving_core.specs.Sound.{bit, some_bit, turn_bit, holder_seat_bit, hold_bit, done_bit, claim_bit, seat_bit, PhaseFits, ViewFits, Sound}
-use Rattle.interleaving_core.proofs.Places.{at_set, at_snoc, sum_set}
+use Rattle.interleaving_core.proofs.Places.{at_set, at_snoc, at_longer, sum_set}
 use Rattle.interleaving_core.proofs.OwnTurns.{own_stays, own_nil}
 use Rattle.word_rule.specs.Views.{SeatKnows, ended_view, other_view, shared_views, core_views, kept_part, new_part, joined, spent_seat}
 use Rattle.word_rule.specs.Rule.{IsLive, Belongs, IsSoundTable, share_of, table_core}
 use Rattle.word_rule.specs.declared.rule.RoundKey.{RoundKey}
 use Rattle.word_rule.proofs.CoreViews.{there, live_there, other_there, Whose, whose, weight, sum_views, shared_sum, even_sum}
 use Rattle.word_rule.proofs.Keeps.{seat_fits}
+use Rattle.word_rule.proofs.Undrawn.{here_set, still_there, nobody_before}
 
 module _ (d : Dictatorship) (c : Core) (vs : List View) where
   abbrev regrouped : Core
@@ -283,6 +284,15 @@ module _ (key : RoundKey) where
             (numbered j c cj))
             t)
             (numbered i a ai);
+        undrawn = λ nobody.
+            h.undrawn
+            (nobody_before s.views id x left mine
+            (ap (λ (v : View). v.own) fresh, not_done)
+            (λ i y is.
+            nobody i y record {
+              there = at_longer (set s.views id left) (right ∷ []) i y is.there;
+              live = is.live;
+            }));
       }
 
 -- a seat that may be joined: it is done, and neither claims nor holds
@@ -438,4 +448,11 @@ module _ (key : RoundKey) where
             (λ (u : (j ≢ id) × IsLive s.views j c). h.last i j a c t.1 u.1 differ wide unfinished)
             (origin j c cj))
             (origin i a ai);
+        -- the seat joined into is done
+        undrawn = λ nobody.
+            let at_both : slice_get vs id ≡ Some both =
+            still_there mid other id both spent_seat (λ q. apart (sym q))
+            (here_set s.views id x both mine.there) in
+            let done = (nobody id both record { there = at_both; live = idle_both.live }).1 in
+            absurd (let is_done : both.core.done ≡ true = o.done in cc (done, is_done));
       }

@@ -101,20 +101,26 @@ pub record ReleaseTold (m : SeatMe) (stored : ℕ) (n : SeatMe) : Type 0 where
   pub seat : n ≡ (released_with m.0 (stored / 2), m.1)
   pub range : IsInRange n.0.dict n.0.core
 
+-- the same in the form that the table takes
 abbrev pub take_tells : Tells
 take_tells st m found n = TakeTold m found n
 
+-- the same in the form that the table takes
 abbrev pub look_tells : Tells
 look_tells st m found n = LookTold m found n
 
+-- the same in the form that the table takes
 abbrev pub weigh_tells : Tells
 weigh_tells st m found n = WeighTold m found n
 
+-- the same in the form that the table takes
 abbrev pub seat_tells : Tells
 seat_tells st m found n = SeatTold m found n
 
+-- the same in the form that the table takes
 abbrev pub seal_tells : Tells
 seal_tells st m stored n = SealTold m n
 
+-- the same in the form that the table takes
 abbrev pub release_tells : Tells
 release_tells st m stored n = ReleaseTold m stored n

@@ -3,9 +3,9 @@ use Rattle.std.specs.Prelude.{◌≡◌, ℕ, true, List, slice_get, Some, None}
 use Rattle.std.specs.List.{sum_by}
 use Rattle.atomic_table.specs.Table.{State}
 use Rattle.market.specs.Dictatorships.{Dictatorship}
-use Rattle.interleaving_core.specs.Core.{View, fresh_view}
+use Rattle.interleaving_core.specs.Core.{View, fresh_view, opening}
 use Rattle.word_rule.specs.Views.{SeatKnows, core_views}
-use Rattle.word_rule.specs.Rule.{IsLive, IsSoundTable, share_of}
+use Rattle.word_rule.specs.Rule.{IsLive, IsSoundTable, share_of, table_core}
 use Rattle.word_rule.specs.declared.rule.RoundKey.{RoundKey}
 use Rattle.word_rule.specs.declared.seat.SharedRound.{SharedRound}
 use Rattle.word_rule.specs.declared.seat.WorkSeat.{WorkSeat}
@@ -70,3 +70,9 @@ abbrev pub IsAlone : RoundKey → SeatKnows → Type 0
 IsAlone key x = (s : State ℕ SeatKnows) (i : ℕ) → IsSoundTable key s → IsLive s.views i x
     → (j : ℕ) (v : View) → slice_get (core_views s.views) j ≡ Some v
     → (v.claim ≡ None) × (v.hold ≡ None)
+
+-- whatever the table is while every view is still that of the opening, it shows the core's opening state
+abbrev pub ShowsOpening : RoundKey → Type 0
+ShowsOpening key = (s : State ℕ SeatKnows) → IsSoundTable key s
+    → ((i : ℕ) (x : SeatKnows) → IsLive s.views i x → x.core ≡ fresh_view)
+    → table_core key s ≡ opening key.dict.value key.workers

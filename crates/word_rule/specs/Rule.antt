@@ -1,9 +1,9 @@
 -- The one rule of a round's table.
-use Rattle.std.specs.Prelude.{◌≡◌, ◌≢◌, ◌⊎◌, ℕ, ◌/◌, ◌<◌, ◌≤◌, true, false, List, length, slice_get, slice_index, Some}
+use Rattle.std.specs.Prelude.{◌≡◌, ◌≢◌, ◌⊎◌, ℕ, ◌/◌, ◌<◌, ◌≤◌, true, false, List, [], length, slice_get, slice_index, Some}
 use Rattle.std.specs.List.{sum_by}
 use Rattle.atomic_table.specs.Table.{State}
 use Rattle.market.specs.Dictatorships.{IsValidDictatorship}
-use Rattle.interleaving_core.specs.Core.{Core, fresh_view}
+use Rattle.interleaving_core.specs.Core.{View, Core, fresh_view}
 use Rattle.interleaving_core.specs.Sound.{Sound}
 use Rattle.word_rule.specs.Layout.{core_of, word_count}
 use Rattle.word_rule.specs.Views.{SeatKnows, core_views, first_seat}
@@ -30,6 +30,10 @@ pub record IsLive (seats : List SeatKnows) (i : ℕ) (x : SeatKnows) : Type 0 wh
   pub there : slice_get seats i ≡ Some x
   pub live : 0 < x.share
 
+-- the view of a worker that has drawn no number
+abbrev pub HasNotDrawn : View → Type 0
+HasNotDrawn v = (v.own ≡ []) × (v.done ≡ false)
+
 -- words and views together are one sound core state of the round's dictatorship
 pub record IsSoundTable (key : RoundKey) (s : State ℕ SeatKnows) : Type 0 where
   pub valid : IsValidDictatorship key.dict.value
@@ -45,6 +49,9 @@ pub record IsSoundTable (key : RoundKey) (s : State ℕ SeatKnows) : Type 0 wher
   -- a seat that is still to be split has the greatest number
   pub last : (i j : ℕ) (x y : SeatKnows) → IsLive s.views i x → IsLive s.views j y → i ≢ j
       → 1 < x.share → x.core.done ≡ false → y.number < x.number
+  -- while nobody has drawn a number, the claim number is 0
+  pub undrawn : ((i : ℕ) (x : SeatKnows) → IsLive s.views i x → HasNotDrawn x.core)
+      → slice_index s.words 0 ≡ 0
 
 -- what the first seat of a round knows
 abbrev pub first_of : RoundKey → SeatKnows

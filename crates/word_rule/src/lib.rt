@@ -7,7 +7,7 @@
 //! holds between any two steps, in whatever order the workers make them.
 #![tactic(auto)]
 
-// The rule, what a table is made with, and the kinds of atomic step.
+// The rule, what a table is made with, and the kinds of atomic step of a claimant.
 mod rule;
 // The table of a round, and a worker's seat.
 mod seat;

@@ -1,10 +1,10 @@
 // The opening of a round, and the joining of its seats.
 
-ghost use Rattle.std.specs.Prelude.{◌≡◌, ℕ, ◌+◌, ◌<◌, ◌≤◌, ◌++◌, IfOk, [], length, replicate, map, vec_len, vec_capacity};
-ghost use Rattle.interleaving_core.specs.Core.{fresh_view, opening};
-ghost use Rattle.word_rule.specs.Layout.{first_words, core_of};
-ghost use Rattle.word_rule.specs.Views.{first_seat, core_views};
-ghost use Rattle.word_rule.specs.Rounds.{knows, key_of, dict_of, IsNew, AllNew, IsOver, AllOver, IsAlone, shares_of};
+ghost use Rattle.std.specs.Prelude.{◌≡◌, ℕ, ◌+◌, ◌<◌, ◌≤◌, ◌++◌, IfOk, [], length, replicate, vec_len, vec_capacity};
+ghost use Rattle.interleaving_core.specs.Core.{fresh_view};
+ghost use Rattle.word_rule.specs.Layout.{first_words};
+ghost use Rattle.word_rule.specs.Views.{first_seat};
+ghost use Rattle.word_rule.specs.Rounds.{knows, key_of, dict_of, IsNew, AllNew, IsOver, AllOver, IsAlone, ShowsOpening, shares_of};
 
 use crate::rule::{RoundKey, RoundSeat, RoundTable, ShareMove};
 use crate::seat::{SharedRound, WorkSeat};
@@ -13,7 +13,8 @@ use std::alloc::{AllocError, Global};
 use std::snapshot::Snapshot;
 
 /// The words of a round, and one seat for each of its 1 to 64 workers, numbered from 0. Words and
-/// seats together are the opening state of the core. All memory of the round is taken here.
+/// seats together are the opening state of the core: whatever the table is while every view is still
+/// that of the opening, it shows that state. All memory of the round is taken here.
 pub fn open_round(
     alloc: Global,
     dict: &Dict,
@@ -25,9 +26,7 @@ pub fn open_round(
     ensures seats { IfOk result (λ r. length r.1.items ≡ workers) }
     ensures new { IfOk result (λ r. AllNew r.0 r.1.items) }
     ensures shares { IfOk result (λ r. shares_of r.1.items ≡ workers) }
-    ensures opens { IfOk result (λ r.
-        core_of dict.now (first_words dict.now) (core_views (map knows r.1.items))
-        ≡ opening dict.now workers) }
+    ensures opens { IfOk result (λ r. ShowsOpening (key_of r.0)) }
 {
     let turns = dict.turns();
     let programmes = dict.programmes();

@@ -1,4 +1,4 @@
-// The rule of a round's table, what a table is made with, and the kinds of atomic step.
+// The rule of a round's table, what a table is made with, and the kinds of atomic step of a claimant.
 
 use atomic_table::{Join, Play, Seat, Split, Table, TableRule};
 use market::Dict;

@@ -1,8 +1,5 @@
 // Rounds are opened for several numbers of workers.
 
-ghost use Rattle.std.specs.Prelude.{◌≡◌, ◌∷◌, [], IfOk};
-ghost use Rattle.market.specs.Examples.{two_turns};
-
 use crate::{SharedRound, WorkSeat, open_round};
 use market::{Dict, List};
 use std::alloc::{AllocError, Global};
@@ -17,29 +14,13 @@ fn moves_to_workers(round: &SharedRound, seat: &WorkSeat) {
     crosses_threads(seat);
 }
 
-// A list of these numbers.
-fn list(alloc: Global, items: &[u32]) -> Result<List, AllocError>
-    ensures { IfOk result (λ l. l ≡ items.now) }
-{
-    Ok(List::from_vec(Vec::from_slice(alloc, items)?))
-}
-
-// Two lists of numbers.
-fn two_lists(alloc: Global, first: &[u32], second: &[u32]) -> Result<Vec<List>, AllocError>
-    ensures { IfOk result (λ lists. lists.items ≡ first.now ∷ second.now ∷ []) }
-{
-    let first = list(alloc, first)?;
-    let second = list(alloc, second)?;
-    Ok(vec![in alloc; first, second]?)
-}
-
-// Two turns over two programmes with a seat each.
-fn two_turns(alloc: Global) -> Result<Dict, AllocError>
-    ensures { IfOk result (λ d. d ≡ two_turns) }
-{
-    let quota = vec![in alloc; 1, 1]?;
-    let fill = vec![in alloc; 0, 0]?;
-    let lists = two_lists(alloc, &[0], &[0, 1])?;
+// Three programmes of which some seats are taken, and two turns.
+fn some_seats_taken(alloc: Global) -> Result<Dict, AllocError> {
+    let quota = vec![in alloc; 2, 1, 3]?;
+    let fill = vec![in alloc; 1, 0, 3]?;
+    let first = List::from_vec(vec![in alloc; 0, 1]?);
+    let second = List::from_vec(vec![in alloc; 2]?);
+    let lists = vec![in alloc; first, second]?;
     Ok(Dict::from_parts(quota, fill, lists))
 }
 
@@ -56,7 +37,7 @@ fn words_of(alloc: Global, round: &SharedRound) -> Result<Vec<u64>, AllocError> 
 #[test]
 fn a_round_opens_for_each_number_of_workers(rt: HostRuntime) -> Result<(), Fail> {
     let alloc = rt.alloc();
-    let dict = two_turns(alloc)?;
+    let dict = some_seats_taken(alloc)?;
     for workers in [1, 2, 64] {
         let (round, seats) = open_round(alloc, &dict, workers)?;
         assert_eq!(rt; seats.len(), workers as usize);
@@ -64,7 +45,11 @@ fn a_round_opens_for_each_number_of_workers(rt: HostRuntime) -> Result<(), Fail>
             assert_eq!(rt; seat.worker(), number);
             moves_to_workers(&round, seat);
         }
-        assert_eq!(rt; words_of(alloc, &round)?.as_slice(), &[0u64; 6][..]);
+        // nothing is drawn, the mark is free, the seats taken are counted, and both cells are empty
+        assert_eq!(rt;
+            words_of(alloc, &round)?.as_slice(),
+            &[0, 0, 1, 0, 3, 0, 0][..]
+        );
     }
     Ok(())
 }

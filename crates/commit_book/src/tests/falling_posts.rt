@@ -11,15 +11,15 @@ use std::process::Abort;
 use std::test::Fail;
 use word_rule::{SharedRound, Words, WorkSeat, close_round, join_all, open_round};
 
-const QUOTAS: [u32; 7] = [30, 20, 10, 15, 15, 20, 10];
+const QUOTAS: [u32; 7] = [28, 10, 6, 20, 4, 20, 3];
 
-// 128 turns over seven programmes, of which each turn lists three. Some of the lists get full.
+// 128 turns over seven programmes, of which each turn lists three. All programmes get full.
 fn many_turns(alloc: Global) -> Result<Dict, AllocError> {
     let quota = Vec::from_slice(alloc, &QUOTAS)?;
     let fill = vec![in alloc; 0, 0, 0, 0, 0, 0, 0]?;
     let mut lists = Vec::with_capacity(alloc, 128)?;
     for turn in 0..128 {
-        lists.push(list(alloc, &[turn % 3, turn % 5, turn % 7])?)?;
+        lists.push(list(alloc, &[turn % 3, 3 + turn % 2, 5 + turn / 2 % 2])?)?;
     }
     Ok(Dict::from_parts(quota, fill, lists))
 }

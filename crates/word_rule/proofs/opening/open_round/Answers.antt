@@ -1,7 +1,8 @@
 use Rattle.std.proofs.Common.{ap, sym, ◌∙◌, subst}
 use Rattle.market.specs.Dictatorships.{IsValidDictatorship}
 use Rattle.word_rule.specs.Layout.{first_words}
-use Rattle.word_rule.proofs.Openings.{table_opens, opens, opens_shares}
+use Rattle.word_rule.proofs.Openings.{table_opens, opens_shares}
+use Rattle.word_rule.proofs.ShownOpenings.{shows_opening}
 use Rattle.word_rule.proofs.opening.open_round.Goals as goal
 
 pub of_words-requires : goal.of_words-requires
@@ -15,5 +16,4 @@ pub returns-clause-shares : goal.returns-clause-shares
 returns-clause-shares c = opens_shares _ _ _ c.split_all.ensures.new c.split_all.ensures.count
 
 pub returns-clause-opens : goal.returns-clause-opens
-returns-clause-opens c =
-    opens _ _ _ _ c.turns-turns.ensures.valid c.split_all.ensures.new c.split_all.ensures.count
+returns-clause-opens c = shows_opening _
