@@ -1,10 +1,8 @@
 -- A round that ends with a seat that has every share and does not hold the mark: the mark is free, so its
 -- number is the true one, and the cells before it show the choices.
-use Rattle.std.proofs.Common.{◌≡◌, ℕ, zero, suc, ◌+◌, ◌-◌, ◌/◌, ◌%◌, ◌<◌, ◌≤◌, Bool, true, false, List, [], ◌∷◌, length, map, take, drop, get_or, None, eqb, sym, refl, ap, subst, ◌∙◌, arith}
+use Rattle.std.proofs.Common.{◌≡◌, ℕ, zero, suc, ◌+◌, ◌-◌, ◌/◌, ◌%◌, ◌<◌, ◌≤◌, Bool, true, false, List, length, get_or, None, eqb, sym, refl, ap, subst, ◌∙◌, arith}
 use Rattle.atomic_table.specs.Table.{State, Seen, Final}
 use Rattle.std.proofs.lemmas.Option.{get_or_from_slice_get}
-use Rattle.std.proofs.lemmas.List.{get_or-drop, get_or-take, length-drop, length-take-le}
-use Rattle.std.proofs.Math.ListN.{get_or-map}
 use mathlib.Core.Option.{some}
 use lib.ListN.{get_elem?}
 use Rattle.market.specs.Dictatorships.{Dictatorship, IsValidDictatorship, has_seat, first_open, chosen, choice}
@@ -14,7 +12,7 @@ use Rattle.interleaving_core.specs.Core.{turn_count}
 use Rattle.word_rule.specs.Layout.{cell_of, cell_by, programme_count, word_count}
 use Rattle.word_rule.specs.Views.{SeatKnows, core_views}
 use Rattle.word_rule.specs.Rule.{IsLive, IsSoundTable}
-use Rattle.word_rule.specs.Closing.{shown_place, shown_places, AreCommitted}
+use Rattle.word_rule.specs.Closing.{shown_place, AreCommitted}
 use Rattle.word_rule.specs.declared.rule.RoundKey.{RoundKey}
 use Rattle.word_rule.proofs.CoreViews.{there}
 use Rattle.word_rule.proofs.MarkWords.{cell_read}
@@ -85,58 +83,27 @@ choice_small d k valid inside = place-small d k (has_seat d (chosen d k)) valid 
 
 -- so the cells before the mark's number are committed, each at its choice
 pub ends_committed : (words : List ℕ) (d : Dictatorship) (released count : ℕ) → Ends words d released
-    → get_or words 1 0 / 2 ≡ count → AreCommitted words (2 + programme_count d) count
+    → get_or words 1 0 / 2 ≡ count → AreCommitted d words (2 + programme_count d) count
 ends_committed words d released count e is =
     let wide = e.wide in
     let within = e.within in
     record {
+      valid = e.valid;
+      within = omega arith;
       wide = omega arith;
       least = λ k l. (committed_word _ (choice d k) (e.cells k (omega arith))).0;
-      most = λ k l.
-          let inside : k < get_or words 1 0 / 2 = omega arith in
-          let place : shown_place (get_or words (2 + programme_count d + k) 0) ≡ choice d k =
-          (committed_word _ (choice d k) (e.cells k inside)).1 in
-          let small = choice_small d k e.valid (omega arith) in
-          omega arith;
+      choices = λ k l. (committed_word _ (choice d k) (e.cells k (omega arith))).1;
     }
 
-length_map : (f : ℕ → ℕ) (l : List ℕ) → length (map f l) ≡ length l
-length_map f [] = refl
-length_map f (x ∷ xs) = ap suc (length_map f xs)
-
--- how many places are shown, and which
-pub places_count : (words : List ℕ) (first count : ℕ) → AreCommitted words first count
-    → length (shown_places words first count) ≡ count
-places_count words first count a =
-    let wide = a.wide in
-    let rest = length-drop first words in
-    length_map shown_place (take count (drop first words))
-    ∙ length-take-le count (drop first words) (omega arith)
-
-pub place_shown : (words : List ℕ) (first count k : ℕ) → k < count
-    → get_or (shown_places words first count) k 0 ≡ shown_place (get_or words (first + k) 0)
-place_shown words first count k inside =
-    get_or-map shown_place (take count (drop first words)) k 0
-    ∙ ap shown_place (get_or-take count (drop first words) k 0 inside ∙ get_or-drop first words k 0)
-
--- each place shown is the choice of its turn
-pub ends_choices : (words : List ℕ) (d : Dictatorship) (released count : ℕ) → Ends words d released
-    → get_or words 1 0 / 2 ≡ count → (k : ℕ) → k < count
-    → get_or (shown_places words (2 + programme_count d) count) k 0 ≡ choice d k
-ends_choices words d released count e is k l =
-    place_shown words (2 + programme_count d) count k l
-    ∙ (committed_word _ (choice d k) (e.cells k (omega arith))).1
-
--- a word that shows a committed cell
-pub cell_shown : (words : List ℕ) (first count k i word : ℕ) → AreCommitted words first count → k < count
-    → i ≡ first + k → get_elem? words i ≡ some word
-    → (2 ≤ word) × (word / 2 - 1 ≤ 48) × (word / 2 - 1 ≡ get_or (shown_places words first count) k 0)
-cell_shown words first count k i word a inside is at =
+-- a word that shows a committed cell shows its turn's choice
+pub cell_shown : (d : Dictatorship) (words : List ℕ) (first count k i word : ℕ)
+    → AreCommitted d words first count → k < count → i ≡ first + k → get_elem? words i ≡ some word
+    → (2 ≤ word) × (word / 2 - 1 ≤ 48) × (word / 2 - 1 ≡ choice d k)
+cell_shown d words first count k i word a inside is at =
     let found : get_or words (first + k) 0 ≡ word =
     ap (λ (z : ℕ). get_or words z 0) (sym is) ∙ word_at words i word at in
-    let least = a.least k inside in
-    let most : shown_place (get_or words (first + k) 0) ≤ 48 = a.most k inside in (
-      subst (λ (z : ℕ). 2 ≤ z) found least,
-      subst (λ (z : ℕ). shown_place z ≤ 48) found most,
-      ap shown_place (sym found) ∙ sym (place_shown words first count k inside),
-    )
+    let least : 2 ≤ word = subst (λ (z : ℕ). 2 ≤ z) found (a.least k inside) in
+    let place : word / 2 - 1 ≡ choice d k = ap shown_place (sym found) ∙ a.choices k inside in
+    let within = a.within in
+    let small = choice_small d k a.valid (omega arith) in
+    (least, omega arith, place)

@@ -1,6 +1,6 @@
 // The end of a round: its words, and the choices that they show.
 
-ghost use Rattle.std.specs.Prelude.{◌≡◌, ℕ, ◌<◌, ◌≤◌, length, slice_index, None};
+ghost use Rattle.std.specs.Prelude.{◌≡◌, ◌<◌, ◌≤◌, None};
 ghost use Rattle.market.specs.Dictatorships.{choice};
 ghost use Rattle.interleaving_core.specs.Core.{turn_count};
 ghost use Rattle.word_rule.specs.Rounds.{IsSeatOf, knows, key_of, dict_of};
@@ -9,43 +9,47 @@ use crate::seat::{SharedRound, WorkSeat};
 use atomic_table::Closed;
 use std::alloc::Global;
 use std::marker::Model;
+use std::snapshot::Snapshot;
 
-/// The words of a round that is over. Contracts see them as the choices of the committed turns, in the
-/// order of turns: each is a place in the turn's list, whose length means none. Only `close_round` makes
-/// a value of this type.
+/// The words of a round that is over. Contracts see them as the round's dictatorship and the number of
+/// its committed turns, which are the first ones. Only `close_round` makes a value of this type.
 pub struct Words {
     closed: Closed<u8, Global>,
     cells_from: u32,
     committed: u32,
+    // The round as clauses see it: it takes no bytes.
+    round: Snapshot<SharedRound>,
 }
 
 impl Model for Words {
-    ghost use Rattle.std.specs.Prelude.{◌≡◌, ℕ, List, length};
+    ghost use Rattle.std.specs.Prelude.{◌≡◌, length};
     ghost use Rattle.std.specs.Slots.{slots_items, slots_len, IsFull};
-    ghost use Rattle.word_rule.specs.Closing.{shown_places, AreCommitted};
+    ghost use Rattle.word_rule.specs.Rounds.{dict_of};
+    ghost use Rattle.word_rule.specs.Closing.{RoundEnd, AreCommitted};
 
-    ghost Value = { List ℕ };
+    ghost Value = { RoundEnd };
 
-    ghost view = { λ w. shown_places (slots_items w.closed.words) w.cells_from w.committed };
+    ghost view = { λ w. record { dict = dict_of w.round.value; committed = w.committed } };
 
     ghost invariant = { λ w. IsFull w.closed.words
         × (length (slots_items w.closed.words) ≡ slots_len w.closed.words)
         × (slots_len w.closed.slots ≡ 0)
-        × AreCommitted (slots_items w.closed.words) w.cells_from w.committed };
+        × AreCommitted (dict_of w.round.value) (slots_items w.closed.words) w.cells_from w.committed };
 }
 
 impl Words {
-    /// The number of committed turns.
+    /// The number of committed turns, at most all turns.
     pub fn committed(&self) -> u32
-        ensures { result ≡ length self.now }
+        ensures count { result ≡ self.now.committed }
+        ensures within { self.now.committed ≤ turn_count self.now.dict }
     {
         self.committed
     }
 
-    /// The choice of a committed turn: a place in its list, whose length means none.
+    /// The dictatorship's choice of a committed turn: a place in its list, whose length means none.
     pub fn choice(&self, turn: u32) -> u32
-        requires { turn < length self.now }
-        ensures { result ≡ slice_index self.now turn }
+        requires { turn < self.now.committed }
+        ensures { result ≡ choice self.now.dict turn }
     {
         let word = self.closed.word(self.cells_from as usize + turn as usize);
         (word / 2 - 1) as u32
@@ -58,22 +62,23 @@ impl Drop for Words {
             closed,
             cells_from: _,
             committed: _,
+            round: _,
         } = self;
         closed.free();
     }
 }
 
-/// Ends a round, by a seat that has every share and does not hold the mark. Each committed turn has its
-/// choice by the round's dictatorship, and at least as many turns are committed as the seat's last release
-/// wrote. It takes no memory.
+/// Ends a round, by a seat that has every share and does not hold the mark. At least as many turns are
+/// committed as the seat's last release wrote. It takes no memory.
 pub fn close_round(round: SharedRound, me: WorkSeat) -> Words
     requires seat { IsSeatOf round me }
     requires all { (knows me).share ≡ (key_of round).workers }
     requires free { (knows me).core.hold ≡ None }
-    ensures choices { (k : ℕ) → k < length result → slice_index result k ≡ choice (dict_of round) k }
-    ensures released { (knows me).released ≤ length result }
-    ensures within { length result ≤ turn_count (dict_of round) }
+    ensures dict { result.dict ≡ dict_of round }
+    ensures released { (knows me).released ≤ result.committed }
+    ensures within { result.committed ≤ turn_count (dict_of round) }
 {
+    let ended = Snapshot::of(&round);
     let SharedRound {
         table,
         turns: _,
@@ -92,5 +97,6 @@ pub fn close_round(round: SharedRound, me: WorkSeat) -> Words
         closed,
         cells_from: 2 + programmes,
         committed,
+        round: ended,
     }
 }
