@@ -1,7 +1,7 @@
 -- Three held files without a fault say their tables, so that the outcome is the text of their
 -- placement; a whole run
 -- has written it.
-use Rattle.std.proofs.Common.{◌≡◌, ℕ, ◌^◌, ◌≤◌, List, [], refl, sym, ap, ◌∙◌, subst, append-nil, inl, inr, Option, Some, None, Ok}
+use Rattle.std.proofs.Common.{◌≡◌, ℕ, ◌^◌, ◌≤◌, List, refl, ap, ◌∙◌, subst, inl, inr, Option, Some, None, Ok}
 use Rattle.std.specs.Prelude.{length}
 use Rattle.place_base.specs.declared.fault.FileFault as fault
 use Rattle.place_base.specs.declared.fault.FileKind.{FileKind}
@@ -12,10 +12,11 @@ use Rattle.candidate_table.specs.Table.{numbers_of}
 use Rattle.place_run.specs.Judged.{judged, fault_or, programmes_said, candidates_said, ranks_said}
 use Rattle.place_run.specs.Outcome.{Outcome, done, refusal, outcome, outcome_of, place_outcome, word_at}
 use Rattle.place_run.specs.Printed.{AreHeld, PlacesWhole}
-use Rattle.place_run.specs.Runs.{IsRun, IsWholeRun, KeepsWritten}
+use Rattle.place_run.specs.Runs.{IsRun, IsWholeRun, Untouched}
 use Rattle.place_run.specs.ThreeFiles.{ThreeFiles, HasNoFault, programmes_in, codes_in, candidates_in, numbers_in, ranks_in, problem_of, placement_of}
 use Rattle.place_run.specs.declared.status.Status.{Status}
 use Rattle.place_run.specs.declared.status.Status.TheVariants.{Done, Words, FileFault, ReadFault, WriteFault, Memory}
+use Rattle.place_run.proofs.Endings.{appended-nothing}
 use Rattle.place_run.proofs.Judging.{judged-short}
 
 says : {T : Type 0} (kind : FileKind) (found : Option fault.FileFault) (table : T) (bytes : List ℕ)
@@ -51,13 +52,6 @@ placed-outcome files p c r three held faultless =
     (rw held.candidates (rw (says-candidates three faultless)
     (rw held.ranks (rw (says-ranks three faultless))))))
 
--- nothing was appended where what was written is the same
-appended-nothing : (old new : Option (List ℕ)) → new ≡ old → Appended old new []
-appended-nothing None new same = tt
-appended-nothing (Some xs) None same = cc same
-appended-nothing (Some xs) (Some ys) same =
-    let e : ys ≡ xs = cc same in e ∙ sym (append-nil xs)
-
 -- an outcome that is this refusal has its status, and no text
 whole-refusal : (o : Option Outcome) (status : Status) (old new : Option (List ℕ)) (said : Outcome)
     → o ≡ Some (refusal status) → new ≡ old → o ≡ Some said
@@ -75,7 +69,7 @@ whole-done o text old new said is wrote given =
 
 pub whole-run : (files : Option Files) (outcome : Files → Option Outcome) (status : Status)
     (old new : Option (List ℕ))
-    → IsRun files outcome status old new → KeepsWritten status old new → (status ≡ ReadFault → ⊥)
+    → IsRun files outcome status old new → Untouched status old new → (status ≡ ReadFault → ⊥)
     → (status ≡ WriteFault → ⊥)
     → IsWholeRun files outcome status old new
 whole-run None outcome status old new run kept no_read no_write = tt

@@ -1,4 +1,5 @@
 pub mod Completeness
+pub mod Endings
 pub mod Headline
 pub mod Judging
 pub mod LineTexts

@@ -40,14 +40,14 @@ IsWholeRun (Some files) outcome status old new =
 abbrev pub StaysInFront : Option (List ℕ) → Option (List ℕ) → Type 0
 StaysInFront old new = (bytes : List ℕ) × Appended old new bytes
 
--- nothing was written where something was refused, and what was written before stays in front
-abbrev pub KeepsWritten : Status → Option (List ℕ) → Option (List ℕ) → Type 0
-KeepsWritten Done old new = StaysInFront old new
-KeepsWritten WriteFault old new = StaysInFront old new
-KeepsWritten (Words _) old new = new ≡ old
-KeepsWritten (FileFault _) old new = new ≡ old
-KeepsWritten ReadFault old new = new ≡ old
-KeepsWritten Memory old new = new ≡ old
+-- where something was refused before the first byte of a text, this is as it was
+abbrev pub Untouched : {A : Type 0} → Status → A → A → Type 0
+Untouched Done old new = ⊤
+Untouched (Words _) old new = new ≡ old
+Untouched (FileFault _) old new = new ≡ old
+Untouched ReadFault old new = new ≡ old
+Untouched WriteFault old new = ⊤
+Untouched Memory old new = new ≡ old
 
 -- words are refused exactly where they give no command, and with that refusal
 pub record WordsCause (command : Result Command WordsFault) (status : Status) : Type 0 where

@@ -104,8 +104,9 @@ IsWritten text status.ReadFault old new before now = ⊥
 IsWritten text status.WriteFault old new before now = AppendedPrefix old new text × Rose before now
 IsWritten text status.Memory old new before now = ⊥
 
--- what was prepared was written, or nothing where there is no text
-abbrev pub IsFinished : Result (List ℕ) Stop → Status → Option (List ℕ) → Option (List ℕ)
-    → ℕ → ℕ → Type 0
-IsFinished (Ok text) status old new before now = IsWritten text status old new before now
-IsFinished (Err stop) status old new before now = (status ≡ status_of stop) × (new ≡ old)
+-- what was prepared was written, or the sink is as it was where there is no text
+abbrev pub IsFinished : {K : Type 0} → (K → Option (List ℕ)) → (K → ℕ)
+    → Result (List ℕ) Stop → Status → K → K → Type 0
+IsFinished written faults (Ok text) status old new =
+    IsWritten text status (written old) (written new) (faults old) (faults new)
+IsFinished written faults (Err stop) status old new = (status ≡ status_of stop) × (new ≡ old)

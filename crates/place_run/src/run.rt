@@ -1,6 +1,7 @@
 // The top call.
 ghost use Rattle.std.specs.Prelude.{◌≡◌, ◌^◌};
 ghost use Rattle.command_words.specs.Words.{command_of, texts};
+ghost use Rattle.command_words.specs.declared.words.WordsFault.{WordsFault};
 ghost use Rattle.place_base.specs.declared.fault.FileKind.{FileKind};
 ghost use Rattle.place_edges.specs.Causes.{Rose};
 ghost use Rattle.place_edges.specs.Shelf.{GaveMore};
@@ -8,7 +9,7 @@ ghost use Rattle.place_run.specs.Judged.{too_long};
 ghost use Rattle.place_run.specs.Lines.{line_of};
 ghost use Rattle.place_run.specs.Outcome.{outcome};
 ghost use Rattle.place_run.specs.Printed.{PlacesWhole, PrintsWorstStable};
-ghost use Rattle.place_run.specs.Runs.{IsRun, IsWholeRun, KeepsWritten, WordsCause, GrantsFor, Noted};
+ghost use Rattle.place_run.specs.Runs.{IsRun, IsWholeRun, StaysInFront, Untouched, WordsCause, GrantsFor, Noted};
 ghost use Rattle.place_run.specs.Steps.{IsFinished};
 
 use crate::commands::prepare_place;
@@ -22,10 +23,11 @@ use std::thread::Threads;
 /// Does what the words say: reads the files from the shelf, writes the text to `out` and the
 /// status's line to `notes`.
 ///
-/// The words are refused first. Then the files are opened, read whole and judged one after the
-/// other: a read fault of a file comes first, then that it has more than 2^30 bytes, then its first
-/// fault. All memory is taken before the first byte is written to `out`. A fault of `notes` changes
-/// neither the status nor `out`.
+/// The words are refused first, before a file is opened. Then the files are opened, read whole and
+/// judged one after the other: a read fault of a file comes first, then that it has more than 2^30
+/// bytes, then its first fault. All memory is taken before the first byte is written to `out`. So
+/// after each refusal `out` is as it was; only a write fault leaves a part of the text there. A fault
+/// of `notes` changes neither the status nor `out`.
 pub fn run_words<R: Threads, H: Shelf, K: Sink, N: Sink>(
     rt: &R,
     alloc: Global,
@@ -40,9 +42,12 @@ pub fn run_words<R: Threads, H: Shelf, K: Sink, N: Sink>(
     // The status and the text are those of the words and the bytes held.
     ensures run { IsRun (H.files shelf.old) (outcome (texts words.now)) result
         (K.written out.old) (K.written out.new) }
-    ensures kept { KeepsWritten result (K.written out.old) (K.written out.new) }
     ensures line { Noted (line_of result) (N.written notes.old) (N.written notes.new)
         (N.faults notes.old) (N.faults notes.new) }
+
+    // What was written before stays in front, and after a refusal `out` is as it was.
+    ensures kept { StaysInFront (K.written out.old) (K.written out.new) }
+    ensures untouched { Untouched result out.old out.new }
 
     // On Done the text is that of the mechanism's placement in the market of the three held files.
     // It is stable there, and in every stable placement there each candidate holds the printed
@@ -68,9 +73,11 @@ pub fn run_words<R: Threads, H: Shelf, K: Sink, N: Sink>(
         → PlacesWhole (H.files shelf.old) (texts words.now) result
         (K.written out.old) (K.written out.new) }
 
-    // What is held and granted stays.
+    // What is held and granted stays. Where the words are refused, no file is opened.
     ensures files { H.files shelf.new ≡ H.files shelf.old }
     ensures grants { H.grants shelf.new ≡ H.grants shelf.old }
+    ensures unopened { (refused : WordsFault) → result ≡ Status.Words refused
+        → shelf.new ≡ shelf.old }
 {
     let status = run_quietly(rt, alloc, words, shelf, out);
     crate::notes::note(notes, status);
@@ -88,7 +95,8 @@ fn run_quietly<R: Threads, H: Shelf, K: Sink>(
     requires { GrantsFor (H.grants shelf.old) (command_of (texts words.now)) (texts words.now) }
     ensures run { IsRun (H.files shelf.old) (outcome (texts words.now)) result
         (K.written out.old) (K.written out.new) }
-    ensures kept { KeepsWritten result (K.written out.old) (K.written out.new) }
+    ensures kept { StaysInFront (K.written out.old) (K.written out.new) }
+    ensures untouched { Untouched result out.old out.new }
     ensures worst { PrintsWorstStable (H.files shelf.old) (texts words.now) result
         (K.written out.old) (K.written out.new) }
     ensures words { WordsCause (command_of (texts words.now)) result }
@@ -98,6 +106,8 @@ fn run_quietly<R: Threads, H: Shelf, K: Sink>(
     ensures write { result ≡ Status.WriteFault → Rose (K.faults out.old) (K.faults out.new) }
     ensures files { H.files shelf.new ≡ H.files shelf.old }
     ensures grants { H.grants shelf.new ≡ H.grants shelf.old }
+    ensures unopened { (refused : WordsFault) → result ≡ Status.Words refused
+        → shelf.new ≡ shelf.old }
 {
     let workers = match read_words(words) {
         Ok(Command::Place(workers)) => workers,
@@ -112,8 +122,7 @@ fn run_quietly<R: Threads, H: Shelf, K: Sink>(
 
 // Writes the text, if there is one.
 fn finish<K: Sink>(prepared: Result<Text, Stop>, out: &mut K) -> Status
-    ensures { IsFinished prepared result (K.written out.old) (K.written out.new)
-        (K.faults out.old) (K.faults out.new) }
+    ensures { IsFinished K.written K.faults prepared result out.old out.new }
 {
     let text = match prepared {
         Ok(text) => text,

@@ -52,18 +52,19 @@ impl RankLists {
     /// The turn orders and ranks of a file beside the names of the types and the numbers of the
     /// candidates, or the file's first fault.
     ///
-    /// The file is read in at most so many pieces, 1 to 64; the result does not depend on it. Rows
-    /// of unknown types and candidates only take part in the checks for duplicates.
+    /// `pieces` is the number of parts, 1 to 64, in which the file may be read; it is read in one. The
+    /// result does not depend on it. Rows of unknown types and candidates only take part in the
+    /// checks for duplicates.
     pub fn read<R: Threads, T: TypeFinder, C: Finder>(
-        _rt: &R,
+        rt: &R,
         alloc: Global,
         bytes: &[u8],
-        _pieces: u32,
+        pieces: u32,
         types: &T,
         candidates: &C,
     ) -> Result<RankLists, TableStop>
         requires size { length bytes.now ≤ 2 ^ 30 }
-        requires pieces { (1 ≤ _pieces) × (_pieces ≤ 64) }
+        requires pieces { (1 ≤ pieces) × (pieces ≤ 64) }
         ensures { IsTableRead (ranks_fault bytes.now)
             (ranks_table (T.names types.now) (C.numbers candidates.now) bytes.now) result }
     {
