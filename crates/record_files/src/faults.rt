@@ -1,7 +1,8 @@
 // The faults of rows and fields.
-ghost use Rattle.std.specs.Prelude.{◌≡◌};
-ghost use Rattle.record_files.specs.FirstFaults.{duplicate_at, fault_at};
+ghost use Rattle.std.specs.Prelude.{◌≡◌, Ok, Some, MatchResult};
+ghost use Rattle.record_files.specs.FirstFaults.{duplicate_at, fault_at, reading_fault};
 
+use crate::rows::RecordRow;
 use place_base::{FaultKind, FileFault, FileKind};
 
 /// A fault that repeats no line. The fields count from 1; 0 means the whole row.
@@ -27,5 +28,21 @@ pub fn duplicate_at(file: FileKind, line: u32, field: u8, earlier: u32) -> FileF
         field,
         kind: FaultKind::Duplicate,
         earlier,
+    }
+}
+
+/// What was read in a field of a row, or the fault of that field. The fields count from 1.
+pub fn in_field<T>(
+    file: FileKind,
+    row: &RecordRow<'_>,
+    field: u8,
+    read: Result<T, FaultKind>,
+) -> Result<T, FileFault>
+    ensures { MatchResult result (λ value. read ≡ Ok value)
+        (λ fault. reading_fault file row.now.0 field read ≡ Some fault) }
+{
+    match read {
+        Ok(value) => Ok(value),
+        Err(kind) => Err(fault_at(file, row.line(), field, kind)),
     }
 }

@@ -15,7 +15,7 @@ mod rows;
 // Why a table could not be read.
 mod table_stop;
 
-pub use faults::{duplicate_at, fault_at};
+pub use faults::{duplicate_at, fault_at, in_field};
 pub use fields::{number, type_name};
 pub use form::FileForm;
 pub use row_texts::{Field, put_row_1, put_row_2, put_row_3, put_row_4};
