@@ -1,16 +1,16 @@
 // The table, its reading and its look-ups.
 ghost use Rattle.std.specs.Prelude.{◌≡◌, ◌^◌, ◌≤◌, ◌<◌, [], All, length, slice_get, Some, None, IfOk, OnOk, MatchResult};
-ghost use Rattle.record_files.specs.FirstFaults.{IsTableRead, duplicate_at};
+ghost use Rattle.record_files.specs.FirstFaults.{IsTableRead};
 ghost use Rattle.candidate_table.specs.Candidates.{candidates_fault, form as candidates, list_fault};
 ghost use Rattle.candidate_table.specs.Growth.{IsRowTaken, line_with, with_candidate};
 ghost use Rattle.candidate_table.specs.Table.{IsPreferenceList, candidates_table, indexes_of, table_of};
 
 use crate::entries::Entries;
-use crate::fields::{fault, read_fields};
+use crate::fields::read_fields;
 use crate::numbers::CandidateNumbers;
 use market::List;
 use place_base::{FaultKind, FileFault, FileKind, Finder};
-use record_files::{FileForm, RecordRow, Records, TableStop};
+use record_files::{FileForm, RecordRow, Records, TableStop, duplicate_at, fault_at};
 use std::alloc::{AllocError, Global};
 use std::marker::Model;
 use std::thread::Threads;
@@ -36,8 +36,8 @@ impl CandidateTable {
     /// The table of a file of at most 2^30 bytes beside the programmes' codes; `Fault` exactly where
     /// the file has a first fault, and then it carries it.
     ///
-    /// `pieces` is the number of parts, 1 to 64, in which the file may be read; it is read in one. The
-    /// result does not depend on it. After a refusal there is no table.
+    /// `pieces` is the number of parts, 1 to 64, in which the file may be read; it is read in one.
+    /// The result does not depend on it. After a refusal there is no table.
     pub fn read<R: Threads, P: Finder>(
         rt: &R,
         alloc: Global,
@@ -56,9 +56,7 @@ impl CandidateTable {
     {
         let form = candidates_form();
         let mut records = Records::of_bytes(bytes);
-        if let Err(fault) = form.read_header(&mut records) {
-            return Err(TableStop::Fault(fault));
-        }
+        form.read_header(&mut records)?;
         let mut table = CandidateTable::new(alloc);
         'rows: while let Some(row) = records.next() {
             table.take_row(alloc, &form, &row, programmes)?;
@@ -108,21 +106,14 @@ impl CandidateTable {
         if let Some(fault) = form.shape_fault(self.lists.len() as u32, row) {
             return Err(TableStop::Fault(fault));
         }
-        let fields = match read_fields(row) {
-            Ok(fields) => fields,
-            Err(fault) => return Err(TableStop::Fault(fault)),
-        };
+        let fields = read_fields(row)?;
         if let Some(earlier) = self.numbers.line_of(fields.number) {
-            return Err(TableStop::Fault(duplicate(row, 1, earlier)));
+            let fault = duplicate_at(FileKind::Candidates, row.line(), 1, earlier);
+            return Err(TableStop::Fault(fault));
         }
-        let list = match find_all(row, programmes, fields.codes.as_slice()) {
-            Ok(list) => list,
-            Err(fault) => return Err(TableStop::Fault(fault)),
-        };
-        match self.add(alloc, row.line(), fields.number, &list) {
-            Ok(()) => Ok(()),
-            Err(_) => Err(TableStop::Memory),
-        }
+        let list = find_all(row.line(), programmes, fields.codes.as_slice())?;
+        self.add(alloc, row.line(), fields.number, &list)?;
+        Ok(())
     }
 
     // Adds a candidate with a new number.
@@ -145,43 +136,27 @@ impl CandidateTable {
     }
 }
 
-// The codes as indexes of programmes, or what is wrong with the first that is none or stands earlier
-// in the list.
-fn find_all<P: Finder>(
-    row: &RecordRow<'_>,
-    programmes: &P,
-    codes: &[u32],
-) -> Result<Entries, FileFault>
+// The codes of a list of this line as indexes of programmes, or what is wrong with the first that
+// is none or stands earlier in the list.
+fn find_all<P: Finder>(line: u32, programmes: &P, codes: &[u32]) -> Result<Entries, FileFault>
     requires { length codes.now ≤ 24 }
     ensures { MatchResult result
-        (λ list. (list_fault (P.numbers programmes.now) row.now.0 codes.now ≡ None)
+        (λ list. (list_fault (P.numbers programmes.now) line codes.now ≡ None)
         × (list ≡ indexes_of (P.numbers programmes.now) codes.now))
-        (λ fault. list_fault (P.numbers programmes.now) row.now.0 codes.now ≡ Some fault) }
+        (λ fault. list_fault (P.numbers programmes.now) line codes.now ≡ Some fault) }
 {
+    let file = FileKind::Candidates;
     let mut list = Entries::new();
     for (index, code) in codes.iter().enumerate() {
         let Some(programme) = programmes.find(u64::from(*code)) else {
-            return Err(fault(row, 2, FaultKind::UnknownProgramme));
+            return Err(fault_at(file, line, 2, FaultKind::UnknownProgramme));
         };
         if codes[..index].contains(code) {
-            return Err(duplicate(row, 2, row.line()));
+            return Err(duplicate_at(file, line, 2, line));
         }
         list.push(programme);
     }
     Ok(list)
-}
-
-// A fault of a field of a row, which repeats a line.
-fn duplicate(row: &RecordRow<'_>, field: u8, earlier: u32) -> FileFault
-    ensures { result ≡ duplicate_at FileKind.Candidates row.now.0 field earlier }
-{
-    FileFault {
-        file: FileKind::Candidates,
-        line: row.line(),
-        field,
-        kind: FaultKind::Duplicate,
-        earlier,
-    }
 }
 
 impl Finder for CandidateTable {

@@ -5,12 +5,12 @@ ghost use Rattle.programme_table.specs.Growth.{IsRowTaken, clash, with_programme
 ghost use Rattle.programme_table.specs.Programmes.{form as programmes, programmes_fault};
 ghost use Rattle.programme_table.specs.Table.{prog_of, programmes_table, table_of};
 
-use crate::fields::{Fields, fault, read_fields};
+use crate::fields::{Fields, read_fields};
 use crate::row::ProgrammeRow;
 use indexmap::{IndexMap, IndexSet};
 use market::Prog;
 use place_base::{FaultKind, FileFault, FileKind, Finder, TypeFinder, TypeName};
-use record_files::{FileForm, RecordRow, Records, TableStop};
+use record_files::{FileForm, RecordRow, Records, TableStop, duplicate_at, fault_at};
 use std::alloc::{AllocError, Global};
 use std::marker::Model;
 use std::thread::Threads;
@@ -33,17 +33,22 @@ impl Model for ProgrammeTable {
 
     ghost Value = { Programmes };
 
-    ghost view = { λ t. record { rows = t.rows.items; lines = t.lines.entries; names = t.names.keys } };
+    ghost view = { λ t. record {
+      rows = t.rows.items;
+      lines = t.lines.entries;
+      names = t.names.keys;
+    } };
 
-    ghost invariant = { λ t. IsTable (record { rows = t.rows.items; lines = t.lines.entries; names = t.names.keys }) };
+    ghost invariant = { λ t.
+        IsTable (record { rows = t.rows.items; lines = t.lines.entries; names = t.names.keys }) };
 }
 
 impl ProgrammeTable {
     /// The table of a file of at most 2^30 bytes; `Fault` exactly where the file has a first fault,
     /// and then it carries it.
     ///
-    /// `pieces` is the number of parts, 1 to 64, in which the file may be read; it is read in one. The
-    /// result does not depend on it. After a refusal there is no table.
+    /// `pieces` is the number of parts, 1 to 64, in which the file may be read; it is read in one.
+    /// The result does not depend on it. After a refusal there is no table.
     pub fn read<R: Threads>(
         rt: &R,
         alloc: Global,
@@ -56,9 +61,7 @@ impl ProgrammeTable {
     {
         let form = programmes_form();
         let mut records = Records::of_bytes(bytes);
-        if let Err(fault) = form.read_header(&mut records) {
-            return Err(TableStop::Fault(fault));
-        }
+        form.read_header(&mut records)?;
         let mut table = ProgrammeTable::new(alloc);
         'rows: while let Some(row) = records.next() {
             table.take_row(&form, &row)?;
@@ -76,11 +79,14 @@ impl ProgrammeTable {
 
     /// The types and quotas of the programmes, as a market takes them.
     pub fn programmes(&self, alloc: Global) -> Result<Vec<Prog>, AllocError>
-        ensures programmes { IfOk result (λ programmes. programmes.items ≡ map prog_of self.now.rows) }
+        ensures programmes { IfOk result (λ programmes.
+            programmes.items ≡ map prog_of self.now.rows) }
 
         // They meet what a market asks of its programmes.
-        ensures kinds { IfOk result (λ programmes. All (λ one. one.kind < length self.now.names) programmes.items) }
-        ensures quotas { IfOk result (λ programmes. All (λ one. one.quota ≤ 100000) programmes.items) }
+        ensures kinds { IfOk result (λ programmes.
+            All (λ one. one.kind < length self.now.names) programmes.items) }
+        ensures quotas { IfOk result (λ programmes.
+            All (λ one. one.quota ≤ 100000) programmes.items) }
         ensures few_programmes { length self.now.rows ≤ 60000 }
         ensures few_types { length self.now.names ≤ 16 }
     {
@@ -112,34 +118,24 @@ impl ProgrammeTable {
         if let Some(fault) = form.shape_fault(self.rows.len() as u32, row) {
             return Err(TableStop::Fault(fault));
         }
-        let fields = match read_fields(row) {
-            Ok(fields) => fields,
-            Err(fault) => return Err(TableStop::Fault(fault)),
-        };
+        let fields = read_fields(row)?;
         if let Some(fault) = self.clash(row, &fields) {
             return Err(TableStop::Fault(fault));
         }
-        match self.add(row.line(), &fields) {
-            Ok(()) => Ok(()),
-            Err(_) => Err(TableStop::Memory),
-        }
+        self.add(row.line(), &fields)?;
+        Ok(())
     }
 
     // What is wrong with a row beside the table.
     fn clash(&self, row: &RecordRow<'_>, fields: &Fields) -> Option<FileFault>
         ensures { result ≡ clash self.now row.now.0 fields.now.code fields.now.name }
     {
+        let (file, line) = (FileKind::Programmes, row.line());
         if let Some(earlier) = self.lines.get(&u64::from(fields.code.get())) {
-            return Some(FileFault {
-                file: FileKind::Programmes,
-                line: row.line(),
-                field: 1,
-                kind: FaultKind::Duplicate,
-                earlier: *earlier,
-            });
+            return Some(duplicate_at(file, line, 1, *earlier));
         }
         if self.names.len() >= MOST_TYPES && !self.names.contains(&fields.name) {
-            return Some(fault(row, 2, FaultKind::OutOfRange));
+            return Some(fault_at(file, line, 2, FaultKind::OutOfRange));
         }
         None
     }
@@ -149,8 +145,8 @@ impl ProgrammeTable {
         requires rows { length self.old.rows < 60000 }
         requires quota { fields.now.quota ≤ 100000 }
         requires fits { clash self.old line fields.now.code fields.now.name ≡ None }
-        ensures { OnOk result
-            (self.new ≡ with_programme self.old line fields.now.code fields.now.name fields.now.quota) }
+        ensures { OnOk result (self.new
+            ≡ with_programme self.old line fields.now.code fields.now.name fields.now.quota) }
     {
         self.names.reserve(1)?;
         self.lines.reserve(1)?;

@@ -2,7 +2,6 @@
 use Rattle.std.proofs.Common.{◌≡◌, ℕ, suc, ◌+◌, ◌-◌, ◌*◌, ◌<◌, ◌≤◌, min, List, [], ◌∷◌, length, drop, get_or, refl, ap, ◌∙◌, ◌^◌, arith, add-one, true}
 use Rattle.std.proofs.Math.Nat.{pow-suc, pow-le-pow_right}
 use Rattle.std.proofs.Math.Seq.{drop-cons}
-use Rattle.std.proofs.lemmas.Bool.Decides.{nat_tests}
 use Rattle.record_files.specs.Numbers.{is_digit, all_digits, value_after}
 
 all_digits-cons : (b : ℕ) (bs : List ℕ) → is_digit b ≡ true → all_digits (b ∷ bs) ≡ all_digits bs
@@ -25,10 +24,6 @@ pub capped : (xs : List ℕ) (v w m : ℕ) → min v m ≡ min w m
 capped [] v w m h = h
 capped (b ∷ xs) v w m h = let step : min (10 * v + (b - 48)) m ≡ min (10 * w + (b - 48)) m =
     omega arith in capped xs (10 * v + (b - 48)) (10 * w + (b - 48)) m step
-
--- what the two tests of the code say
-pub is_digit-between : (b : ℕ) → 48 ≤ b → b ≤ 57 → is_digit b ≡ true
-is_digit-between b low high = grind (arith, nat_tests)
 
 -- a number of few digits stays small with one digit more
 pub digits-fit : (i v d : ℕ) → v < 10 ^ i → d ≤ 9 → 10 * v + d < 10 ^ (i + 1)

@@ -34,6 +34,23 @@ drop-head xs k x left e =
       taken = take_more xs k x lt ∙ ap (λ y. take k xs ++ y ∷ []) (sym head);
     }
 
+-- of two faults none is there where the first of them is not
+pub first_of-none : (a b : Option FileFault) → first_of a b ≡ None → (a ≡ None) × (b ≡ None)
+first_of-none None b none = (refl, none)
+first_of-none (Some fault) b none = cc
+
+-- where the least of some faults is not there, none of them is
+pub least_fault-each : (fault : ℕ → Option FileFault) (n : ℕ) → least_fault fault n ≡ None → (k : ℕ)
+    → k < n → fault k ≡ None
+unfolding least_fault
+least_fault-each fault zero none k below = absurd (omega arith)
+least_fault-each fault (suc n) none k below =
+    let both = first_of-none (least_fault fault n) (fault n) none in
+    ⊎_elim
+    (λ (before : k < n). least_fault-each fault n both.0 k before)
+    (λ (last : n ≤ k). let same : n ≡ k = omega arith in subst (λ m. fault m ≡ None) same both.1)
+    (cases_lt k n)
+
 -- with no fault so far, one more row without a fault makes none
 pub least_fault-next : (fault : ℕ → Option FileFault) (n : ℕ) → least_fault fault n ≡ None
     → fault n ≡ None → least_fault fault (n + 1) ≡ None

@@ -52,10 +52,10 @@ fn short_value(field: &[u8]) -> Option<u64>
     let mut sum = 0u64;
     for byte in field {
         let byte = *byte;
-        if byte < 48 || byte > 57 {
+        if !byte.is_ascii_digit() {
             return None;
         }
-        sum = 10 * sum + u64::from(byte - 48);
+        sum = 10 * sum + u64::from(byte - b'0');
     }
     Some(sum)
 }
@@ -68,10 +68,10 @@ fn long_value(field: &[u8]) -> Option<u128>
     let mut sum = 0u128;
     for byte in field {
         let byte = *byte;
-        if byte < 48 || byte > 57 {
+        if !byte.is_ascii_digit() {
             return None;
         }
-        sum = (10 * sum + u128::from(byte - 48)).min(PAST);
+        sum = (10 * sum + u128::from(byte - b'0')).min(PAST);
     }
     Some(sum)
 }

@@ -1,6 +1,7 @@
 ghost use Rattle.std.specs.Prelude.{◌≡◌, None, Some, drop, codes, MatchResult};
 ghost use Rattle.record_files.specs.FirstFaults.{first_row_fault, shape_fault, fault_at};
 
+use crate::faults::fault_at;
 use crate::rows::{RecordRow, Records};
 use place_base::{FaultKind, FileFault, FileKind};
 use std::marker::Model;
@@ -88,12 +89,6 @@ impl FileForm {
     fn fault(&self, line: u32, kind: FaultKind) -> FileFault
         ensures { result ≡ fault_at self.now.file line 0 kind }
     {
-        FileFault {
-            file: self.file,
-            line,
-            field: 0,
-            kind,
-            earlier: 0,
-        }
+        fault_at(self.file, line, 0, kind)
     }
 }

@@ -2,6 +2,8 @@
 //! what a file's first fault is, and the texts of rows.
 #![tactic(auto)]
 
+// The faults of rows and fields.
+mod faults;
 // The form of a file, its header and the shape of its rows.
 mod form;
 // Numbers and type names in fields.
@@ -13,10 +15,11 @@ mod rows;
 // Why a table could not be read.
 mod table_stop;
 
+pub use faults::{duplicate_at, fault_at, in_field};
 pub use fields::{number, type_name};
 pub use form::FileForm;
 pub use row_texts::{Field, put_row_1, put_row_2, put_row_3, put_row_4};
-pub use rows::{RecordRow, Records, RowPart};
+pub use rows::{RecordRow, Records, RowPart, find_byte};
 pub use table_stop::TableStop;
 
 #[cfg(test)]

@@ -172,8 +172,9 @@ impl<'a> Records<'a> {
         }
     }
 
-    /// The rows of a part of a file, counted from the part's line. Those of parts that start at 0
-    /// or just behind an LF are rows of the file.
+    /// The rows of the stretch by itself, counted from the part's line. They are rows of the file
+    /// where the stretch starts at 0 or behind an LF, at the line of that number, and ends behind
+    /// an LF or with the file; else its first or its last row may be a cut one.
     pub fn of_part(bytes: &'a [u8], part: RowPart) -> Records<'a>
         requires size { length bytes.now ≤ 2 ^ 30 }
         requires stretch { (part.start ≤ part.end) × (part.end ≤ length bytes.now) }
@@ -200,7 +201,7 @@ impl<'a> Records<'a> {
     {
         'lines: while !self.done {
             let line = self.line;
-            let end = line_end(self.rest);
+            let end = find_byte(b'\n', self.rest);
             let text = past_cr(&self.rest[..end]);
             if end < self.rest.len() {
                 self.rest = &self.rest[end + 1..];
@@ -217,30 +218,16 @@ impl<'a> Records<'a> {
     }
 }
 
-// Where the byte stands first, or the length where it does not.
-fn find_byte(sought: u8, bytes: &[u8]) -> usize
+/// Where the byte stands first, or the length where it does not: the first piece of the bytes cut
+/// at that byte ends there.
+pub fn find_byte(sought: u8, bytes: &[u8]) -> usize
     ensures bound { result ≤ length bytes.now }
     ensures cut { result < length bytes.now
         → split sought bytes.now
         ≡ take result bytes.now ∷ split sought (drop (result + 1) bytes.now) }
     ensures whole { result ≡ length bytes.now → split sought bytes.now ≡ bytes.now ∷ [] }
 {
-    for (index, byte) in bytes.iter().enumerate() {
-        if *byte == sought {
-            return index;
-        }
-    }
-    bytes.len()
-}
-
-// Where the line ends: at the first LF, or at the end of the bytes.
-fn line_end(bytes: &[u8]) -> usize
-    ensures bound { result ≤ length bytes.now }
-    ensures cut { result < length bytes.now
-        → split 10 bytes.now ≡ take result bytes.now ∷ split 10 (drop (result + 1) bytes.now) }
-    ensures whole { result ≡ length bytes.now → split 10 bytes.now ≡ bytes.now ∷ [] }
-{
-    match memchr(b'\n', bytes) {
+    match memchr(sought, bytes) {
         Some(at) => at,
         None => bytes.len(),
     }
@@ -251,18 +238,22 @@ fn past_cr(text: &[u8]) -> &[u8]
     ensures { result.now ≡ without_cr text.now }
 {
     match text {
-        [front @ .., 13] => front,
+        [front @ .., b'\r'] => front,
         _ => text,
     }
 }
+
+// The byte order mark of UTF-8.
+const MARK: [u8; 3] = [0xEF, 0xBB, 0xBF];
 
 // Without a byte order mark.
 fn past_mark(bytes: &[u8]) -> &[u8]
     ensures value { result.now ≡ without_mark bytes.now }
     ensures shorter { length result.now ≤ length bytes.now }
 {
-    match bytes {
-        [239, 187, 191, rest @ ..] => rest,
-        _ => bytes,
+    if bytes.starts_with(&MARK) {
+        &bytes[MARK.len()..]
+    } else {
+        bytes
     }
 }

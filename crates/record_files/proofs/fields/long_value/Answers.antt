@@ -1,6 +1,6 @@
-use Rattle.std.proofs.Common.{◌≡◌, ◌+◌, ◌-◌, ◌*◌, ◌^◌, min, ap, ◌∙◌, arith, drop, get_or, true}
+use Rattle.std.proofs.Common.{◌≡◌, sym, ◌+◌, ◌-◌, ◌*◌, ◌^◌, min, ap, ◌∙◌, arith, drop, get_or, true}
 use Rattle.record_files.specs.Numbers.{is_digit}
-use Rattle.record_files.proofs.Digits.{digits-next, value-next, capped, is_digit-between}
+use Rattle.record_files.proofs.Digits.{digits-next, value-next, capped}
 use Rattle.record_files.proofs.fields.long_value.Goals as goal
 
 pub loop-byte-preserved : goal.loop-byte-preserved
@@ -8,8 +8,7 @@ loop-byte-preserved c =
     let xs = c.args.field.now in
     let i = c.loop-byte.byte-index in
     let v = c.loop-byte.sum in
-    let d : is_digit (get_or xs i 0) ≡ true =
-    is_digit-between (get_or xs i 0) c.if-byte-lt48.false c.if-byte-gt57.false in
+    let d : is_digit (get_or xs i 0) ≡ true = sym c.if-not-is_ascii_digit.ensures.value in
     record {
       small = omega arith;
       digits = c.loop-byte.invariant.digits ∙ digits-next xs i (omega arith) d;

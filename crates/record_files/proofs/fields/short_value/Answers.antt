@@ -1,6 +1,6 @@
 use Rattle.std.proofs.Common.{◌≡◌, ◌+◌, ◌*◌, ◌^◌, ◌<◌, ◌≤◌, ◌∙◌, sym, ap, arith, drop, get_or, true}
 use Rattle.record_files.specs.Numbers.{is_digit, value_after}
-use Rattle.record_files.proofs.Digits.{digits-next, value-next, is_digit-between, digits-fit, short-fits}
+use Rattle.record_files.proofs.Digits.{digits-next, value-next, digits-fit, short-fits}
 use Rattle.record_files.proofs.fields.short_value.Goals as goal
 
 pub overflow_mul-sum : goal.overflow_mul-sum
@@ -13,7 +13,8 @@ overflow_mul-sum c =
 pub overflow_add-sum : goal.overflow_add-sum
 overflow_add-sum c =
     let small : 10 * c.loop-byte.sum + c.from.result < 10 ^ (c.loop-byte.byte-index + 1) =
-    digits-fit _ _ c.from.result c.loop-byte.invariant.small (omega arith) in
+    digits-fit _ _ c.from.result c.loop-byte.invariant.small
+    (omega (arith, c.if-not-is_ascii_digit.ensures.cases)) in
     let fits : 10 ^ (c.loop-byte.byte-index + 1) ≤ 10 ^ 19 = short-fits _ (omega arith) in
     omega arith
 
@@ -21,10 +22,10 @@ pub loop-byte-preserved : goal.loop-byte-preserved
 loop-byte-preserved c =
     let xs = c.args.field.now in
     let i = c.loop-byte.byte-index in
-    let d : is_digit (get_or xs i 0) ≡ true =
-    is_digit-between (get_or xs i 0) c.if-byte-lt48.false c.if-byte-gt57.false in
+    let d : is_digit (get_or xs i 0) ≡ true = sym c.if-not-is_ascii_digit.ensures.value in
     record {
-      small = digits-fit _ _ c.from.result c.loop-byte.invariant.small (omega arith);
+      small = digits-fit _ _ c.from.result c.loop-byte.invariant.small
+          (omega (arith, c.if-not-is_ascii_digit.ensures.cases));
       digits = c.loop-byte.invariant.digits ∙ digits-next xs i (omega arith) d;
       sum = c.loop-byte.invariant.sum ∙ value-next xs i c.loop-byte.sum (omega arith)
           ∙ ap (λ n. value_after (10 * c.loop-byte.sum + n) (drop (i + 1) xs)) (sym c.from.ensures);

@@ -8,8 +8,8 @@ use Rattle.candidate_table.proofs.table.CandidateTable.read.Goals as goal
 pub rows-init : goal.rows-init
 rows-init g c =
     let header = (λ j. first_row_fault (sym c.candidates_form-form.ensures j)
-    (sym c.of_bytes-records.ensures j)) ∙ c.in_default.ensures.result in
-    let behind = c.in_default.ensures.passed
+    (sym c.of_bytes-records.ensures j)) ∙ c.in_ok-read_header.ensures.result in
+    let behind = c.in_ok-read_header.ensures.passed
     ∙ ap (λ (all : List Row). drop 1 all) c.of_bytes-records.ensures in
     record {
       reading = IsReading-begin (g.P.Finder.numbers c.args.programmes.now) c.args.bytes.now
@@ -31,7 +31,8 @@ rows-preserved g c =
 pub returns-in_err-take_row-clause-read : goal.returns-in_err-take_row-clause-read
 returns-in_err-take_row-clause-read g c =
     let programmes = g.P.Finder.numbers c.args.programmes.now in
-    let exit = err_from_is_err_and c.from_residual.result c.from_residual.ensures.1 in
+    let stop = c.from_residual-in_err-take_row in
+    let exit = err_from_is_err_and stop.result stop.ensures.1 in
     rw (exit.1, exit.2) (IsTableRead-stop programmes c.args.bytes.now c.rows.table c.take_row.new.self
     c.next.new.self c.in-Some.row c.in_err-take_row.field-0.0
     (subst (IsReading programmes c.args.bytes.now c.rows.table) c.in-Some.ensures
@@ -41,5 +42,5 @@ pub returns-clause-read : goal.returns-clause-read
 returns-clause-read g c =
     let programmes = g.P.Finder.numbers c.args.programmes.now in
     IsReading-ends programmes c.args.bytes.now c.rows.table
-    (subst (IsReading programmes c.args.bytes.now c.rows.table) c.in_default-next.ensures.0
+    (subst (IsReading programmes c.args.bytes.now c.rows.table) c.in_default.ensures.0
     c.rows.invariant.reading)

@@ -8,8 +8,8 @@ use Rattle.programme_table.proofs.table.ProgrammeTable.read.Goals as goal
 pub rows-init : goal.rows-init
 rows-init g c =
     let header = (λ j. first_row_fault (sym c.programmes_form-form.ensures j)
-    (sym c.of_bytes-records.ensures j)) ∙ c.in_default.ensures.result in
-    let behind = c.in_default.ensures.passed
+    (sym c.of_bytes-records.ensures j)) ∙ c.in_ok-read_header.ensures.result in
+    let behind = c.in_ok-read_header.ensures.passed
     ∙ ap (λ (all : List Row). drop 1 all) c.of_bytes-records.ensures in
     record {
       reading = IsReading-begin c.args.bytes.now c.new-table.result c.read_header.new.records header
@@ -29,7 +29,8 @@ rows-preserved g c =
 
 pub returns-in_err-take_row : goal.returns-in_err-take_row
 returns-in_err-take_row g c =
-    let exit = err_from_is_err_and c.from_residual.result c.from_residual.ensures.1 in
+    let stop = c.from_residual-in_err-take_row in
+    let exit = err_from_is_err_and stop.result stop.ensures.1 in
     rw (exit.1, exit.2) (IsTableRead-stop c.args.bytes.now c.rows.table c.take_row.new.self
     c.next.new.self c.in-Some.row c.in_err-take_row.field-0.0
     (subst (IsReading c.args.bytes.now c.rows.table) c.in-Some.ensures c.rows.invariant.reading)
@@ -38,5 +39,5 @@ returns-in_err-take_row g c =
 pub returns : goal.returns
 returns g c =
     IsReading-ends c.args.bytes.now c.rows.table
-    (subst (IsReading c.args.bytes.now c.rows.table) c.in_default-next.ensures.0
+    (subst (IsReading c.args.bytes.now c.rows.table) c.in_default.ensures.0
     c.rows.invariant.reading)
