@@ -3,7 +3,7 @@
 use Rattle.std.proofs.Common.{◌≡◌, ℕ, zero, suc, ◌+◌, ◌<◌, ◌≤◌, List, [], ◌∷◌, Bool, true, false, length, map, take, drop, find, refl, sym, ap, ◌∙◌, arith, subst, ⊎_elim, Option, Some, None, length-take-le}
 use Rattle.std.specs.Prelude.{slice_index, option_and_then, option_map}
 use Rattle.std.proofs.Math.Seq.{drop-cons}
-use Rattle.std.proofs.lemmas.Bool.{cases_lt, cases_Bool}
+use Rattle.std.proofs.lemmas.Bool.{cases_Bool}
 use Rattle.std.proofs.lemmas.List.{get_or-map, get_or-take, length-map}
 use Rattle.std.proofs.lemmas.Option.{slice_get-get_or}
 use Rattle.place_base.specs.declared.fault.FileFault.{FileFault}
@@ -12,24 +12,12 @@ use Rattle.place_base.specs.declared.fault.FileKind.TheVariants.{Ranks}
 use Rattle.record_files.specs.FirstFaults.{first_of, shape_fault, fault_behind, row_fault, least_fault, data_rows, repeat_fault, duplicate_at}
 use Rattle.record_files.specs.ReadTo.{IsReadTo}
 use Rattle.record_files.specs.Rows.{Row}
-use Rattle.record_files.proofs.FirstFaultLemmas.{IsReadTo-stops}
+use Rattle.record_files.proofs.FirstFaultLemmas.{IsReadTo-stops, first_of-none, least_fault-each}
 use Rattle.rank_lists.specs.Groups.{candidate_group, rank_group}
 use Rattle.rank_lists.specs.RankRows.{ranks_form, reading, meaning, same_candidate, same_rank, ranks_fault}
 use Rattle.rank_lists.specs.Repeats.{NoRepeat, IsFirstRepeat}
 use Rattle.rank_lists.specs.RowsRead.{unrelated, row_at}
-use Rattle.rank_lists.proofs.RowGroups.{HasFields, HasFields-from, first_of-none, candidate_group-same, rank_group-same, same_candidate-group, same_rank-group}
-
--- where the least of some faults is none, each is none
-least_fault-each : (fault : ℕ → Option FileFault) (n : ℕ) → least_fault fault n ≡ None → (k : ℕ)
-    → k < n → fault k ≡ None
-unfolding least_fault
-least_fault-each fault zero h k lt = absurd (omega arith)
-least_fault-each fault (suc n) h k lt =
-    let parts = first_of-none (least_fault fault n) (fault n) h in
-    ⊎_elim
-    (λ (below : k < n). least_fault-each fault n parts.0 k below)
-    (λ (above : n ≤ k). let same : n ≡ k = omega arith in subst (λ m. fault m ≡ None) same parts.1)
-    (cases_lt k n)
+use Rattle.rank_lists.proofs.RowGroups.{HasFields, HasFields-from, candidate_group-same, rank_group-same, same_candidate-group, same_rank-group}
 
 -- where each fault is none, the least is none
 least_fault-none : (fault : ℕ → Option FileFault) (n : ℕ) → ((k : ℕ) → k < n → fault k ≡ None)

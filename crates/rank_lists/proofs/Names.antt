@@ -1,7 +1,8 @@
 -- The bytes of a type's name as a number: it fits a word, and no two names have the same.
-use Rattle.std.proofs.Common.{◌≡◌, ℕ, suc, ◌+◌, ◌*◌, ◌^◌, ◌<◌, ◌≤◌, ◌&&◌, List, [], ◌∷◌, Bool, true, false, length, nat_le, refl, arith, add-one}
+use Rattle.std.proofs.Common.{◌≡◌, ℕ, suc, ◌+◌, ◌*◌, ◌^◌, ◌<◌, ◌≤◌, ◌&&◌, List, [], ◌∷◌, true, length, nat_le, refl, arith, add-one}
 use Rattle.std.specs.List.{list_all}
 use Rattle.std.proofs.Math.Nat.{pow-suc, pow-le-pow_right}
+use Rattle.std.proofs.lemmas.Bool.{and_parts}
 use Rattle.std.proofs.lemmas.Bool.Decides.{nat_tests}
 use Rattle.place_base.specs.TypeName.{is_type_byte, is_type_name}
 use Rattle.rank_lists.specs.Groups.{name_number}
@@ -44,14 +45,10 @@ names-same (a ∷ as') (b ∷ bs) g h e =
 type-byte : (b : ℕ) → is_type_byte b ≡ true → (1 ≤ b) × (b < 256)
 type-byte b h = (grind (arith, nat_tests), grind (arith, nat_tests))
 
-and-both : (a b : Bool) → (a && b) ≡ true → (a ≡ true) × (b ≡ true)
-and-both true b h = (refl, h)
-and-both false b h = absurd (cc)
-
 type-bytes : (bs : List ℕ) → list_all is_type_byte bs ≡ true → AreBytes bs
 type-bytes [] h = tt
 type-bytes (b ∷ bs) h = let both =
-    and-both (is_type_byte b) (list_all is_type_byte bs) h in
+    and_parts (is_type_byte b) (list_all is_type_byte bs) h in
     (type-byte b both.0, type-bytes bs both.1)
 
 -- what a name of a type is
@@ -61,7 +58,7 @@ pub record IsName (text : List ℕ) : Type 0 where
 
 pub IsName-from : (text : List ℕ) → is_type_name text ≡ true → IsName text
 IsName-from text h =
-    let parts = and-both _ (list_all is_type_byte text) h in
+    let parts = and_parts _ (list_all is_type_byte text) h in
     record { short = name-length text parts.0; bytes = type-bytes text parts.1 }
   where
     name-length : (text : List ℕ) → (nat_le 1 (length text) && nat_le (length text) 8) ≡ true

@@ -1,7 +1,7 @@
 -- A row without a fault of its own has a candidate, a type name and a rank within their limits,
 -- so two such rows are in the same group exactly where the tests for duplicates say so.
 use Rattle.std.proofs.Common.{◌≡◌, ℕ, ◌<◌, ◌≤◌, ◌==◌, ◌&&◌, List, Bool, true, false, nat_le, not, length, refl, ap, arith, Option, Some, None, Result, Ok, Err}
-use Rattle.std.proofs.lemmas.Bool.{cond_both}
+use Rattle.std.proofs.lemmas.Bool.{cond_both, and_parts}
 use Rattle.std.proofs.lemmas.Bool.Decides.{nat_tests}
 use Rattle.std.proofs.lemmas.Slice.Eq.{bytes_eq-Decides}
 use Rattle.place_base.specs.TypeName.{is_type_name}
@@ -14,6 +14,7 @@ use Rattle.record_files.specs.FirstFaults.{first_of, fault_at, fault_if, long_fa
 use Rattle.record_files.specs.Numbers.{value, is_number, number_of}
 use Rattle.record_files.specs.Rows.{Row, field_at, fields_of}
 use Rattle.record_files.specs.TypeNames.{type_name_of}
+use Rattle.record_files.proofs.FirstFaultLemmas.{first_of-none}
 use Rattle.rank_lists.specs.Groups.{name_number, candidate_group, rank_group}
 use Rattle.rank_lists.specs.RankRows.{ranks_form, candidate_in, type_in, rank_in, reading, same_candidate, same_rank}
 use Rattle.rank_lists.specs.RowsRead.{own_fault}
@@ -25,10 +26,6 @@ pub record HasFields (row : Row) : Type 0 where
   pub name : IsName (type_in row)
   pub low : 1 ≤ rank_in row
   pub rank : rank_in row ≤ 99999999
-
-pub first_of-none : (a b : Option FileFault) → first_of a b ≡ None → (a ≡ None) × (b ≡ None)
-first_of-none (Some f) b h = absurd (cc)
-first_of-none None b h = (refl, h)
 
 number-read : (file : FileKind) (line field : ℕ) (text : List ℕ) (low high : ℕ)
     → reading_fault file line field (number_of text low high) ≡ None
@@ -69,10 +66,6 @@ HasFields-from row h =
       rank = rank.1;
     }
 
-and-both : (a b : Bool) → (a && b) ≡ true → (a ≡ true) × (b ≡ true)
-and-both true b h = (refl, h)
-and-both false b h = absurd (cc)
-
 both-and : (a b : Bool) → a ≡ true → b ≡ true → (a && b) ≡ true
 both-and a b g h = rw g h
 
@@ -86,7 +79,7 @@ true-eq a b e = grind (arith, nat_tests)
 pub candidate_group-same : (row other : Row) → same_candidate row other ≡ true
     → candidate_group other ≡ candidate_group row
 candidate_group-same row other h =
-    let parts = and-both _ _ h in
+    let parts = and_parts _ _ h in
     let candidates : candidate_in row ≡ candidate_in other = true-eq _ _ parts.0 in
     let names : type_in row ≡ type_in other =
     (bytes_eq-Decides (type_in row) (type_in other)).0 parts.1 in
@@ -96,7 +89,7 @@ candidate_group-same row other h =
 pub rank_group-same : (row other : Row) → same_rank row other ≡ true
     → rank_group other ≡ rank_group row
 rank_group-same row other h =
-    let parts = and-both _ _ h in
+    let parts = and_parts _ _ h in
     let ranks : rank_in row ≡ rank_in other = true-eq _ _ parts.0 in
     let names : type_in row ≡ type_in other =
     (bytes_eq-Decides (type_in row) (type_in other)).0 parts.1 in

@@ -6,8 +6,8 @@ ghost use Rattle.rank_lists.specs.Duplicates.{IsFirstDuplicate, duplicate_of, ea
 ghost use Rattle.rank_lists.specs.RowsRead.{row_at};
 
 use crate::repeats::{Repeat, Repeats};
-use place_base::{FaultKind, FileFault, FileKind};
-use record_files::Records;
+use place_base::{FileFault, FileKind};
+use record_files::{Records, duplicate_at};
 use std::alloc::{AllocError, Global};
 
 /// What a row repeats.
@@ -65,13 +65,9 @@ impl Duplicate {
             Duplicate::Candidate(repeat) => (repeat, 2),
             Duplicate::Rank(repeat) => (repeat, 3),
         };
-        FileFault {
-            file: FileKind::Ranks,
-            line: line_of(bytes, repeat.later),
-            field,
-            kind: FaultKind::Duplicate,
-            earlier: line_of(bytes, repeat.earlier),
-        }
+        let line = line_of(bytes, repeat.later);
+        let earlier = line_of(bytes, repeat.earlier);
+        duplicate_at(FileKind::Ranks, line, field, earlier)
     }
 }
 

@@ -113,20 +113,12 @@ pub(crate) fn gather<T: TypeFinder>(
 {
     let form = ranks_form();
     let mut records = Records::of_bytes(bytes);
-    if let Err(fault) = form.read_header(&mut records) {
-        return Err(TableStop::Fault(fault));
-    }
-    let Ok(mut rows) = RankRows::new(alloc, types.type_count()) else {
-        return Err(TableStop::Memory);
-    };
+    form.read_header(&mut records)?;
+    let mut rows = RankRows::new(alloc, types.type_count())?;
     let mut count = 0;
     'rows: while let Some(record) = records.next() {
         match read_row(&form, count, &record) {
-            Ok(row) => {
-                let Ok(()) = rows.add(&row, types) else {
-                    return Err(TableStop::Memory);
-                };
-            }
+            Ok(row) => rows.add(&row, types)?,
             Err(fault) => {
                 return Ok(Gathered {
                     rows,

@@ -5,8 +5,9 @@
 mod lists;
 // The rows of a file, gathered up to the first that has a fault of its own.
 mod gather;
-// A row by itself, and what it says.
+// What a row says.
 mod rank_row;
+// A row read by itself.
 mod row;
 // The first row that repeats what an earlier row says.
 mod duplicates;

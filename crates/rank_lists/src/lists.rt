@@ -9,7 +9,7 @@ ghost use Rattle.rank_lists.specs.Soundness.{IsSound};
 use crate::by_candidate::tables_by_candidate;
 use crate::duplicates::first_duplicate;
 use crate::gather::{Gathered, RankRows, gather};
-use crate::turns::{AllTurns, all_turns};
+use crate::turns::all_turns;
 use market::List;
 use place_base::{Finder, TypeFinder};
 use record_files::TableStop;
@@ -74,26 +74,19 @@ impl RankLists {
             ranks: by_rank,
             given,
         } = rows;
-        let Ok(duplicate) = first_duplicate(alloc, by_candidate, by_rank) else {
-            return Err(TableStop::Memory);
-        };
-        if let Some(duplicate) = duplicate {
+        if let Some(duplicate) = first_duplicate(alloc, by_candidate, by_rank)? {
             return Err(TableStop::Fault(duplicate.fault(bytes)));
         }
         if let Some(fault) = stop {
             return Err(TableStop::Fault(fault));
         }
-        let Ok(turns) = all_turns(alloc, given, candidates) else {
-            return Err(TableStop::Memory);
-        };
-        match RankLists::of_turns(alloc, candidates.count(), turns) {
-            Ok(lists) => Ok(lists),
-            Err(_) => Err(TableStop::Memory),
-        }
+        let turns = all_turns(alloc, given, candidates)?;
+        let lists = RankLists::of_turns(alloc, candidates.count(), turns)?;
+        Ok(lists)
     }
 
     // The lists of turn orders of so many candidates.
-    fn of_turns(alloc: Global, candidates: u32, turns: AllTurns) -> Result<RankLists, AllocError>
+    fn of_turns(alloc: Global, candidates: u32, turns: RankParts) -> Result<RankLists, AllocError>
         requires { IsSound (table_with candidates turns.orders.items turns.ranks.items) }
         ensures { IfOk result (λ lists. lists
             ≡ table_with candidates turns.orders.items turns.ranks.items) }

@@ -9,9 +9,10 @@ use std::marker::Model;
 /// How many numbers there may be.
 pub(crate) const PLACES: u128 = 1 << 25;
 
-// Words of 64 bits, and an odd number that spreads what stands above the first word.
+// A value that no word of 64 bits has.
 const WORDS: u128 = 1 << 64;
 
+// An odd number that spreads what stands above the first word.
 const SPREAD: u64 = 0x9e37_79b9_7f4a_7c15;
 
 /// Two places of a list at which the same number stands.

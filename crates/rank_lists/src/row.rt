@@ -1,14 +1,13 @@
 // A row of a ranks file by itself.
 
 ghost use Rattle.std.specs.Prelude.{◌≡◌, ◌≤◌, codes, length};
-ghost use Rattle.record_files.specs.FirstFaults.{fault_at};
 ghost use Rattle.rank_lists.specs.Groups.{name_number as number_of_name};
 ghost use Rattle.rank_lists.specs.RankRows.{ranks_form as form_of_ranks};
 ghost use Rattle.rank_lists.specs.RowsRead.{IsRowRead};
 
 use crate::rank_row::RankRow;
-use place_base::{FaultKind, FileFault, FileKind};
-use record_files::{FileForm, RecordRow, number, type_name};
+use place_base::{FileFault, FileKind};
+use record_files::{FileForm, RecordRow, in_field, number, type_name};
 
 /// The form of a ranks file.
 pub(crate) fn ranks_form() -> FileForm
@@ -29,35 +28,15 @@ pub(crate) fn read_row(
     if let Some(fault) = form.shape_fault(index, row) {
         return Err(fault);
     }
-    let candidate = match number(row.field(0), 1, 99_999_999_999) {
-        Ok(candidate) => candidate,
-        Err(kind) => return Err(field_fault(row, 1, kind)),
-    };
-    let name = match type_name(row.field(1)) {
-        Ok(name) => name,
-        Err(kind) => return Err(field_fault(row, 2, kind)),
-    };
-    match number(row.field(2), 1, 99_999_999) {
-        Ok(rank) => Ok(RankRow {
-            candidate,
-            name,
-            rank: rank as u32,
-        }),
-        Err(kind) => Err(field_fault(row, 3, kind)),
-    }
-}
-
-// A fault of a field.
-fn field_fault(row: &RecordRow<'_>, field: u8, kind: FaultKind) -> FileFault
-    ensures { result ≡ fault_at FileKind.Ranks row.now.0 field kind }
-{
-    FileFault {
-        file: FileKind::Ranks,
-        line: row.line(),
-        field,
-        kind,
-        earlier: 0,
-    }
+    let file = FileKind::Ranks;
+    let candidate = in_field(file, row, 1, number(row.field(0), 1, 99_999_999_999))?;
+    let name = in_field(file, row, 2, type_name(row.field(1)))?;
+    let rank = in_field(file, row, 3, number(row.field(2), 1, 99_999_999))?;
+    Ok(RankRow {
+        candidate,
+        name,
+        rank: rank as u32,
+    })
 }
 
 /// The bytes of a type's name as one number, which no other name has.

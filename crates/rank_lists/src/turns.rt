@@ -3,16 +3,17 @@
 ghost use Rattle.std.specs.Prelude.{◌≡◌, ◌+◌, ◌*◌, ◌^◌, ◌<◌, ◌/◌, ◌%◌, ◌++◌, ◌∷◌, [], map, OnOk, IfOk};
 ghost use Rattle.rank_lists.specs.Turns.{AreTurns, AreAllTurns, known_keys};
 
+use crate::lists::RankParts;
 use crate::rank_row::RankRow;
 use market::List;
 use place_base::Finder;
 use std::alloc::{AllocError, Global};
 use std::marker::Model;
 
-// More than the number of any candidate, behind which a rank stands in the keys of the file.
+// More than the number of any candidate: a key is a rank times this, and the candidate's number.
 const NUMBERS: u64 = 1 << 37;
 
-// More than any index, behind which a rank stands in the keys that are sorted.
+// More than any index: a key that is sorted is a rank times this, and the candidate's index.
 const INDEXES: u64 = 1 << 32;
 
 /// The ranks given in one type, each with the number of its candidate behind it, in file order.
@@ -87,19 +88,12 @@ fn known<C: Finder>(alloc: Global, keys: &[u64], candidates: &C) -> Result<Vec<u
     Ok(known)
 }
 
-/// The turn orders of all types, and the ranks in them.
-#[derive(Drop)]
-pub(crate) struct AllTurns {
-    pub(crate) orders: Vec<List>,
-    pub(crate) ranks: Vec<List>,
-}
-
-/// The turn order of each type.
+/// The turn order of each type, and the ranks in it.
 pub(crate) fn all_turns<C: Finder>(
     alloc: Global,
     given: Vec<GivenRanks>,
     candidates: &C,
-) -> Result<AllTurns, AllocError>
+) -> Result<RankParts, AllocError>
     ensures { IfOk result (λ all.
         AreAllTurns (C.numbers candidates.now) given.items all.orders.items all.ranks.items) }
 {
@@ -110,7 +104,7 @@ pub(crate) fn all_turns<C: Finder>(
         orders.push(turns.order)?;
         ranks.push(turns.ranks)?;
     }
-    Ok(AllTurns { orders, ranks })
+    Ok(RankParts { orders, ranks })
 }
 
 // The candidates of keys.

@@ -10,12 +10,12 @@ use Rattle.rank_lists.proofs.gather.gather.Goals as goal
 pub rows-init : goal.rows-init
 rows-init g c =
     let header = rw (c.ranks_form-form.ensures, c.of_bytes-records.ensures) at
-    c.in_default.ensures.result in
+    c.in_ok-read_header.ensures.result in
     record {
       few = omega arith;
       read = IsReadTo-begin ranks_form reading unrelated c.args.bytes.now c.read_header.new.records
           header (c.read_header.ensures.passed ∙ ap (drop 1) c.of_bytes-records.ensures);
-      rows = c.in-Ok.ensures (g.T.TypeFinder.names c.args.types.now)
+      rows = c.in_ok-rows.ensures {u = tt} (g.T.TypeFinder.names c.args.types.now)
           (sym c.type_count.ensures.length);
     }
 
@@ -28,7 +28,7 @@ rows-preserved g c =
     let left = c.next.new.self in
     let read = subst (λ rows. IsReadTo ranks_form reading unrelated bytes count rows)
     c.in-Some.ensures c.rows.invariant.read in
-    let own = c.in-Ok-read_row.ensures in
+    let own = c.in-Ok.ensures in
     let few = few-rows count row own.0 in
     record {
       few = omega arith;
@@ -36,5 +36,5 @@ rows-preserved g c =
           (own_fault-unrelated count row ∙ own.0);
       rows = subst (λ rows. HasRows names rows c.add.new.self)
           (sym (IsReadTo-take ranks_form reading unrelated bytes count row left read))
-          (c.in-Ok-add.ensures _ row c.rows.invariant.rows own.1);
+          (c.in_ok-add-in-Ok.ensures {u = tt} _ row c.rows.invariant.rows own.1);
     }

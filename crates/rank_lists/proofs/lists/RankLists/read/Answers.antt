@@ -10,7 +10,7 @@ returns-in-Some g c =
     let names = g.T.TypeFinder.names c.args.types.now in
     let numbers = g.C.Finder.numbers c.args.candidates.now in
     let found = subst (IsFirstDuplicate c.in_ok-rows.field-0.rows.candidates
-    c.in_ok-rows.field-0.rows.ranks) c.in-Some.is c.in-Ok.ensures in
+    c.in_ok-rows.field-0.rows.ranks) c.in-Some.is (c.in_ok-duplicate.ensures {u = tt}) in
     duplicate-first names numbers c.args.bytes.now c.in_ok-rows.field-0 c.in_ok-rows.ensures
     c.in-Some.duplicate found
     ∙ ap (λ fault. Some fault) (sym c.fault.ensures)
@@ -21,7 +21,7 @@ returns-in-Some-stop g c =
     let numbers = g.C.Finder.numbers c.args.candidates.now in
     let gathers = c.in_ok-rows.ensures in
     let none = subst (IsFirstDuplicate c.in_ok-rows.field-0.rows.candidates c.in_ok-rows.field-0.rows.ranks)
-    c.in_default-duplicate.is c.in-Ok.ensures in
+    c.in_default.is (c.in_ok-duplicate.ensures {u = tt}) in
     let stop = subst (λ o. StopsAt gathers.count gathers.left o) c.in-Some-stop.is gathers.stop in
     stop-first names numbers c.args.bytes.now c.in_ok-rows.field-0 gathers none c.in-Some-stop.fault
     stop
@@ -36,16 +36,16 @@ of_turns-requires g c =
     let low = c.count.type_inv in
     let few : length numbers ≤ 4294967296 = omega (arith, size, low) in
     let none = subst (IsFirstDuplicate c.in_ok-rows.field-0.rows.candidates c.in_ok-rows.field-0.rows.ranks)
-    c.in_default-duplicate.is c.in-Ok.ensures in
+    c.in_default.is (c.in_ok-duplicate.ensures {u = tt}) in
     let stop = subst (λ o. StopsAt gathers.count gathers.left o) c.in_default-stop.is
     gathers.stop in
     let table = table-read names numbers bytes c.in_ok-rows.field-0 gathers none stop few c.count.result
-    _ _ size c.in-Ok-all_turns.ensures in
+    _ _ size (c.in_ok-turns.ensures {u = tt}) in
     subst IsSound (sym table)
     (table-sound names numbers bytes c.in_ok-rows.field-0 gathers none stop few)
 
-pub returns-in-Ok-of_turns : goal.returns-in-Ok-of_turns
-returns-in-Ok-of_turns g c =
+pub returns : goal.returns
+returns g c =
     let names = g.T.TypeFinder.names c.args.types.now in
     let numbers = g.C.Finder.numbers c.args.candidates.now in
     let bytes = c.args.bytes.now in
@@ -54,11 +54,11 @@ returns-in-Ok-of_turns g c =
     let low = c.count.type_inv in
     let few : length numbers ≤ 4294967296 = omega (arith, size, low) in
     let none = subst (IsFirstDuplicate c.in_ok-rows.field-0.rows.candidates c.in_ok-rows.field-0.rows.ranks)
-    c.in_default-duplicate.is c.in-Ok.ensures in
+    c.in_default.is (c.in_ok-duplicate.ensures {u = tt}) in
     let stop = subst (λ o. StopsAt gathers.count gathers.left o) c.in_default-stop.is
     gathers.stop in (
       no-fault names numbers bytes c.in_ok-rows.field-0 gathers none stop,
-      c.in-Ok-of_turns.ensures
+      (c.in_ok-lists.ensures {u = tt})
           ∙ table-read names numbers bytes c.in_ok-rows.field-0 gathers none stop few c.count.result _ _
-          size c.in-Ok-all_turns.ensures,
+          size (c.in_ok-turns.ensures {u = tt}),
     )
