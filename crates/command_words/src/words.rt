@@ -12,7 +12,8 @@ const WORKERS: u32 = 4;
 /// File names are no part of it: they stand at fixed places of the words.
 #[derive(Clone, Copy, Debug, PartialEq, Eq)]
 pub enum Command {
-    /// The placement of three files, by this many workers (1 to 64).
+    /// The placement of three files. The number of workers, 1 to 64, bounds the parts in which each
+    /// file may be read; the outcome does not depend on it.
     Place(u32),
 }
 
@@ -25,7 +26,7 @@ pub enum WordsFault {
     UnknownCommand(u32),
     /// The first place at which a word is missing, or one too many stands.
     WordCount(u32),
-    /// The word at this place is no number of its range.
+    /// The word at this place is no number of its range. No command takes a number yet.
     BadNumber(u32),
 }
 

@@ -1,4 +1,4 @@
--- The files that are read.
+-- The kinds of files.
 use Rattle.std.specs.Prelude.{ℕ, List, codes}
 use Rattle.place_base.specs.declared.fault.FileKind.{FileKind}
 use Rattle.place_base.specs.declared.fault.FileKind.TheVariants.{Programmes, Candidates, Ranks, Placement, Registrations}

@@ -2,7 +2,7 @@ ghost use Rattle.std.specs.Prelude.{◌≡◌};
 ghost use Rattle.place_base.specs.FaultKind.{fault_number, fault_name};
 ghost use Rattle.place_base.specs.FileKind.{file_name};
 
-/// The files that are read.
+/// The kinds of files. No command reads a placement or registrations yet.
 #[derive(Clone, Copy, Debug, PartialEq, Eq)]
 pub enum FileKind {
     Programmes,
@@ -52,7 +52,7 @@ pub enum FaultKind {
     LineTooLong,
     /// The file has more than 2^30 bytes.
     FileTooLong,
-    /// A candidate is not in the candidates file.
+    /// A candidate is not in the candidates file. No file that is read yet can have this fault.
     UnknownCandidate,
 }
 

@@ -35,7 +35,9 @@ impl Failures {
 
     // Lets the call of this number fail.
     pub(crate) fn fail_at(&mut self, call: u64) -> Result<(), AllocError>
-        ensures told { OnOk result (self.new ≡ record self.old { failing = self.old.failing ++ call ∷ [] }) }
+        ensures told { OnOk result (self.new ≡ record self.old {
+          failing = self.old.failing ++ call ∷ [];
+        }) }
         ensures same { OnErr result (self.new ≡ self.old) }
     {
         self.failing.push(call)?;

@@ -44,7 +44,10 @@ impl Model for HeldFiles {
 
     ghost Value = { Held };
 
-    ghost view = { λ h. record { entries = h.entries.items; rest = left_at h.entries.items h.place } };
+    ghost view = { λ h. record {
+      entries = h.entries.items;
+      rest = left_at h.entries.items h.place;
+    } };
 }
 
 impl HeldFiles {
@@ -59,7 +62,9 @@ impl HeldFiles {
 
     // Holds the bytes under the name, in place of older ones. The file that is being read stays as it is.
     pub(crate) fn add(&mut self, name: String, bytes: Vec<u8>) -> Result<(), AllocError>
-        ensures held { OnOk result (self.new ≡ record self.old { entries = (string_bytes name, bytes.items) ∷ self.old.entries }) }
+        ensures held { OnOk result (self.new ≡ record self.old {
+          entries = (string_bytes name, bytes.items) ∷ self.old.entries;
+        }) }
         ensures same { OnErr result (self.new ≡ self.old) }
     {
         self.entries.insert(0, Entry { name, bytes })?;
@@ -123,7 +128,8 @@ fn behind_one_more(place: Place) -> Place
 // Where the newest entry with this name stands.
 fn find_entry(entries: &[Entry], name: &str) -> Option<usize>
     ensures { MatchOption result (files_of entries.now name.now ≡ None)
-        (λ i. (files_of entries.now name.now ≡ Some (bytes_of (slice_get entries.now i))) × (i < length entries.now)) }
+        (λ i. (files_of entries.now name.now ≡ Some (bytes_of (slice_get entries.now i)))
+        × (i < length entries.now)) }
 {
     for (index, entry) in entries.iter().enumerate() {
         if entry.name.as_str() == name {
@@ -136,7 +142,8 @@ fn find_entry(entries: &[Entry], name: &str) -> Option<usize>
 // Gives the next bytes at a place, and moves it behind them.
 fn take_at(entries: &[Entry], place: &mut Place, into: &mut [u8]) -> usize
     ensures count { result ≡ min (left_count (left_at entries.now place.old)) (length into.new) }
-    ensures bytes { TakesCount (left_at entries.now place.old) (left_at entries.now place.new) result into.new }
+    ensures bytes { TakesCount (left_at entries.now place.old) (left_at entries.now place.new)
+        result into.new }
 {
     let Place::Inside(file, at) = *place else {
         return 0;

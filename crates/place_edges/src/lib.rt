@@ -1,23 +1,23 @@
 //! What the program meets of the outside: shelves, from which files are read, and sinks, to which texts are written.
 #![tactic(auto)]
 
-/// Which calls are told to fail.
+// Which calls are told to fail.
 mod failures;
-/// Files held in memory, and the one that is being read.
+// Files held in memory, and the one that is being read.
 mod held;
-/// A shelf in memory.
+// A shelf in memory.
 mod mem_shelf;
-/// A sink in memory.
+// A sink in memory.
 mod mem_sink;
-/// The files and streams of the system.
+// The files and streams of the system.
 mod real;
-/// What a shelf is.
+// What a shelf is.
 mod shelf;
-/// What a sink is.
+// What a sink is.
 mod sink;
-/// A shelf and a sink that never fail.
+// A shelf and a sink that never fail.
 mod sure;
-/// A file read whole, and a text written whole.
+// A file read whole, and a text written whole.
 mod whole;
 
 pub use mem_shelf::MemShelf;

@@ -39,7 +39,14 @@ impl Model for MemShelf {
 impl MemShelf {
     /// A shelf that holds nothing.
     pub fn new(alloc: Global) -> MemShelf
-        ensures { result ≡ record { entries = []; rest = Some []; tally = 0; failing = []; calls = 0; faults = 0 } }
+        ensures { result ≡ record {
+          entries = [];
+          rest = Some [];
+          tally = 0;
+          failing = [];
+          calls = 0;
+          faults = 0;
+        } }
     {
         MemShelf {
             held: HeldFiles::new(alloc),
@@ -50,7 +57,9 @@ impl MemShelf {
 
     /// Holds the bytes under the name, in place of older ones. What is left of the current file stays as it is.
     pub fn add(&mut self, name: String, bytes: Vec<u8>) -> Result<(), AllocError>
-        ensures held { OnOk result (self.new ≡ record self.old { entries = (string_bytes name, bytes.items) ∷ self.old.entries }) }
+        ensures held { OnOk result (self.new ≡ record self.old {
+          entries = (string_bytes name, bytes.items) ∷ self.old.entries;
+        }) }
         ensures same { OnErr result (self.new ≡ self.old) }
     {
         self.held.add(name, bytes)
@@ -58,7 +67,9 @@ impl MemShelf {
 
     /// Lets the call of this number fail, where opens and takes are counted together from 1.
     pub fn fail_at(&mut self, call: u64) -> Result<(), AllocError>
-        ensures told { OnOk result (self.new ≡ record self.old { failing = self.old.failing ++ call ∷ [] }) }
+        ensures told { OnOk result (self.new ≡ record self.old {
+          failing = self.old.failing ++ call ∷ [];
+        }) }
         ensures same { OnErr result (self.new ≡ self.old) }
     {
         self.failures.fail_at(call)

@@ -36,14 +36,22 @@ impl Model for MemSink {
       faults = s.failures.faults;
     } };
 
-    ghost invariant = { λ s. (0 < s.piece) × (s.room ≤ vec_capacity s.bytes) × (vec_len s.bytes ≤ s.room) };
+    ghost invariant = { λ s.
+        (0 < s.piece) × (s.room ≤ vec_capacity s.bytes) × (vec_len s.bytes ≤ s.room) };
 }
 
 impl MemSink {
     /// A sink with room for so many bytes, which takes at most `piece` of them at once.
     pub fn new(alloc: Global, piece: usize, room: usize) -> Result<MemSink, AllocError>
         requires { 0 < piece }
-        ensures { IfOk result (λ s. s ≡ record { bytes = []; piece = piece; room = room; failing = []; calls = 0; faults = 0 }) }
+        ensures { IfOk result (λ s. s ≡ record {
+          bytes = [];
+          piece = piece;
+          room = room;
+          failing = [];
+          calls = 0;
+          faults = 0;
+        }) }
     {
         Ok(MemSink {
             bytes: Vec::with_capacity(alloc, room)?,
@@ -55,7 +63,9 @@ impl MemSink {
 
     /// Lets the put of this number fail, counted from 1.
     pub fn fail_at(&mut self, call: u64) -> Result<(), AllocError>
-        ensures told { OnOk result (self.new ≡ record self.old { failing = self.old.failing ++ call ∷ [] }) }
+        ensures told { OnOk result (self.new ≡ record self.old {
+          failing = self.old.failing ++ call ∷ [];
+        }) }
         ensures same { OnErr result (self.new ≡ self.old) }
     {
         self.failures.fail_at(call)

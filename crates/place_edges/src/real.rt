@@ -57,7 +57,9 @@ impl<R: Files + Drop> Shelf for RealShelf<R> {
 
     fn open(&mut self, name: &str) -> Result<(), Failed>
         ensures cause { HasCause self.old.faults self.new.faults result }
-        ensures changes { self.new ≡ record self.old { faults = faults_after self.old.faults result } }
+        ensures changes { self.new ≡ record self.old {
+          faults = faults_after self.old.faults result;
+        } }
     {
         self.file = None;
         match File::open(&self.rt, name) {
@@ -147,7 +149,7 @@ impl<W: Write> Sink for RealSink<W> {
 }
 
 // Reads once, and again where the system interrupted the read.
-fn read_once<R: Read>(reader: &mut R, into: &mut [u8]) -> io::Result<usize>
+pub(crate) fn read_once<R: Read>(reader: &mut R, into: &mut [u8]) -> io::Result<usize>
     ensures { ReadsAtMost result into.new }
 {
     for _ in 0..u64::MAX {

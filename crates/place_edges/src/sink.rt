@@ -16,8 +16,9 @@ pub trait Sink {
     /// How often a call has failed, up to the count's last value, 2^64 - 1.
     ghost faults: { Self → ℕ };
 
-    /// Appends the first bytes and says how many they are, at least one where there is one. It fails only where the
-    /// count of faults rises, and then nothing was appended.
+    /// Appends the first bytes and says how many they are, at least one where there is one. It
+    /// fails only where the count of faults rises; where the sink tells its bytes, nothing was
+    /// appended then.
     fn put(&mut self, bytes: &[u8]) -> Result<usize, Failed>
         ensures bound { WritesAtMost result bytes.now }
         ensures bytes { Puts (written self.old) (written self.new) result bytes.now }

@@ -1,10 +1,11 @@
 // What the edges do at each call, in tables.
+use crate::real::read_once;
 use crate::{
     Failed, MemShelf, MemSink, ReadStop, RealShelf, RealSink, Shelf, Sink, SureShelf, SureSink,
     read_whole, write_whole,
 };
 use std::alloc::Global;
-use std::io::{self, ErrorKind, Write};
+use std::io::{self, ErrorKind, Read, Write};
 use std::test::Fail;
 
 fn text(alloc: Global, text: &str) -> Result<String, Fail> {
@@ -158,4 +159,38 @@ fn an_interrupted_write_is_no_fault(rt: HostRuntime) {
         assert_eq!(rt; sink.put(b"abc"), answer, "{why}");
     }
     assert_eq!(rt; sink.put(b""), Ok(0));
+}
+
+// A stream whose reads answer in turn: the first is interrupted, the second gives a byte, and from
+// then on they fail.
+#[derive(Drop)]
+struct Source {
+    reads: u8,
+}
+
+impl Read for Source {
+    fn read(&mut self, into: &mut [u8]) -> io::Result<usize> {
+        self.reads = self.reads.saturating_add(1);
+        match (self.reads, into.first_mut()) {
+            (1, _) => Err(ErrorKind::Interrupted.into()),
+            (2, Some(first)) => {
+                *first = b'a';
+                Ok(1)
+            }
+            _ => Err(ErrorKind::BrokenPipe.into()),
+        }
+    }
+}
+
+#[test]
+fn an_interrupted_read_is_no_fault(rt: HostRuntime) {
+    let mut source = Source { reads: 0 };
+    let mut into = [0u8; 2];
+    let count = read_once(&mut source, &mut into).ok();
+    assert_eq!(rt; count, Some(1), "after one interrupted read");
+    assert_eq!(rt; into[0], b'a');
+    assert!(rt;
+        read_once(&mut source, &mut into).is_err(),
+        "the read fails"
+    );
 }

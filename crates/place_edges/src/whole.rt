@@ -52,15 +52,19 @@ pub fn read_whole<H: Shelf>(alloc: Global, shelf: &mut H, name: &str) -> Result<
     ensures bytes { IfOk result (λ bytes. HasBytes (H.files shelf.old) name.now bytes.items) }
     ensures few { IfOk result (λ bytes. vec_len bytes ≤ 2 ^ 30) }
 
-    // A file is too long exactly where more than 2^30 bytes were given.
+    // A file is too long only where more than 2^30 bytes were given, and no more were given where
+    // it is read or the shelf fails. Where memory is refused no clause bounds them.
     ensures long { IsErrOf result ReadStop.TooLong → HasMore (H.files shelf.old) name.now (2 ^ 30) }
-    ensures long_cause { IsErrOf result ReadStop.TooLong → GaveMore (H.tally shelf.old) (H.tally shelf.new) (2 ^ 30) }
+    ensures long_cause { IsErrOf result ReadStop.TooLong
+        → GaveMore (H.tally shelf.old) (H.tally shelf.new) (2 ^ 30) }
     ensures tally { H.tally shelf.old ≤ H.tally shelf.new }
     ensures short { OnOk result (H.tally shelf.new ≤ H.tally shelf.old + 2 ^ 30) }
-    ensures short_failed { IsErrOf result ReadStop.Failed → H.tally shelf.new ≤ H.tally shelf.old + 2 ^ 30 }
+    ensures short_failed { IsErrOf result ReadStop.Failed
+        → H.tally shelf.new ≤ H.tally shelf.old + 2 ^ 30 }
 
     // A read fails only where the shelf failed.
-    ensures failed { IsErrOf result ReadStop.Failed → Rose (H.faults shelf.old) (H.faults shelf.new) }
+    ensures failed { IsErrOf result ReadStop.Failed
+        → Rose (H.faults shelf.old) (H.faults shelf.new) }
     ensures later { H.faults shelf.old ≤ H.faults shelf.new }
 
     // What is held and granted stays.
@@ -85,7 +89,8 @@ pub fn read_whole<H: Shelf>(alloc: Global, shelf: &mut H, name: &str) -> Result<
 /// Appends all the bytes. Where a put fails, those before it stay appended.
 pub fn write_whole<K: Sink>(sink: &mut K, bytes: &[u8]) -> Result<(), Failed>
     ensures whole { OnOk result (Appended (K.written sink.old) (K.written sink.new) bytes.now) }
-    ensures prefix { OnErr result (AppendedPrefix (K.written sink.old) (K.written sink.new) bytes.now) }
+    ensures prefix { OnErr result
+        (AppendedPrefix (K.written sink.old) (K.written sink.new) bytes.now) }
     ensures failed { OnErr result (Rose (K.faults sink.old) (K.faults sink.new)) }
     ensures later { K.faults sink.old ≤ K.faults sink.new }
 {
