@@ -11,23 +11,12 @@ use std::alloc::{AllocError, Global};
 pub fn run_plain(alloc: Global, dict: &Dict) -> Result<Vec<u32>, AllocError>
     ensures { IfOk result (λ found. found.items ≡ choices dict.now) }
 {
-    let mut seats = fills(alloc, dict)?;
+    let mut seats = dict.fills(alloc)?;
     let mut found = Vec::new(alloc);
     for turn in 0..dict.turns() {
         found.push(choose(dict, &mut seats, turn))?;
     }
     Ok(found)
-}
-
-// The seats taken before the first turn.
-fn fills(alloc: Global, dict: &Dict) -> Result<Vec<u32>, AllocError>
-    ensures { IfOk result (λ seats. seats.items ≡ dict.now.fill) }
-{
-    let mut seats = Vec::new(alloc);
-    for programme in 0..dict.programmes() {
-        seats.push(dict.fill(programme))?;
-    }
-    Ok(seats)
 }
 
 // What the turn chooses, whose seat is then taken.

@@ -1,22 +1,10 @@
 // What the machine has at its opening.
 
-ghost use Rattle.std.specs.Prelude.{◌≡◌, IfOk};
+ghost use Rattle.std.specs.Prelude.{IfOk};
 ghost use Rattle.interleaving_core.specs.Machines.{IsTeam};
 
 use crate::team::Worker;
-use market::Dict;
 use std::alloc::{AllocError, Global};
-
-// The seats of each programme that are taken before the first turn.
-pub(crate) fn fills(alloc: Global, dict: &Dict) -> Result<Vec<u32>, AllocError>
-    ensures { IfOk result (λ seats. seats.items ≡ dict.now.fill) }
-{
-    let mut seats = Vec::new(alloc);
-    for programme in 0..dict.programmes() {
-        seats.push(dict.fill(programme))?;
-    }
-    Ok(seats)
-}
 
 // Workers at the opening, each with room for all turns.
 pub(crate) fn fresh_workers(

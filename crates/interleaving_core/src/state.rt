@@ -12,7 +12,7 @@ mod claimant;
 mod mark;
 
 use crate::events::{CoreEvent, NotNow, Told};
-use crate::opening::{fills, fresh_workers};
+use crate::opening::fresh_workers;
 use crate::parts::Cell;
 use crate::team::Worker;
 use market::Dict;
@@ -53,7 +53,7 @@ impl CoreState {
         ensures { IfOk result (λ s. (s.dict ≡ dict) × (s.core ≡ opening dict workers)) }
     {
         let turns = dict.turns();
-        let seats = fills(alloc, &dict)?;
+        let seats = dict.fills(alloc)?;
         let cells = vec![in alloc; Cell::Empty; turns as usize]?;
         let workers = fresh_workers(alloc, workers, turns)?;
         Ok(CoreState {

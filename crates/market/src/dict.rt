@@ -1,10 +1,11 @@
 // One serial dictatorship over programmes with numbers of their own.
 
-ghost use Rattle.std.specs.Prelude.{◌≡◌, ◌<◌, length, slice_index};
+ghost use Rattle.std.specs.Prelude.{◌≡◌, ◌<◌, length, slice_index, IfOk};
 ghost use Rattle.market.specs.Dictatorships.{IsValidDictatorship, list_at};
 
 use crate::List;
 use crate::flat_lists::FlatLists;
+use std::alloc::{AllocError, Global};
 use std::marker::Model;
 
 /// The lists of all turns, in one piece or each by itself.
@@ -106,6 +107,13 @@ impl Dict {
         ensures { result ≡ slice_index self.now.fill programme }
     {
         self.fill[programme as usize]
+    }
+
+    /// The seats of each programme that are taken before the first turn.
+    pub fn fills(&self, alloc: Global) -> Result<Vec<u32>, AllocError>
+        ensures { IfOk result (λ seats. seats.items ≡ self.now.fill) }
+    {
+        Vec::from_slice(alloc, &self.fill)
     }
 
     /// The list of a turn: programmes, best first.

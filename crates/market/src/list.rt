@@ -1,7 +1,8 @@
 // A list of numbers.
 
-ghost use Rattle.std.specs.Prelude.{◌≡◌, ◌<◌, length, slice_set};
+ghost use Rattle.std.specs.Prelude.{◌≡◌, ◌<◌, length, slice_set, IfOk};
 
+use std::alloc::{AllocError, Global};
 use std::marker::Model;
 
 /// A list of numbers, which contracts see as the list itself.
@@ -25,6 +26,13 @@ impl List {
         ensures { result ≡ items.items }
     {
         List { items }
+    }
+
+    /// A copy of these numbers, in their order.
+    pub fn from_slice(alloc: Global, items: &[u32]) -> Result<List, AllocError>
+        ensures { IfOk result (λ list. list ≡ items.now) }
+    {
+        Ok(List::from_vec(Vec::from_slice(alloc, items)?))
     }
 
     /// The numbers as a slice.

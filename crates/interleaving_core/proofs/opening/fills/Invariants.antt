@@ -1,5 +1,0 @@
-use Rattle.std.proofs.Common.{◌≡◌, take}
-use Rattle.interleaving_core.proofs.opening.fills.Given as goal
-
-abbrev pub invariant-loop-programme : goal.invariant-loop-programme
-invariant-loop-programme l = l.seats.items ≡ take l.programme l.dict.fill
