@@ -1,11 +1,14 @@
 -- Counts and sums over the numbers below n.
-use Rattle.std.proofs.Common.{◌≡◌, ℕ, zero, suc, ◌<◌, ◌≤◌, Bool, true, refl, sym, ap, ◌∙◌, subst, arith, ⊎_elim}
+use Rattle.std.proofs.Common.{◌≡◌, ℕ, zero, suc, ◌+◌, ◌<◌, ◌≤◌, Bool, true, cond, refl, sym, ap, ◌∙◌, subst, arith, ⊎_elim}
 use Rattle.std.proofs.lemmas.Bool.{cases_lt, cases_Bool}
 use Rattle.market.specs.Counting.{count_below, sum_below}
 use Rattle.market.proofs.Turns.{one_more, no_more}
 
 pub count_mono : (f : ℕ → Bool) (n : ℕ) → count_below f n ≤ count_below f (suc n)
 count_mono f n = omega arith
+
+pub suc_count : (f : ℕ → Bool) (k : ℕ) → count_below f (k + 1) ≡ count_below f k + cond (f k) 1 0
+suc_count f k = let e : k + 1 ≡ suc k = omega arith in ap (count_below f) e
 
 pub count_one : (f : ℕ → Bool) (n i : ℕ) → i < n → f i ≡ true → 1 ≤ count_below f n
 count_one f zero i l t = absurd (omega arith)

@@ -1,7 +1,7 @@
 -- The cut of one round by any choices, candidate by candidate, and the first turn of each type that it
--- changes.
-use Rattle.std.proofs.Common.{◌≡◌, ℕ, suc, ◌+◌, ◌<◌, ◌≤◌, Bool, true, false, cond, not, List, length, Option, Some, None, refl, sym, ap, ◌∙◌, subst, arith, set, ⊎_elim}
-use Rattle.std.specs.Prelude.{is_some, slice_index, if◌then◌else◌}
+-- changes: for the reruns of changed types, which no crate uses yet.
+use Rattle.std.proofs.Common.{◌≡◌, ℕ, ◌+◌, ◌<◌, ◌≤◌, Bool, true, false, cond, not, List, length, Option, Some, None, refl, sym, ap, ◌∙◌, subst, arith, set, ⊎_elim}
+use Rattle.std.specs.Prelude.{is_some, slice_index}
 use Rattle.std.specs.List.{position_or_len}
 use Rattle.std.proofs.lemmas.Bool.{cases_lt, cases_eq, cases_Bool, false≢true, lt-ltb, le-ltb, ltb-true}
 use Rattle.std.proofs.lemmas.List.{get_or-set_same, get_or-set_other, length-set}
@@ -13,8 +13,8 @@ use Rattle.market.specs.Mechanism.{IsCuts, has_several_in, best_in, cut_in, cuts
 use Rattle.market.specs.Choices.{choice_in, IsWithinCuts}
 use Rattle.market.specs.Reruns.{is_beyond, is_cut_away, changed_turn, turn_or_none, least_turn, noted}
 use Rattle.market.specs.declared.programme.Prog.{Prog}
-use Rattle.market.proofs.Turns.{one_more, no_more, is_programme-from}
-use Rattle.market.proofs.Counts.{count_some_two}
+use Rattle.market.proofs.Turns.{one_more, no_more, is_programme-from, some_from}
+use Rattle.market.proofs.Counts.{suc_count, count_some_two}
 use Rattle.market.proofs.Tentatives.{turn_at, candidate_at}
 
 pub cut-several : (m : Problem) (c : ℕ → ℕ → Option ℕ) (cuts : List ℕ) (i : ℕ)
@@ -40,10 +40,6 @@ first-le f xs p t l =
     (λ ge. ge)
     (cases_lt (place_of p xs) (position_or_len f xs))
 
-some_choice : (o : Option ℕ) → is_some o ≡ true → (p : ℕ) × (o ≡ Some p)
-some_choice None e = absurd (false≢true e)
-some_choice (Some p) e = (p, refl)
-
 pub best-within : (m : Problem) (table : List (List (Option ℕ))) (cuts : List ℕ) (i : ℕ)
     → IsCuts m cuts → IsWithinCuts m table cuts → i < length m.lists
     → has_several_in m (choice_in table) i ≡ true
@@ -51,7 +47,7 @@ pub best-within : (m : Problem) (table : List (List (Option ℕ))) (cuts : List 
 unfolding has_several_in best_in
 best-within m table cuts i f w l e =
     let two = count_some_two (λ t. is_some (choice_in table t i)) m.types (ltb-true _ _ e) in
-    let s = some_choice (choice_in table two.first i) two.first_passes in
+    let s = some_from (choice_in table two.first i) two.first_passes in
     let in_cut = w.within two.first i s.0 s.1 in
     let fits = f.within i l in
     let k = w.kind two.first i s.0 s.1 in
@@ -94,10 +90,6 @@ IsCutUpto-none m c old e =
       open' = λ i l. refl;
       counted = refl;
     }
-
-suc_count : (f : ℕ → Bool) (k : ℕ)
-    → count_below f (k + 1) ≡ count_below f k + (if f k then 1 else 0)
-suc_count f k = let e : k + 1 ≡ suc k = omega arith in ap (count_below f) e
 
 pub IsCutUpto-cut : (m : Problem) (c : ℕ → ℕ → Option ℕ) (old new : List ℕ) (k n x : ℕ)
     → k < length m.lists → has_several_in m c k ≡ true → x ≡ best_in m c k + 1

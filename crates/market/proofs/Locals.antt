@@ -1,6 +1,6 @@
 -- The dictatorship over local numbers makes the choices of the one over the market's own numbers: by
 -- induction on the turns as many seats are taken under both, so the same entries are open.
-use Rattle.std.proofs.Common.{◌≡◌, ◌≢◌, ℕ, zero, suc, ◌+◌, ◌-◌, ◌<◌, ◌≤◌, Bool, true, false, cond, not, List, [], ◌∷◌, length, Option, Some, None, refl, sym, ap, ◌∙◌, subst, arith, map, take, drop, set, replicate, ⊎_elim}
+use Rattle.std.proofs.Common.{◌≡◌, ◌≢◌, ℕ, zero, suc, ◌+◌, ◌-◌, ◌<◌, ◌≤◌, Bool, true, false, cond, List, [], ◌∷◌, length, Option, Some, None, refl, sym, ap, ◌∙◌, subst, arith, map, take, drop, set, replicate, ⊎_elim}
 use Rattle.std.specs.Prelude.{slice_index, find, ◌==◌, nat_lt, slice_get}
 use Rattle.std.specs.Option.{option_map}
 use Rattle.std.specs.List.{range_with_len, position_or_len}
@@ -14,7 +14,7 @@ use Rattle.market.specs.Stability.{held_by}
 use Rattle.market.specs.Dictatorships.{Dictatorship, has_seat, list_at, first_open, choice, choices, picked, taken, IsValidDictatorship}
 use Rattle.market.specs.Mechanism.{is_offered, turn_list, type_dictatorship, tentative}
 use Rattle.market.specs.LocalNumbers.{programmes_of, local_of, local_list, local_dictatorship, IsFill}
-use Rattle.market.proofs.Firsts.{find_listed, place_get}
+use Rattle.market.proofs.Firsts.{find_listed, place_get, place_step}
 use Rattle.market.proofs.Turns.{is_open, picked-find, taken-zero, taken-suc}
 use Rattle.market.proofs.Tentatives.{type-quota, type-fill, type-list, offered-kind, turn_at, candidate_at, tentative-picked, tentative-turn, zeros}
 use Rattle.market.proofs.Dicts.{front_entry, filter_within, local_back, local_lt, local_valid}
@@ -33,10 +33,6 @@ find-map f h g [] e = refl
 find-map f h g (x ∷ xs) e =
     find_step (f (g x)) (h x) x x g (find f (map g xs)) (find h xs) (e 0 (omega arith))
     (find-map f h g xs (λ j l. e (suc j) (omega arith)))
-
-place_step : (a b : Bool) (m n : ℕ) → a ≡ b → m ≡ n
-    → cond (not a) (1 + m) 0 ≡ cond (not b) (1 + n) 0
-place_step a b m n e h = cc
 
 position-map : (f h : ℕ → Bool) (g : ℕ → ℕ) (xs : List ℕ)
     → ((j : ℕ) → j < length xs → f (g (slice_index xs j)) ≡ h (slice_index xs j))

@@ -1,7 +1,7 @@
 -- The loops of the plain mechanism: one round's cuts and placement, candidate by candidate, and the rounds
 -- until one is settled.
 use Rattle.std.proofs.Common.{◌≡◌, ◌≢◌, ℕ, zero, suc, ◌+◌, ◌*◌, ◌<◌, ◌≤◌, Bool, true, false, cond, List, [], length, Option, refl, sym, ap, ◌∙◌, subst, arith, map, set, ⊎_elim}
-use Rattle.std.specs.Prelude.{slice_index, slice_index_or, is_some, nat_lt, if◌then◌else◌}
+use Rattle.std.specs.Prelude.{slice_index, slice_index_or, is_some, nat_lt}
 use Rattle.std.specs.List.{position_or_len}
 use Rattle.std.proofs.lemmas.Bool.{cases_lt, cases_eq, cases_Bool, eq-eqb, ne_eqb, false≢true}
 use Rattle.std.proofs.lemmas.List.{get_or-set_same, get_or-set_other, length-set, length-map, ext_get_or}
@@ -15,6 +15,7 @@ use Rattle.market.specs.Choices.{IsRound}
 use Rattle.market.specs.declared.placement.Outcome.{Outcome}
 use Rattle.market.proofs.Seats.{position_agree}
 use Rattle.market.proofs.Turns.{one_more, no_more}
+use Rattle.market.proofs.Counts.{suc_count}
 use Rattle.market.proofs.Rounds.{next_cut-lt, next_cut-several, next_cut-same, next_cuts-at, next_cuts-le, cuts_after-suc, settled-none, cutting_rounds-settles, first_total}
 use Rattle.market.proofs.Dicts.{entry_lt}
 
@@ -67,10 +68,6 @@ IsCutUpto-none m old e =
       open' = λ i l. refl;
       counted = refl;
     }
-
-suc_count : (f : ℕ → Bool) (k : ℕ)
-    → count_below f (k + 1) ≡ count_below f k + (if f k then 1 else 0)
-suc_count f k = let e : k + 1 ≡ suc k = omega arith in ap (count_below f) e
 
 pub IsCutUpto-cut : (m : Problem) (old new : List ℕ) (k c x : ℕ) → k < length m.lists
     → has_several m old k ≡ true → x ≡ best_place m old k + 1 → IsCutUpto m old k new c

@@ -1,5 +1,6 @@
 -- A round that starts from the kept choices of the round before it: the rows of a table, the seats that
--- the kept turns take, and the turns that are run.
+-- the kept turns take, and the turns that are run. It is for the reruns of changed types, which no crate
+-- uses yet.
 use Rattle.std.proofs.Common.{◌≡◌, ◌≢◌, ℕ, zero, suc, ◌+◌, ◌<◌, ◌≤◌, Bool, cond, not, List, [], length, Option, Some, None, refl, sym, ap, ◌∙◌, subst, arith, get_or, map, set, replicate, ⊎_elim}
 use Rattle.std.specs.Prelude.{is_some, nat_lt, slice_get, slice_index, slice_index_or, unwrap_or}
 use Rattle.std.specs.List.{position_or_len, range_with_len}

@@ -1,5 +1,6 @@
 -- What a cut leaves: a turn whose choice stands within the new cut, with the same earlier choices, keeps
--- its choice. So up to the first changed turn the next round makes the choices of this one.
+-- its choice. So up to the first changed turn the next round makes the choices of this one. It is for the
+-- reruns of changed types, which no crate uses yet.
 use Rattle.std.proofs.Common.{◌≡◌, ℕ, zero, suc, ◌+◌, ◌<◌, ◌≤◌, Bool, false, not, ◌&&◌, List, [], ◌∷◌, ◌++◌, length, Option, Some, None, refl, sym, ap, ◌∙◌, subst, arith, get_or, map, take, replicate, ⊎_elim}
 use Rattle.std.specs.Prelude.{find, nat_lt, slice_index}
 use Rattle.std.proofs.lemmas.Bool.{cases_lt, cases_Bool, false≢true, ltb-true}

@@ -1,6 +1,6 @@
 -- Who is cut after a round, and where; and that the rounds end. Who takes several loses an entry, so the
 -- entries left fall from round to round until nobody does.
-use Rattle.std.proofs.Common.{◌≡◌, ℕ, zero, suc, ◌+◌, ◌<◌, ◌≤◌, Bool, true, false, cond, List, [], length, Option, Some, None, refl, sym, ap, ◌∙◌, subst, arith, ⊎_elim, map}
+use Rattle.std.proofs.Common.{◌≡◌, ℕ, zero, suc, ◌+◌, ◌<◌, ◌≤◌, Bool, true, false, cond, List, [], length, Option, Some, refl, sym, ap, ◌∙◌, subst, arith, ⊎_elim, map}
 use Rattle.std.specs.Prelude.{find, slice_index, is_some, if◌then◌else◌}
 use Rattle.std.specs.List.{range_with_len}
 use Rattle.std.proofs.lemmas.Bool.{cases_eq, cases_lt, cases_order, cases_Bool, false≢true, eqb-true, eqb-false, ltb-true, lt-ltb}
@@ -12,13 +12,9 @@ use Rattle.market.specs.Counting.{count_below}
 use Rattle.market.specs.Problems.{Problem, place_of, kind_of, list_of}
 use Rattle.market.specs.Mechanism.{tentative, has_several, is_taken, best_place, next_cut, next_cuts, whole_cuts, cuts_after, several_count, is_settled, settled_from, entry_count, entries_left, mechanism_rounds, RoundsEnd, cutting_rounds, placed_at, best_in, cut_in, cuts_in, has_several_in, several_in}
 use Rattle.market.proofs.Firsts.{find_passes, find_first, first_at, place_same}
-use Rattle.market.proofs.Turns.{is_programme-true, is_programme-from}
+use Rattle.market.proofs.Turns.{is_programme-true, is_programme-from, some_from}
 use Rattle.market.proofs.Counts.{Passes, count_one, count_two, count_some, count_some_two, sum_lt, sum_same}
 use Rattle.market.proofs.Tentatives.{tentative-takes}
-
-some_from : (o : Option ℕ) → is_some o ≡ true → (p : ℕ) × (o ≡ Some p)
-some_from None e = absurd (false≢true e)
-some_from (Some p) e = (p, refl)
 
 is_some_from : (o : Option ℕ) (p : ℕ) → o ≡ Some p → is_some o ≡ true
 is_some_from o p e = ap (λ (x : Option ℕ). is_some x) e

@@ -1,15 +1,16 @@
 -- Seats kept in an array, against the choices counted: for each programme its fill, and the turns so far
 -- that took it.
-use Rattle.std.proofs.Common.{◌≡◌, ℕ, suc, ◌+◌, ◌<◌, ◌≤◌, Bool, cond, not, List, [], ◌∷◌, ◌++◌, length, Some, refl, sym, ap, ◌∙◌, subst, arith, set, take, map, ⊎_elim}
+use Rattle.std.proofs.Common.{◌≡◌, ℕ, suc, ◌+◌, ◌<◌, ◌≤◌, Bool, not, List, [], ◌∷◌, ◌++◌, length, Some, refl, sym, ap, ◌∙◌, subst, arith, set, map, ⊎_elim}
 use Rattle.std.specs.Prelude.{slice_index, slice_get, nat_lt}
 use Rattle.std.specs.List.{position_or_len, range_with_len}
 use Rattle.std.proofs.lemmas.Bool.{cases_eq, ltb-true, ne_eqb}
-use Rattle.std.proofs.lemmas.List.{get_or-set_same, get_or-set_other, length-set, take_more}
+use Rattle.std.proofs.lemmas.List.{get_or-set_same, get_or-set_other, length-set}
 use Rattle.std.proofs.lemmas.List.FromFn.{map-range_with_len_more}
 use Rattle.std.proofs.lemmas.List.Sums.{passes_at_first, prefix_len-le-length}
 use Rattle.std.proofs.lemmas.Option.{slice_get-get_or, slice_get_past}
 use Rattle.market.specs.Counting.{is_programme}
 use Rattle.market.specs.Dictatorships.{Dictatorship, has_seat, list_at, first_open, chosen, choice, choices, picked, taken, IsValidDictatorship, IsSeatsAt}
+use Rattle.market.proofs.Firsts.{place_step}
 use Rattle.market.proofs.Turns.{taken-zero, taken-suc, one_more, no_more, is_programme-same}
 
 -- whether an array of seats has room
@@ -25,16 +26,12 @@ IsSeatsAt-start d seats v e =
           omega arith;
     }
 
-agree_step : (a b : Bool) (m n : ℕ) → a ≡ b → m ≡ n
-    → cond (not a) (1 + m) 0 ≡ cond (not b) (1 + n) 0
-agree_step a b m n e f = cc
-
 pub position_agree : (f g : ℕ → Bool) (xs : List ℕ)
     → ((j : ℕ) → j < length xs → f (slice_index xs j) ≡ g (slice_index xs j))
     → position_or_len f xs ≡ position_or_len g xs
 position_agree f g [] h = refl
 position_agree f g (x ∷ xs) h =
-    agree_step (f x) (g x) (position_or_len f xs) (position_or_len g xs) (h 0 (omega arith))
+    place_step (f x) (g x) (position_or_len f xs) (position_or_len g xs) (h 0 (omega arith))
     (position_agree f g xs (λ j l. h (suc j) (omega arith)))
 
 -- the first place with room by the array is the choice
@@ -130,13 +127,6 @@ pub choices-all : (d : Dictatorship) (n : ℕ) → n ≡ length d.lists
     → map (choice d) (range_with_len 0 n) ≡ choices d
 unfolding choices
 choices-all d n e = ap (λ (k : ℕ). map (choice d) (range_with_len 0 k)) e
-
--- a copy one entry further
-pub take_next : (xs ys zs : List ℕ) (k x : ℕ) → k < length xs → ys ≡ take k xs
-    → x ≡ slice_index xs k → zs ≡ ys ++ x ∷ [] → zs ≡ take (k + 1) xs
-take_next xs ys zs k x l y e z =
-    z ∙ ap (λ (a : List ℕ). a ++ x ∷ []) y ∙ ap (λ (n : ℕ). take k xs ++ n ∷ []) e
-    ∙ sym (take_more xs k 0 l)
 
 -- a place fits 32 bits
 pub place-small : (d : Dictatorship) (k : ℕ) (f : ℕ → Bool) → IsValidDictatorship d

@@ -1,7 +1,7 @@
 -- What a serial dictatorship does, turn by turn: what is picked was open, and by induction on the turns
 -- no programme is filled past its quota.
 use Rattle.std.proofs.Common.{◌≡◌, ℕ, zero, suc, ◌+◌, ◌<◌, ◌≤◌, Bool, true, false, cond, [], ◌∷◌, ◌++◌, length, Option, Some, None, refl, sym, ap, ◌∙◌, arith, length-append, ⊎_elim}
-use Rattle.std.specs.Prelude.{find, slice_index}
+use Rattle.std.specs.Prelude.{find, is_some, slice_index}
 use Rattle.std.proofs.lemmas.Bool.{ltb-true, lt-ltb, eqb-true, eq-eqb, cases_Bool, false≢true}
 use Rattle.std.proofs.lemmas.List.Folds.{find_at}
 use Rattle.std.proofs.lemmas.List.Sums.{sum_by_push}
@@ -70,6 +70,11 @@ is_programme-from p o e = ap (is_programme p) e ∙ is_programme-same p
 pub is_programme-true : (p : ℕ) (o : Option ℕ) → is_programme p o ≡ true → o ≡ Some p
 is_programme-true p None e = absurd (false≢true e)
 is_programme-true p (Some q) e = ap Some (eqb-true q p e)
+
+-- a choice that is not none
+pub some_from : (o : Option ℕ) → is_some o ≡ true → (p : ℕ) × (o ≡ Some p)
+some_from None e = absurd (false≢true e)
+some_from (Some p) e = (p, refl)
 
 pub taken-grows : (d : Dictatorship) (k p : ℕ) → taken d k p ≤ taken d (suc k) p
 taken-grows d k p = let e = taken-suc d k p in omega arith
