@@ -1,8 +1,8 @@
-// Worked examples, run: two markets by the plain placer, and one dictatorship. Each call that takes
-// memory is made with ample memory.
+// Worked examples, run: three markets, and one dictatorship. Each call that takes memory is made with
+// ample memory.
 
 ghost use Rattle.std.specs.Prelude.{◌≡◌, ◌<◌, ◌∷◌, [], IfOk};
-ghost use Rattle.market.specs.Examples.{exchange, three_rounds, two_turns};
+ghost use Rattle.market.specs.Examples.{exchange, freed_seat, three_rounds, two_turns};
 
 use crate::{PlainPlacer, mechanism_plain, run_plain};
 use market::{Dict, List, Market, Outcome, Placer, Prog, Steps};
@@ -12,19 +12,12 @@ use std::sync::ledger::{Blank, Ledger};
 use std::test::Fail;
 use std::thread::Threads;
 
-// A list of these numbers.
-fn list(alloc: Global, items: &[u32]) -> Result<List, AllocError>
-    ensures { IfOk result (λ l. l ≡ items.now) }
-{
-    Ok(List::from_vec(Vec::from_slice(alloc, items)?))
-}
-
 // Two lists of two numbers.
 fn two_lists(alloc: Global, first: &[u32], second: &[u32]) -> Result<Vec<List>, AllocError>
     ensures { IfOk result (λ lists. lists.items ≡ first.now ∷ second.now ∷ []) }
 {
-    let first = list(alloc, first)?;
-    let second = list(alloc, second)?;
+    let first = List::from_slice(alloc, first)?;
+    let second = List::from_slice(alloc, second)?;
     Ok(vec![in alloc; first, second]?)
 }
 
@@ -39,6 +32,17 @@ fn exchange(alloc: Global) -> Result<Market, AllocError>
     Market::build(alloc, 2, programmes, lists, orders, ranks)
 }
 
+// The first candidate is best in both types; the second wants one of the two programmes.
+fn freed_seat(alloc: Global) -> Result<Market, AllocError>
+    ensures { IfOk result (λ m. m ≡ freed_seat) }
+{
+    let programmes = vec![in alloc; Prog { kind: 0, quota: 1 }, Prog { kind: 1, quota: 1 }]?;
+    let lists = two_lists(alloc, &[0, 1], &[1])?;
+    let orders = two_lists(alloc, &[0, 1], &[0, 1])?;
+    let ranks = two_lists(alloc, &[1, 2], &[1, 2])?;
+    Market::build(alloc, 2, programmes, lists, orders, ranks)
+}
+
 // One cut leads to the next.
 fn three_rounds(alloc: Global) -> Result<Market, AllocError>
     ensures { IfOk result (λ m. m ≡ three_rounds) }
@@ -48,9 +52,9 @@ fn three_rounds(alloc: Global) -> Result<Market, AllocError>
         Prog { kind: 0, quota: 1 },
         Prog { kind: 1, quota: 1 },
     ]?;
-    let first = list(alloc, &[0, 2])?;
-    let second = list(alloc, &[2, 0, 1])?;
-    let third = list(alloc, &[1])?;
+    let first = List::from_slice(alloc, &[0, 2])?;
+    let second = List::from_slice(alloc, &[2, 0, 1])?;
+    let third = List::from_slice(alloc, &[1])?;
     let lists = vec![in alloc; first, second, third]?;
     let orders = two_lists(alloc, &[0, 1, 2], &[0, 1, 2])?;
     let ranks = two_lists(alloc, &[1, 2, 3], &[1, 2, 3])?;
@@ -112,10 +116,26 @@ fn nobody_gets_a_first_wish_in_the_exchange(rt: HostRuntime) -> Result<(), Fail>
     Ok(())
 }
 
+// In the first round the first candidate takes both seats, and is cut to the first of them. In the
+// second the other one takes the second seat. Each round has the two turns of two types.
+#[test]
+fn a_cut_frees_a_seat(rt: HostRuntime) -> Result<(), Fail> {
+    let alloc = rt.alloc();
+    let outcome = mechanism_plain(alloc, &freed_seat(alloc)?)?;
+    assert_eq!(rt; outcome.placement.held(), &[Some(0), Some(1)][..]);
+    assert_eq!(rt; (outcome.rounds, outcome.cuts, outcome.turns), (2, 1, 8));
+    Ok(())
+}
+
+// The placer gives what the mechanism gives.
 #[test]
 fn one_cut_leads_to_the_next(rt: HostRuntime) -> Result<(), Fail> {
-    let outcome = placed::<HostRuntime, Brand>(&rt, rt.alloc(), Blank::new(1))?;
-    assert_eq!(rt; outcome.placement.held(), &[Some(0), Some(2), Some(1)][..]);
-    assert_eq!(rt; (outcome.rounds, outcome.cuts, outcome.turns), (3, 2, 18));
+    let alloc = rt.alloc();
+    let by_placer = placed::<HostRuntime, Brand>(&rt, alloc, Blank::new(1))?;
+    let by_mechanism = mechanism_plain(alloc, &three_rounds(alloc)?)?;
+    for outcome in [&by_placer, &by_mechanism] {
+        assert_eq!(rt; outcome.placement.held(), &[Some(0), Some(2), Some(1)][..]);
+        assert_eq!(rt; (outcome.rounds, outcome.cuts, outcome.turns), (3, 2, 18));
+    }
     Ok(())
 }

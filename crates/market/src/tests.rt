@@ -6,14 +6,8 @@ ghost use Rattle.market.specs.Examples.{three_rounds};
 
 use crate::{Cuts, List, Market, Placement, Prog, Tentative};
 use std::alloc::{AllocError, Global};
+use std::process::Abort;
 use std::test::Fail;
-
-// A list of these numbers.
-fn list(alloc: Global, items: &[u32]) -> Result<List, AllocError>
-    ensures { IfOk result (λ l. l ≡ items.now) }
-{
-    Ok(List::from_vec(Vec::from_slice(alloc, items)?))
-}
 
 // The market of three rounds.
 fn three_rounds(alloc: Global) -> Result<Market, AllocError>
@@ -24,21 +18,33 @@ fn three_rounds(alloc: Global) -> Result<Market, AllocError>
         Prog { kind: 0, quota: 1 },
         Prog { kind: 1, quota: 1 },
     ]?;
-    let first = list(alloc, &[0, 2])?;
-    let second = list(alloc, &[2, 0, 1])?;
-    let third = list(alloc, &[1])?;
+    let first = List::from_slice(alloc, &[0, 2])?;
+    let second = List::from_slice(alloc, &[2, 0, 1])?;
+    let third = List::from_slice(alloc, &[1])?;
     let lists = vec![in alloc; first, second, third]?;
-    let order = list(alloc, &[0, 1, 2])?;
-    let other_order = list(alloc, &[0, 1, 2])?;
+    let order = List::from_slice(alloc, &[0, 1, 2])?;
+    let other_order = List::from_slice(alloc, &[0, 1, 2])?;
     let orders = vec![in alloc; order, other_order]?;
-    let ranks = list(alloc, &[1, 2, 3])?;
-    let other_ranks = list(alloc, &[1, 2, 3])?;
+    let ranks = List::from_slice(alloc, &[1, 2, 3])?;
+    let other_ranks = List::from_slice(alloc, &[1, 2, 3])?;
     let ranks = vec![in alloc; ranks, other_ranks]?;
     Market::build(alloc, 2, programmes, lists, orders, ranks)
 }
 
 // What several threads may share, and one may hand to another.
 fn crosses_threads<T: Send + Sync>(_value: &T) {}
+
+// In a type of the market of three rounds the candidates have their turns in their order, and ranks
+// from 1 on.
+fn check_turns(rt: &impl Abort, market: &Market, kind: u32)
+    requires { kind < market.now.types }
+{
+    assert_eq!(rt; market.order(kind), &[0, 1, 2][..]);
+    for candidate in 0..market.candidate_count() {
+        assert_eq!(rt; market.turn(kind, candidate), candidate);
+        assert_eq!(rt; market.rank(kind, candidate), Some(candidate + 1));
+    }
+}
 
 #[test]
 fn looks_up_what_it_was_built_of(rt: HostRuntime) -> Result<(), Fail> {
@@ -48,13 +54,22 @@ fn looks_up_what_it_was_built_of(rt: HostRuntime) -> Result<(), Fail> {
     assert_eq!(rt; market.programme_count(), 3);
     assert_eq!(rt; market.candidate_count(), 3);
     for kind in 0..market.type_count() {
-        assert_eq!(rt; market.order(kind), &[0, 1, 2][..]);
-        for candidate in 0..market.candidate_count() {
-            assert_eq!(rt; market.turn(kind, candidate), candidate);
-            assert_eq!(rt; market.rank(kind, candidate), Some(candidate + 1));
-        }
+        check_turns(&rt, &market, kind);
     }
     crosses_threads(&market);
+    Ok(())
+}
+
+#[test]
+fn numbers_the_programmes_of_each_type(rt: HostRuntime) -> Result<(), Fail> {
+    let alloc = rt.alloc();
+    let market = three_rounds(alloc)?;
+    assert_eq!(rt; market.type_programmes(0), &[0, 1][..]);
+    assert_eq!(rt; market.type_programmes(1), &[2][..]);
+    assert_eq!(rt;
+        (market.local(0), market.local(1), market.local(2)),
+        (0, 1, 0)
+    );
     Ok(())
 }
 
@@ -73,9 +88,7 @@ fn turn_lists(
     crosses_threads(&dict);
     let mut found = Vec::new(alloc);
     for turn in 0..dict.turns() {
-        for local in dict.list(turn) {
-            found.push(*local)?;
-        }
+        found.extend_from_slice(dict.list(turn))?;
         found.push(9)?;
     }
     Ok(found)
@@ -90,6 +103,8 @@ fn gives_the_dictatorship_of_a_type(rt: HostRuntime) -> Result<(), Fail> {
     assert_eq!(rt; lists.as_slice(), &[0, 9, 0, 1, 9, 1, 9][..]);
     cuts.set(1, 2);
     assert_eq!(rt; cuts.cut(1), 2);
+    let lists = turn_lists(alloc, &market, &cuts, 0)?;
+    assert_eq!(rt; lists.as_slice(), &[0, 9, 0, 9, 1, 9][..]);
     Ok(())
 }
 
