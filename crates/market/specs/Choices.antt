@@ -12,17 +12,28 @@ choice_in table t i = slice_index_or (slice_index_or table t []) i None
 unfoldable pub no_choices : Problem → List (List (Option ℕ))
 no_choices m = replicate m.types (replicate (length m.lists) None)
 
--- one row for each type, with an entry for each candidate
-pub record IsTable (m : Problem) (table : List (List (Option ℕ))) : Type 0 where
-  pub types : length table ≡ m.types
-  pub candidates : (t : ℕ) → t < m.types → length (slice_index_or table t []) ≡ length m.lists
-
 -- the table of one round: the tentative programmes under the cuts
 pub record IsRound (m : Problem) (cuts : List ℕ) (table : List (List (Option ℕ))) : Type 0 where
   pub types : length table ≡ m.types
   pub candidates : (t : ℕ) → t < m.types → length (slice_index_or table t []) ≡ length m.lists
   pub each : (t i : ℕ) → t < m.types → i < length m.lists
       → slice_index_or (slice_index_or table t []) i None ≡ tentative m cuts t i
+
+-- a choice kept in one number: 0 for none, and else the programme and one more
+abbrev pub decode : ℕ → Option ℕ
+decode n = if n == 0 then None else Some (n - 1)
+
+-- a choice that fits in such a number, as each programme of a market does
+abbrev pub FitsNumber : Option ℕ → Type 0
+FitsNumber None = Unit {0}
+FitsNumber (Some p) = p < 4294967295
+
+-- ---- for the reruns of changed types, which no crate uses yet
+
+-- one row for each type, with an entry for each candidate
+pub record IsTable (m : Problem) (table : List (List (Option ℕ))) : Type 0 where
+  pub types : length table ≡ m.types
+  pub candidates : (t : ℕ) → t < m.types → length (slice_index_or table t []) ≡ length m.lists
 
 -- each choice is a programme of its type, of a candidate who has a turn in it, and stands within the
 -- candidate's cut
@@ -35,12 +46,3 @@ pub record IsWithinCuts (m : Problem) (table : List (List (Option ℕ))) (cuts :
 -- the best choice of each candidate
 unfoldable pub placed_in : Problem → (ℕ → ℕ → Option ℕ) → List (Option ℕ)
 placed_in m c = map (λ i. slice_get (list_of m i) (best_in m c i)) (range_with_len 0 (length m.lists))
-
--- a choice kept in one number: 0 for none, and else the programme and one more
-abbrev pub decode : ℕ → Option ℕ
-decode n = if n == 0 then None else Some (n - 1)
-
--- a choice that fits in such a number, as each programme of a market does
-abbrev pub FitsNumber : Option ℕ → Type 0
-FitsNumber None = Unit {0}
-FitsNumber (Some p) = p < 4294967295

@@ -3,13 +3,15 @@ use Rattle.std.specs.Prelude.{◌≡◌, ℕ, ◌≤◌, List, Option, Some, Non
 use Rattle.market.specs.Problems.{Problem, place_of, kind_of, quota_of, list_of}
 use Rattle.market.specs.Stability.{held_by, IsStable}
 
--- who is given p holds p or a programme listed higher
+-- what is held is at least what is given: who is given p holds p or a programme listed higher, and who is
+-- given nothing may hold anything
 abbrev pub HoldsAtLeast : List ℕ → Option ℕ → Option ℕ → Type 0
 HoldsAtLeast list None held = Unit {0}
 HoldsAtLeast list (Some p) None = ⊥
 HoldsAtLeast list (Some p) (Some q) = place_of q list ≤ place_of p list
 
--- each candidate holds in the second placement what the first gives, or a programme listed higher
+-- the second placement, `held`, gives each candidate at least what the first, `given`, does: the same
+-- programme or one listed higher; whom the first gives nothing may hold anything in the second
 abbrev pub GivesAtLeast : Problem → List (Option ℕ) → List (Option ℕ) → Type 0
 GivesAtLeast m given held = (i : ℕ) → HoldsAtLeast (list_of m i) (held_by given i) (held_by held i)
 

@@ -1,4 +1,5 @@
--- Which turns a round has to run again: in each type those from the first whose choice was cut away.
+-- Which turns a round has to run again: in each type those from the first whose choice was cut away. Only
+-- the worked examples use this yet.
 use Rattle.std.specs.Prelude.{◌≡◌, ℕ, zero, suc, ◌-◌, ◌<◌, ◌≤◌, Bool, false, List, length, Option, Some, None, nat_lt, not, if◌then◌else◌, slice_index, slice_index_or}
 use Rattle.std.specs.List.{position, position_or_len}
 use Rattle.market.specs.Counting.{count_below, sum_below, is_programme}
@@ -20,10 +21,6 @@ is_cut_away m c cuts t i = is_beyond (list_of m i) (cut_in m c cuts i) (c t i)
 unfoldable pub first_changed : Problem → (ℕ → ℕ → Option ℕ) → List ℕ → ℕ → ℕ
 first_changed m c cuts t = position_or_len (is_cut_away m c cuts t) (order_of m t)
 
--- the same, or none
-unfoldable pub changed_turn : Problem → (ℕ → ℕ → Option ℕ) → List ℕ → ℕ → Option ℕ
-changed_turn m c cuts t = position (is_cut_away m c cuts t) (order_of m t)
-
 -- the first turn of the type that round r runs: turn 0 in the first round, and then the first that the
 -- last cuts changed
 unfoldable pub first_run : Problem → ℕ → ℕ → ℕ
@@ -37,6 +34,12 @@ round_turns m r = sum_below (λ t. length (order_of m t) - first_run m r t) m.ty
 -- the turns of a placement whose rounds run again only what the cuts changed
 unfoldable pub placement_turns : Problem → ℕ
 placement_turns m = sum_below (round_turns m) (mechanism_rounds m)
+
+-- ---- for the reruns of changed types, which no crate uses yet
+
+-- the first changed turn of a type, or none
+unfoldable pub changed_turn : Problem → (ℕ → ℕ → Option ℕ) → List ℕ → ℕ → Option ℕ
+changed_turn m c cuts t = position (is_cut_away m c cuts t) (order_of m t)
 
 -- the row of a type has the choices of the first k turns, and none where there is no turn
 pub record IsRunUpto (m : Problem) (cuts : List ℕ) (t k : ℕ) (row : List (Option ℕ)) : Type 0 where

@@ -47,6 +47,8 @@ pub record IsStable (m : Problem) (held : List (Option ℕ)) : Type 0 where
   pub placement : IsPlacement m held
   pub unblocked : (i p : ℕ) → IsBlocking m held i p → ⊥
 
+-- ---- base ranks, which no contract cites yet
+
 -- the candidates who hold p
 abbrev pub holders_of : List (Option ℕ) → ℕ → List ℕ
 holders_of held p = filter (λ i. is_programme p (held_by held i)) (range_with_len 0 (length held))

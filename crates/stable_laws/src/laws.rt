@@ -24,6 +24,7 @@ pub fn rounds_bounded(market: &Market)
 pub fn mechanism_stable(market: &Market)
     ensures { IsStable market.now (mechanism_placement market.now) }
 {
+    // Its clause says that the market is valid.
     let _ = market.type_count();
 }
 
@@ -34,6 +35,7 @@ pub fn mechanism_worst(market: &Market, wider: &Market, other: &Placement)
     requires stable { IsStable wider.now other.now }
     ensures { GivesAtLeast market.now (mechanism_placement market.now) other.now }
 {
+    // Their clauses say that the markets are valid.
     let _ = market.type_count();
     let _ = wider.type_count();
 }
@@ -43,5 +45,6 @@ pub fn mechanism_worst(market: &Market, wider: &Market, other: &Placement)
 pub fn worst_stable(market: &Market)
     ensures { IsWorstStable market.now (mechanism_placement market.now) }
 {
+    // Its clause says that the market is valid.
     let _ = market.type_count();
 }

@@ -1,7 +1,8 @@
 //! The laws of the mechanism: its rounds end, its placement is stable, and it is the worst of all
 //! stable placements for every candidate at once.
 //!
-//! Each law is a function without code: its contract says the law, and its call gives it to a proof.
+//! Each law is a function that changes and answers nothing: its contract says the law, and its call
+//! gives it to a proof.
 //! They speak of the definitions in `market` alone. How each argument goes stands above its file in
 //! `proofs/`: shorter lists free seats (`FreeSeats`), so whoever was cut still takes a programme
 //! (`CutCandidates`); who holds a programme and which turn took it (`Holders`); the placement is
