@@ -1,4 +1,4 @@
-use Rattle.std.proofs.Common.{◌∙◌, sym, subst}
+use Rattle.std.proofs.Common.{◌∙◌, sym, subst, arith}
 use Rattle.market.specs.LocalNumbers.{ChoosesAlike}
 use Rattle.market.proofs.Dicts.{dict_valid, dict-is}
 use Rattle.market.proofs.Locals.{local-choice}
@@ -8,23 +8,20 @@ pub from_flat-requires : goal.from_flat-requires
 from_flat-requires c =
     dict_valid c.args.self.now c.turn_lists.ensures.valid c.args.kind c.args.cuts.now
     c.args.fill.now c.in_ok-quota.quota.items c.in_ok-fill.fill.items c.in_ok-lists.lists
-    c.args.from_turn c.requires.kind c.requires.fill c.requires.from c.in_ok-quota.ensures
+    _ c.requires.kind c.requires.fill (omega arith) c.in_ok-quota.ensures
     c.in_ok-fill.ensures.items c.in_ok-lists.ensures.lists
 
--- what is made
-made : goal.returns-clause-dictatorship
-made c =
+pub returns-clause-dictatorship : goal.returns-clause-dictatorship
+returns-clause-dictatorship c =
     dict-is c.args.self.now c.args.kind c.args.cuts.now c.args.fill.now c.args.from_turn
     c.from_flat.result
     (c.from_flat.ensures.quota ∙ c.in_ok-quota.ensures)
     (c.from_flat.ensures.fill ∙ c.in_ok-fill.ensures.items)
     (c.from_flat.ensures.lists ∙ c.in_ok-lists.ensures.lists)
 
-pub returns-clause-dictatorship : goal.returns-clause-dictatorship
-returns-clause-dictatorship c = made c
-
 pub returns-clause-alike : goal.returns-clause-alike
 returns-clause-alike c fills =
-    subst (ChoosesAlike c.args.self.now c.args.cuts.now c.args.kind c.args.from_turn) (sym (made c))
+    subst (ChoosesAlike c.args.self.now c.args.cuts.now c.args.kind c.args.from_turn)
+    (sym (returns-clause-dictatorship c))
     (local-choice c.args.self.now c.turn_lists.ensures.valid c.args.cuts.now c.args.fill.now
     c.args.kind c.args.from_turn c.requires.kind fills)
