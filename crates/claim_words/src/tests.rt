@@ -13,19 +13,12 @@ use std::process::Abort;
 use std::test::Fail;
 use word_rule::{SharedRound, WorkSeat, join_all, open_round};
 
-// A list of these numbers.
-fn list(alloc: Global, items: &[u32]) -> Result<List, AllocError>
-    ensures { IfOk result (λ l. l ≡ items.now) }
-{
-    Ok(List::from_vec(Vec::from_slice(alloc, items)?))
-}
-
 // Two lists of numbers.
 fn two_lists(alloc: Global, first: &[u32], second: &[u32]) -> Result<Vec<List>, AllocError>
     ensures { IfOk result (λ lists. lists.items ≡ first.now ∷ second.now ∷ []) }
 {
-    let first = list(alloc, first)?;
-    let second = list(alloc, second)?;
+    let first = List::from_slice(alloc, first)?;
+    let second = List::from_slice(alloc, second)?;
     Ok(vec![in alloc; first, second]?)
 }
 

@@ -15,19 +15,12 @@ use word_rule::{PhaseCopy, SharedRound, Words, WorkSeat, close_round, join_all, 
 // A round of many turns, posted in falling order.
 mod falling_posts;
 
-// A list of these numbers.
-fn list(alloc: Global, items: &[u32]) -> Result<List, AllocError>
-    ensures { IfOk result (λ l. l ≡ items.now) }
-{
-    Ok(List::from_vec(Vec::from_slice(alloc, items)?))
-}
-
 // Two lists of numbers.
 fn two_lists(alloc: Global, first: &[u32], second: &[u32]) -> Result<Vec<List>, AllocError>
     ensures { IfOk result (λ lists. lists.items ≡ first.now ∷ second.now ∷ []) }
 {
-    let first = list(alloc, first)?;
-    let second = list(alloc, second)?;
+    let first = List::from_slice(alloc, first)?;
+    let second = List::from_slice(alloc, second)?;
     Ok(vec![in alloc; first, second]?)
 }
 

@@ -4,8 +4,8 @@ ghost use Rattle.std.specs.Prelude.{◌≡◌, ◌≤◌, IfOk, true, false};
 ghost use Rattle.word_rule.specs.Rounds.{knows, dict_of, shares_of, AllOver};
 ghost use Rattle.commit_book.specs.Seats.{IsReady, AllReady};
 
-use super::{commits, draws, ends, list, posts, reads};
-use market::Dict;
+use super::{commits, draws, ends, posts, reads};
+use market::{Dict, List};
 use std::alloc::{AllocError, Global};
 use std::process::Abort;
 use std::test::Fail;
@@ -19,7 +19,7 @@ fn many_turns(alloc: Global) -> Result<Dict, AllocError> {
     let fill = vec![in alloc; 0, 0, 0, 0, 0, 0, 0]?;
     let mut lists = Vec::with_capacity(alloc, 128)?;
     for turn in 0..128 {
-        lists.push(list(alloc, &[turn % 3, 3 + turn % 2, 5 + turn / 2 % 2])?)?;
+        lists.push(List::from_slice(alloc, &[turn % 3, 3 + turn % 2, 5 + turn / 2 % 2])?)?;
     }
     Ok(Dict::from_parts(quota, fill, lists))
 }
