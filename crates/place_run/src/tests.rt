@@ -7,6 +7,7 @@ use command_words::WordsFault;
 use place_edges::{MemShelf, MemSink, SureShelf, SureSink};
 use record_files::{Field, put_row_3};
 use std::alloc::{AllocError, Global};
+use std::process::Abort;
 use std::test::Fail;
 use std::thread::Threads;
 
@@ -74,7 +75,7 @@ fn run(
 }
 
 // Programmes, candidates and ranks, and what is placed.
-const MARKETS: [(&[u8], &[u8], &[u8], &[u8]); 11] = [
+const MARKETS: [(&[u8], &[u8], &[u8], &[u8]); 12] = [
     // An exchange: both candidates want the other's programme, and hold the one in which their rank
     // is better.
     (
@@ -103,6 +104,13 @@ const MARKETS: [(&[u8], &[u8], &[u8], &[u8]); 11] = [
         b"programme,type,quota\n101,SAY,0\n",
         b"candidate,list\n1,101\n",
         b"candidate,type,rank\n1,SAY,1\n",
+        b"candidate,programme\n1,-\n",
+    ),
+    // No rank at all.
+    (
+        b"programme,type,quota\n101,SAY,1\n",
+        b"candidate,list\n1,101\n",
+        b"candidate,type,rank\n",
         b"candidate,programme\n1,-\n",
     ),
     // No rank, and an empty list.
@@ -155,40 +163,58 @@ const MARKETS: [(&[u8], &[u8], &[u8], &[u8]); 11] = [
     ),
 ];
 
-#[test]
-fn files_without_a_fault_are_placed(rt: HostRuntime) -> Result<(), Fail> {
-    for (programmes, candidates, ranks, placed) in MARKETS {
+// Runs `place` over each three files, and compares what is placed.
+fn are_placed(
+    rt: &(impl Threads + Abort),
+    alloc: Global,
+    markets: &[(&[u8], &[u8], &[u8], &[u8])],
+) -> Result<(), Fail> {
+    for (programmes, candidates, ranks, placed) in markets {
         let shelf = shelf(
-            rt.alloc(),
-            &[("p", programmes), ("c", candidates), ("r", ranks)],
+            alloc,
+            &[("p", *programmes), ("c", *candidates), ("r", *ranks)],
         )?;
-        let ran = run(&rt, rt.alloc(), &PLACE, shelf)?;
+        let ran = run(rt, alloc, &PLACE, shelf)?;
         assert_eq!(rt; (ran.status, ran.status.code()), (Status::Done, 0));
-        assert_eq!(rt; ran.out.bytes(), placed);
+        assert_eq!(rt; ran.out.bytes(), *placed);
         assert_eq!(rt; ran.notes.bytes(), b"".as_slice());
         assert_eq!(rt; ran.faults, 0);
     }
     Ok(())
 }
 
+#[test]
+fn files_without_a_fault_are_placed(rt: HostRuntime) -> Result<(), Fail> {
+    are_placed(&rt, rt.alloc(), &MARKETS)
+}
+
 const BAD_CANDIDATES: &[u8] = b"candidate,list\nx,101\n";
 
 const BAD_RANKS: &[u8] = b"candidate,type,rank\n1,say,1\n";
 
-#[test]
-fn the_first_fault_of_three_files_is_noted(rt: HostRuntime) -> Result<(), Fail> {
-    for (programmes, candidates, ranks, note) in FAULTY {
+// Runs `place` over each three files, and compares the note.
+fn are_faulty(
+    rt: &(impl Threads + Abort),
+    alloc: Global,
+    files: &[(&[u8], &[u8], &[u8], &[u8])],
+) -> Result<(), Fail> {
+    for (programmes, candidates, ranks, note) in files {
         let shelf = shelf(
-            rt.alloc(),
-            &[("p", programmes), ("c", candidates), ("r", ranks)],
+            alloc,
+            &[("p", *programmes), ("c", *candidates), ("r", *ranks)],
         )?;
-        let ran = run(&rt, rt.alloc(), &PLACE, shelf)?;
-        assert_eq!(rt; ran.notes.bytes(), note);
+        let ran = run(rt, alloc, &PLACE, shelf)?;
+        assert_eq!(rt; ran.notes.bytes(), *note);
         assert_eq!(rt; ran.status.code(), 3);
         assert_eq!(rt; ran.out.bytes(), b"".as_slice());
         assert_eq!(rt; ran.faults, 0);
     }
     Ok(())
+}
+
+#[test]
+fn the_first_fault_of_three_files_is_noted(rt: HostRuntime) -> Result<(), Fail> {
+    are_faulty(&rt, rt.alloc(), &FAULTY)
 }
 
 // Words that are no command: their status, and its line.
@@ -232,22 +258,31 @@ const REFUSED: [(&[&str], WordsFault, &[u8]); 9] = [
     ),
 ];
 
+// Runs these words over a shelf without a file, and compares the status and the note.
+fn are_refused(
+    rt: &(impl Threads + Abort),
+    alloc: Global,
+    words: &[(&[&str], WordsFault, &[u8])],
+) -> Result<(), Fail> {
+    for (texts, refused, note) in words {
+        let shelf = shelf(alloc, &[])?;
+        let ran = run(rt, alloc, texts, shelf)?;
+        assert_eq!(rt;
+            (ran.status, ran.status.code()),
+            (Status::Words(*refused), 2)
+        );
+        assert_eq!(rt; ran.out.bytes(), b"".as_slice());
+        assert_eq!(rt; ran.notes.bytes(), *note);
+        assert_eq!(rt; ran.faults, 0);
+    }
+    Ok(())
+}
+
 #[test]
 fn words_that_are_no_command_are_refused_before_a_file_is_opened(
     rt: HostRuntime,
 ) -> Result<(), Fail> {
-    for (texts, refused, note) in REFUSED {
-        let shelf = shelf(rt.alloc(), &[])?;
-        let ran = run(&rt, rt.alloc(), texts, shelf)?;
-        assert_eq!(rt;
-            (ran.status, ran.status.code()),
-            (Status::Words(refused), 2)
-        );
-        assert_eq!(rt; ran.out.bytes(), b"".as_slice());
-        assert_eq!(rt; ran.notes.bytes(), note);
-        assert_eq!(rt; ran.faults, 0);
-    }
-    Ok(())
+    are_refused(&rt, rt.alloc(), &REFUSED)
 }
 
 // Shelves that lack a file: the number of the status, its line, and how often the shelf failed. Where
@@ -274,17 +309,26 @@ const LACKING: [(&[(&str, &[u8])], u8, &[u8], u64); 4] = [
     ),
 ];
 
-#[test]
-fn files_are_opened_in_order(rt: HostRuntime) -> Result<(), Fail> {
-    for (files, code, note, faults) in LACKING {
-        let shelf = shelf(rt.alloc(), files)?;
-        let ran = run(&rt, rt.alloc(), &PLACE, shelf)?;
-        assert_eq!(rt; ran.status.code(), code);
+// Runs `place` over each shelf, and compares the status and the note.
+fn are_lacking(
+    rt: &(impl Threads + Abort),
+    alloc: Global,
+    shelves: &[(&[(&str, &[u8])], u8, &[u8], u64)],
+) -> Result<(), Fail> {
+    for (files, code, note, faults) in shelves {
+        let shelf = shelf(alloc, files)?;
+        let ran = run(rt, alloc, &PLACE, shelf)?;
+        assert_eq!(rt; ran.status.code(), *code);
         assert_eq!(rt; ran.out.bytes(), b"".as_slice());
-        assert_eq!(rt; ran.notes.bytes(), note);
-        assert_eq!(rt; ran.faults, faults);
+        assert_eq!(rt; ran.notes.bytes(), *note);
+        assert_eq!(rt; ran.faults, *faults);
     }
     Ok(())
+}
+
+#[test]
+fn files_are_opened_in_order(rt: HostRuntime) -> Result<(), Fail> {
+    are_lacking(&rt, rt.alloc(), &LACKING)
 }
 
 const FREED_SEAT: [(&str, &[u8]); 3] = [("p", PROGRAMMES), ("c", CANDIDATES), ("r", RANKS)];
