@@ -74,6 +74,23 @@ fn run(
     })
 }
 
+// Runs these words over this shelf, and compares the number of the status, both texts and how often
+// the shelf failed.
+fn ends(
+    rt: &(impl Threads + Abort),
+    alloc: Global,
+    texts: &[&str],
+    shelf: MemShelf,
+    (code, out, note, faults): (u8, &[u8], &[u8], u64),
+) -> Result<Status, Fail> {
+    let ran = run(rt, alloc, texts, shelf)?;
+    assert_eq!(rt; ran.status.code(), code);
+    assert_eq!(rt; ran.out.bytes(), out);
+    assert_eq!(rt; ran.notes.bytes(), note);
+    assert_eq!(rt; ran.faults, faults);
+    Ok(ran.status)
+}
+
 // Programmes, candidates and ranks, and what is placed.
 const MARKETS: [(&[u8], &[u8], &[u8], &[u8]); 12] = [
     // An exchange: both candidates want the other's programme, and hold the one in which their rank
@@ -163,7 +180,7 @@ const MARKETS: [(&[u8], &[u8], &[u8], &[u8]); 12] = [
     ),
 ];
 
-// Runs `place` over each three files, and compares what is placed.
+// Each three files are placed so.
 fn are_placed(
     rt: &(impl Threads + Abort),
     alloc: Global,
@@ -174,11 +191,7 @@ fn are_placed(
             alloc,
             &[("p", *programmes), ("c", *candidates), ("r", *ranks)],
         )?;
-        let ran = run(rt, alloc, &PLACE, shelf)?;
-        assert_eq!(rt; (ran.status, ran.status.code()), (Status::Done, 0));
-        assert_eq!(rt; ran.out.bytes(), *placed);
-        assert_eq!(rt; ran.notes.bytes(), b"".as_slice());
-        assert_eq!(rt; ran.faults, 0);
+        ends(rt, alloc, &PLACE, shelf, (0, *placed, b"", 0))?;
     }
     Ok(())
 }
@@ -192,7 +205,7 @@ const BAD_CANDIDATES: &[u8] = b"candidate,list\nx,101\n";
 
 const BAD_RANKS: &[u8] = b"candidate,type,rank\n1,say,1\n";
 
-// Runs `place` over each three files, and compares the note.
+// Each three files have this first fault.
 fn are_faulty(
     rt: &(impl Threads + Abort),
     alloc: Global,
@@ -203,11 +216,7 @@ fn are_faulty(
             alloc,
             &[("p", *programmes), ("c", *candidates), ("r", *ranks)],
         )?;
-        let ran = run(rt, alloc, &PLACE, shelf)?;
-        assert_eq!(rt; ran.notes.bytes(), *note);
-        assert_eq!(rt; ran.status.code(), 3);
-        assert_eq!(rt; ran.out.bytes(), b"".as_slice());
-        assert_eq!(rt; ran.faults, 0);
+        ends(rt, alloc, &PLACE, shelf, (3, b"", *note, 0))?;
     }
     Ok(())
 }
@@ -258,7 +267,7 @@ const REFUSED: [(&[&str], WordsFault, &[u8]); 9] = [
     ),
 ];
 
-// Runs these words over a shelf without a file, and compares the status and the note.
+// These words are refused so, over a shelf without a file.
 fn are_refused(
     rt: &(impl Threads + Abort),
     alloc: Global,
@@ -266,14 +275,8 @@ fn are_refused(
 ) -> Result<(), Fail> {
     for (texts, refused, note) in words {
         let shelf = shelf(alloc, &[])?;
-        let ran = run(rt, alloc, texts, shelf)?;
-        assert_eq!(rt;
-            (ran.status, ran.status.code()),
-            (Status::Words(*refused), 2)
-        );
-        assert_eq!(rt; ran.out.bytes(), b"".as_slice());
-        assert_eq!(rt; ran.notes.bytes(), *note);
-        assert_eq!(rt; ran.faults, 0);
+        let status = ends(rt, alloc, texts, shelf, (2, b"", *note, 0))?;
+        assert_eq!(rt; status, Status::Words(*refused));
     }
     Ok(())
 }
@@ -309,7 +312,7 @@ const LACKING: [(&[(&str, &[u8])], u8, &[u8], u64); 4] = [
     ),
 ];
 
-// Runs `place` over each shelf, and compares the status and the note.
+// Each shelf ends `place` so.
 fn are_lacking(
     rt: &(impl Threads + Abort),
     alloc: Global,
@@ -317,11 +320,7 @@ fn are_lacking(
 ) -> Result<(), Fail> {
     for (files, code, note, faults) in shelves {
         let shelf = shelf(alloc, files)?;
-        let ran = run(rt, alloc, &PLACE, shelf)?;
-        assert_eq!(rt; ran.status.code(), *code);
-        assert_eq!(rt; ran.out.bytes(), b"".as_slice());
-        assert_eq!(rt; ran.notes.bytes(), *note);
-        assert_eq!(rt; ran.faults, *faults);
+        ends(rt, alloc, &PLACE, shelf, (*code, b"", *note, *faults))?;
     }
     Ok(())
 }
@@ -337,11 +336,8 @@ const FREED_SEAT: [(&str, &[u8]); 3] = [("p", PROGRAMMES), ("c", CANDIDATES), ("
 fn a_read_that_fails_within_a_file_is_a_read_fault(rt: HostRuntime) -> Result<(), Fail> {
     let mut shelf = shelf(rt.alloc(), &FREED_SEAT)?;
     shelf.fail_at(5)?;
-    let ran = run(&rt, rt.alloc(), &PLACE, shelf)?;
-    assert_eq!(rt; (ran.status, ran.status.code()), (Status::ReadFault, 4));
-    assert_eq!(rt; ran.out.bytes(), b"".as_slice());
-    assert_eq!(rt; ran.notes.bytes(), b"read fault\n".as_slice());
-    assert_eq!(rt; ran.faults, 1);
+    let status = ends(&rt, rt.alloc(), &PLACE, shelf, (4, b"", b"read fault\n", 1))?;
+    assert_eq!(rt; status, Status::ReadFault);
     Ok(())
 }
 
