@@ -7,6 +7,7 @@ use command_words::WordsFault;
 use place_edges::{MemShelf, MemSink, SureShelf, SureSink};
 use record_files::{Field, put_row_3};
 use std::alloc::{AllocError, Global};
+use std::process::Abort;
 use std::test::Fail;
 use std::thread::Threads;
 
@@ -73,8 +74,25 @@ fn run(
     })
 }
 
+// Runs these words over this shelf, and compares the number of the status, both texts and how often
+// the shelf failed.
+fn ends(
+    rt: &(impl Threads + Abort),
+    alloc: Global,
+    texts: &[&str],
+    shelf: MemShelf,
+    (code, out, note, faults): (u8, &[u8], &[u8], u64),
+) -> Result<Status, Fail> {
+    let ran = run(rt, alloc, texts, shelf)?;
+    assert_eq!(rt; ran.status.code(), code);
+    assert_eq!(rt; ran.out.bytes(), out);
+    assert_eq!(rt; ran.notes.bytes(), note);
+    assert_eq!(rt; ran.faults, faults);
+    Ok(ran.status)
+}
+
 // Programmes, candidates and ranks, and what is placed.
-const MARKETS: [(&[u8], &[u8], &[u8], &[u8]); 11] = [
+const MARKETS: [(&[u8], &[u8], &[u8], &[u8]); 12] = [
     // An exchange: both candidates want the other's programme, and hold the one in which their rank
     // is better.
     (
@@ -103,6 +121,13 @@ const MARKETS: [(&[u8], &[u8], &[u8], &[u8]); 11] = [
         b"programme,type,quota\n101,SAY,0\n",
         b"candidate,list\n1,101\n",
         b"candidate,type,rank\n1,SAY,1\n",
+        b"candidate,programme\n1,-\n",
+    ),
+    // No rank at all.
+    (
+        b"programme,type,quota\n101,SAY,1\n",
+        b"candidate,list\n1,101\n",
+        b"candidate,type,rank\n",
         b"candidate,programme\n1,-\n",
     ),
     // No rank, and an empty list.
@@ -155,40 +180,50 @@ const MARKETS: [(&[u8], &[u8], &[u8], &[u8]); 11] = [
     ),
 ];
 
-#[test]
-fn files_without_a_fault_are_placed(rt: HostRuntime) -> Result<(), Fail> {
-    for (programmes, candidates, ranks, placed) in MARKETS {
+// Each three files are placed so.
+fn are_placed(
+    rt: &(impl Threads + Abort),
+    alloc: Global,
+    markets: &[(&[u8], &[u8], &[u8], &[u8])],
+) -> Result<(), Fail> {
+    for (programmes, candidates, ranks, placed) in markets {
         let shelf = shelf(
-            rt.alloc(),
-            &[("p", programmes), ("c", candidates), ("r", ranks)],
+            alloc,
+            &[("p", *programmes), ("c", *candidates), ("r", *ranks)],
         )?;
-        let ran = run(&rt, rt.alloc(), &PLACE, shelf)?;
-        assert_eq!(rt; (ran.status, ran.status.code()), (Status::Done, 0));
-        assert_eq!(rt; ran.out.bytes(), placed);
-        assert_eq!(rt; ran.notes.bytes(), b"".as_slice());
-        assert_eq!(rt; ran.faults, 0);
+        ends(rt, alloc, &PLACE, shelf, (0, *placed, b"", 0))?;
     }
     Ok(())
+}
+
+#[test]
+fn files_without_a_fault_are_placed(rt: HostRuntime) -> Result<(), Fail> {
+    are_placed(&rt, rt.alloc(), &MARKETS)
 }
 
 const BAD_CANDIDATES: &[u8] = b"candidate,list\nx,101\n";
 
 const BAD_RANKS: &[u8] = b"candidate,type,rank\n1,say,1\n";
 
-#[test]
-fn the_first_fault_of_three_files_is_noted(rt: HostRuntime) -> Result<(), Fail> {
-    for (programmes, candidates, ranks, note) in FAULTY {
+// Each three files have this first fault.
+fn are_faulty(
+    rt: &(impl Threads + Abort),
+    alloc: Global,
+    files: &[(&[u8], &[u8], &[u8], &[u8])],
+) -> Result<(), Fail> {
+    for (programmes, candidates, ranks, note) in files {
         let shelf = shelf(
-            rt.alloc(),
-            &[("p", programmes), ("c", candidates), ("r", ranks)],
+            alloc,
+            &[("p", *programmes), ("c", *candidates), ("r", *ranks)],
         )?;
-        let ran = run(&rt, rt.alloc(), &PLACE, shelf)?;
-        assert_eq!(rt; ran.notes.bytes(), note);
-        assert_eq!(rt; ran.status.code(), 3);
-        assert_eq!(rt; ran.out.bytes(), b"".as_slice());
-        assert_eq!(rt; ran.faults, 0);
+        ends(rt, alloc, &PLACE, shelf, (3, b"", *note, 0))?;
     }
     Ok(())
+}
+
+#[test]
+fn the_first_fault_of_three_files_is_noted(rt: HostRuntime) -> Result<(), Fail> {
+    are_faulty(&rt, rt.alloc(), &FAULTY)
 }
 
 // Words that are no command: their status, and its line.
@@ -232,22 +267,25 @@ const REFUSED: [(&[&str], WordsFault, &[u8]); 9] = [
     ),
 ];
 
+// These words are refused so, over a shelf without a file.
+fn are_refused(
+    rt: &(impl Threads + Abort),
+    alloc: Global,
+    words: &[(&[&str], WordsFault, &[u8])],
+) -> Result<(), Fail> {
+    for (texts, refused, note) in words {
+        let shelf = shelf(alloc, &[])?;
+        let status = ends(rt, alloc, texts, shelf, (2, b"", *note, 0))?;
+        assert_eq!(rt; status, Status::Words(*refused));
+    }
+    Ok(())
+}
+
 #[test]
 fn words_that_are_no_command_are_refused_before_a_file_is_opened(
     rt: HostRuntime,
 ) -> Result<(), Fail> {
-    for (texts, refused, note) in REFUSED {
-        let shelf = shelf(rt.alloc(), &[])?;
-        let ran = run(&rt, rt.alloc(), texts, shelf)?;
-        assert_eq!(rt;
-            (ran.status, ran.status.code()),
-            (Status::Words(refused), 2)
-        );
-        assert_eq!(rt; ran.out.bytes(), b"".as_slice());
-        assert_eq!(rt; ran.notes.bytes(), note);
-        assert_eq!(rt; ran.faults, 0);
-    }
-    Ok(())
+    are_refused(&rt, rt.alloc(), &REFUSED)
 }
 
 // Shelves that lack a file: the number of the status, its line, and how often the shelf failed. Where
@@ -274,17 +312,22 @@ const LACKING: [(&[(&str, &[u8])], u8, &[u8], u64); 4] = [
     ),
 ];
 
-#[test]
-fn files_are_opened_in_order(rt: HostRuntime) -> Result<(), Fail> {
-    for (files, code, note, faults) in LACKING {
-        let shelf = shelf(rt.alloc(), files)?;
-        let ran = run(&rt, rt.alloc(), &PLACE, shelf)?;
-        assert_eq!(rt; ran.status.code(), code);
-        assert_eq!(rt; ran.out.bytes(), b"".as_slice());
-        assert_eq!(rt; ran.notes.bytes(), note);
-        assert_eq!(rt; ran.faults, faults);
+// Each shelf ends `place` so.
+fn are_lacking(
+    rt: &(impl Threads + Abort),
+    alloc: Global,
+    shelves: &[(&[(&str, &[u8])], u8, &[u8], u64)],
+) -> Result<(), Fail> {
+    for (files, code, note, faults) in shelves {
+        let shelf = shelf(alloc, files)?;
+        ends(rt, alloc, &PLACE, shelf, (*code, b"", *note, *faults))?;
     }
     Ok(())
+}
+
+#[test]
+fn files_are_opened_in_order(rt: HostRuntime) -> Result<(), Fail> {
+    are_lacking(&rt, rt.alloc(), &LACKING)
 }
 
 const FREED_SEAT: [(&str, &[u8]); 3] = [("p", PROGRAMMES), ("c", CANDIDATES), ("r", RANKS)];
@@ -293,11 +336,8 @@ const FREED_SEAT: [(&str, &[u8]); 3] = [("p", PROGRAMMES), ("c", CANDIDATES), ("
 fn a_read_that_fails_within_a_file_is_a_read_fault(rt: HostRuntime) -> Result<(), Fail> {
     let mut shelf = shelf(rt.alloc(), &FREED_SEAT)?;
     shelf.fail_at(5)?;
-    let ran = run(&rt, rt.alloc(), &PLACE, shelf)?;
-    assert_eq!(rt; (ran.status, ran.status.code()), (Status::ReadFault, 4));
-    assert_eq!(rt; ran.out.bytes(), b"".as_slice());
-    assert_eq!(rt; ran.notes.bytes(), b"read fault\n".as_slice());
-    assert_eq!(rt; ran.faults, 1);
+    let status = ends(&rt, rt.alloc(), &PLACE, shelf, (4, b"", b"read fault\n", 1))?;
+    assert_eq!(rt; status, Status::ReadFault);
     Ok(())
 }
 

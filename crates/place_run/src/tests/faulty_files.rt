@@ -2,7 +2,7 @@
 use super::{BAD_CANDIDATES, BAD_RANKS, CANDIDATES, PROGRAMMES, TWENTY_FIVE_PROGRAMMES};
 
 // Programmes, candidates and ranks, and the note of their first fault.
-pub(super) const FAULTY: [(&[u8], &[u8], &[u8], &[u8]); 59] = [
+pub(super) const FAULTY: [(&[u8], &[u8], &[u8], &[u8]); 62] = [
     // The programmes come first, whatever is wrong with the other files.
     (
         b"",
@@ -93,6 +93,12 @@ pub(super) const FAULTY: [(&[u8], &[u8], &[u8], &[u8]); 59] = [
         BAD_CANDIDATES,
         BAD_RANKS,
         b"fault programmes line 2 field 3 F03 NotNumber earlier 0\n",
+    ),
+    (
+        b"programme,type,quota\n101,SAY,100001\n",
+        BAD_CANDIDATES,
+        BAD_RANKS,
+        b"fault programmes line 2 field 3 F04 OutOfRange earlier 0\n",
     ),
     (
         b"programme,type,quota\n101,SAY,100000\n102,SAY,100001\n",
@@ -220,6 +226,18 @@ pub(super) const FAULTY: [(&[u8], &[u8], &[u8], &[u8]); 59] = [
         b"candidate,list\n1,x;x;x;x;x;x;x;x;x;x;x;x;x;x;x;x;x;x;x;x;x;x;x;x;x\n",
         BAD_RANKS,
         b"fault candidates line 2 field 2 F08 ListTooLong earlier 0\n",
+    ),
+    (
+        TWENTY_FIVE_PROGRAMMES,
+        b"candidate,list\n1,1;1\n",
+        BAD_RANKS,
+        b"fault candidates line 2 field 2 F06 Duplicate earlier 2\n",
+    ),
+    (
+        TWENTY_FIVE_PROGRAMMES,
+        b"candidate,list\n1,1;26\n",
+        BAD_RANKS,
+        b"fault candidates line 2 field 2 F07 UnknownProgramme earlier 0\n",
     ),
     (
         PROGRAMMES,
