@@ -22,6 +22,7 @@ pub(crate) fn note<N: Sink>(notes: &mut N, status: Status)
     let _ = write_line(notes, status);
 }
 
+// Writes the line of a status; Done has none.
 fn write_line<N: Sink>(notes: &mut N, status: Status) -> Result<(), Failed>
     ensures whole { OnOk result (Appended (N.written notes.old) (N.written notes.new)
         (line_of status)) }
@@ -32,13 +33,14 @@ fn write_line<N: Sink>(notes: &mut N, status: Status) -> Result<(), Failed>
     match status {
         Status::Done => Ok(()),
         Status::Words(refused) => write_refusal(notes, refused),
-        Status::FileFault(fault) => write_fault(notes, fault),
+        Status::FileFault(fault) => write_file_fault(notes, fault),
         Status::ReadFault => write_whole(notes, b"read fault\n"),
         Status::WriteFault => write_whole(notes, b"write fault\n"),
         Status::Memory => write_whole(notes, b"want of memory\n"),
     }
 }
 
+// Writes why the words are no command.
 fn write_refusal<N: Sink>(notes: &mut N, refused: WordsFault) -> Result<(), Failed>
     ensures whole { OnOk result (Appended (N.written notes.old) (N.written notes.new)
         (words_line refused)) }
@@ -58,6 +60,7 @@ fn write_refusal<N: Sink>(notes: &mut N, refused: WordsFault) -> Result<(), Fail
     )
 }
 
+// The name of a refusal in its line.
 fn refusal_name(refused: WordsFault) -> &'static str
     ensures { result.now ≡ name_of refused }
 {
@@ -69,6 +72,7 @@ fn refusal_name(refused: WordsFault) -> &'static str
     }
 }
 
+// The place of a refusal in its line, 0 where it has none.
 fn refusal_place(refused: WordsFault) -> u32
     ensures { result ≡ place_of refused }
 {
@@ -80,7 +84,8 @@ fn refusal_place(refused: WordsFault) -> u32
     }
 }
 
-fn write_fault<N: Sink>(notes: &mut N, fault: FileFault) -> Result<(), Failed>
+// Writes the first fault of a file.
+fn write_file_fault<N: Sink>(notes: &mut N, fault: FileFault) -> Result<(), Failed>
     ensures whole { OnOk result (Appended (N.written notes.old) (N.written notes.new)
         (fault_line fault)) }
     ensures prefix { OnErr result (AppendedPrefix (N.written notes.old) (N.written notes.new)

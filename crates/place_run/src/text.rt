@@ -49,6 +49,7 @@ pub(crate) fn placement<P: Finder, C: Finder>(
         Field::Text(b"candidate"),
         Field::Text(b"programme"),
     )?;
+    // its clause says that the candidates' indexes fit 32 bits
     let _count = candidates.count();
     for (index, programme) in held.iter().enumerate() {
         let number = candidates.number_at(index as u32);

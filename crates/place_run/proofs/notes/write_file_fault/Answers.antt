@@ -1,7 +1,7 @@
 use Rattle.std.proofs.Common.{List, ℕ, OnOk, OnErr, subst, ap, ◌∙◌, ◌/◌, ◌%◌}
 use Rattle.place_edges.specs.Sink.{Appended, AppendedPrefix}
 use Rattle.place_run.proofs.LineTexts.{fault-line}
-use Rattle.place_run.proofs.notes.write_fault.Goals as goal
+use Rattle.place_run.proofs.notes.write_file_fault.Goals as goal
 
 pub returns-clause-whole : goal.returns-clause-whole
 returns-clause-whole g c =
