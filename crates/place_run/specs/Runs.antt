@@ -49,6 +49,10 @@ Untouched ReadFault old new = new ≡ old
 Untouched WriteFault old new = ⊤
 Untouched Memory old new = new ≡ old
 
+-- the words were refused
+abbrev pub IsWordsRefusal : Status → Type 0
+IsWordsRefusal status = (refused : WordsFault) × (status ≡ Words refused)
+
 -- words are refused exactly where they give no command, and with that refusal
 pub record WordsCause (command : Result Command WordsFault) (status : Status) : Type 0 where
   pub only : (refused : WordsFault) → status ≡ Words refused → command ≡ Err refused

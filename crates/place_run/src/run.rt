@@ -1,7 +1,6 @@
 // The top call.
 ghost use Rattle.std.specs.Prelude.{◌≡◌, ◌^◌};
 ghost use Rattle.command_words.specs.Words.{command_of, texts};
-ghost use Rattle.command_words.specs.declared.words.WordsFault.{WordsFault};
 ghost use Rattle.place_base.specs.declared.fault.FileKind.{FileKind};
 ghost use Rattle.place_edges.specs.Causes.{Rose};
 ghost use Rattle.place_edges.specs.Shelf.{GaveMore};
@@ -9,7 +8,7 @@ ghost use Rattle.place_run.specs.Judged.{too_long};
 ghost use Rattle.place_run.specs.Lines.{line_of};
 ghost use Rattle.place_run.specs.Outcome.{outcome};
 ghost use Rattle.place_run.specs.Printed.{PlacesWhole, PrintsWorstStable};
-ghost use Rattle.place_run.specs.Runs.{IsRun, IsWholeRun, StaysInFront, Untouched, WordsCause, GrantsFor, Noted};
+ghost use Rattle.place_run.specs.Runs.{IsRun, IsWholeRun, StaysInFront, Untouched, IsWordsRefusal, WordsCause, GrantsFor, Noted};
 ghost use Rattle.place_run.specs.Steps.{IsFinished};
 
 use crate::commands::prepare_place;
@@ -39,15 +38,14 @@ pub fn run_words<R: Threads, H: Shelf, K: Sink, N: Sink>(
     // Each file of the command may be opened.
     requires { GrantsFor (H.grants shelf.old) (command_of (texts words.now)) (texts words.now) }
 
-    // The status and the text are those of the words and the bytes held.
+    // The status and the text are those of the words and the bytes held. What was written before
+    // stays in front, and after a refusal `out` is as it was.
     ensures run { IsRun (H.files shelf.old) (outcome (texts words.now)) result
         (K.written out.old) (K.written out.new) }
-    ensures line { Noted (line_of result) (N.written notes.old) (N.written notes.new)
-        (N.faults notes.old) (N.faults notes.new) }
-
-    // What was written before stays in front, and after a refusal `out` is as it was.
     ensures kept { StaysInFront (K.written out.old) (K.written out.new) }
     ensures untouched { Untouched result out.old out.new }
+    ensures line { Noted (line_of result) (N.written notes.old) (N.written notes.new)
+        (N.faults notes.old) (N.faults notes.new) }
 
     // On Done the text is that of the mechanism's placement in the market of the three held files.
     // It is stable there, and in every stable placement there each candidate holds the printed
@@ -67,17 +65,14 @@ pub fn run_words<R: Threads, H: Shelf, K: Sink, N: Sink>(
     ensures complete { ¬ Rose (H.faults shelf.old) (H.faults shelf.new)
         → ¬ Rose (K.faults out.old) (K.faults out.new)
         → IsWholeRun (H.files shelf.old) (outcome (texts words.now)) result
-        (K.written out.old) (K.written out.new) }
-    ensures placed { ¬ Rose (H.faults shelf.old) (H.faults shelf.new)
-        → ¬ Rose (K.faults out.old) (K.faults out.new)
-        → PlacesWhole (H.files shelf.old) (texts words.now) result
+        (K.written out.old) (K.written out.new)
+        × PlacesWhole (H.files shelf.old) (texts words.now) result
         (K.written out.old) (K.written out.new) }
 
     // What is held and granted stays. Where the words are refused, no file is opened.
     ensures files { H.files shelf.new ≡ H.files shelf.old }
     ensures grants { H.grants shelf.new ≡ H.grants shelf.old }
-    ensures unopened { (refused : WordsFault) → result ≡ Status.Words refused
-        → shelf.new ≡ shelf.old }
+    ensures unopened { IsWordsRefusal result → shelf.new ≡ shelf.old }
 {
     let status = run_quietly(rt, alloc, words, shelf, out);
     crate::notes::note(notes, status);
@@ -106,8 +101,7 @@ fn run_quietly<R: Threads, H: Shelf, K: Sink>(
     ensures write { result ≡ Status.WriteFault → Rose (K.faults out.old) (K.faults out.new) }
     ensures files { H.files shelf.new ≡ H.files shelf.old }
     ensures grants { H.grants shelf.new ≡ H.grants shelf.old }
-    ensures unopened { (refused : WordsFault) → result ≡ Status.Words refused
-        → shelf.new ≡ shelf.old }
+    ensures unopened { IsWordsRefusal result → shelf.new ≡ shelf.old }
 {
     let workers = match read_words(words) {
         Ok(Command::Place(workers)) => workers,
