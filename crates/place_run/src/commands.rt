@@ -1,6 +1,5 @@
 // What each command comes to before its text is written.
 ghost use Rattle.std.specs.Prelude.{◌≡◌, ◌≤◌, IsTrue};
-ghost use Rattle.std.specs.String.{string_bytes};
 ghost use Rattle.place_run.specs.Outcome.{place_outcome};
 ghost use Rattle.place_run.specs.Steps.{HasCauses, Prepared, PreparedWorst};
 
@@ -17,21 +16,19 @@ pub(crate) fn prepare_place<R: Threads, H: Shelf>(
     rt: &R,
     alloc: Global,
     shelf: &mut H,
-    programmes: &String,
-    candidates: &String,
-    ranks: &String,
+    programmes: &str,
+    candidates: &str,
+    ranks: &str,
     workers: u32,
 ) -> Result<Text, Stop>
-    requires programmes { IsTrue (H.grants shelf.old (string_bytes programmes.now)) }
-    requires candidates { IsTrue (H.grants shelf.old (string_bytes candidates.now)) }
-    requires ranks { IsTrue (H.grants shelf.old (string_bytes ranks.now)) }
+    requires programmes { IsTrue (H.grants shelf.old programmes.now) }
+    requires candidates { IsTrue (H.grants shelf.old candidates.now) }
+    requires ranks { IsTrue (H.grants shelf.old ranks.now) }
     requires workers { (1 ≤ workers) × (workers ≤ 64) }
     ensures told { Prepared (H.files shelf.old)
-        (place_outcome (string_bytes programmes.now) (string_bytes candidates.now)
-        (string_bytes ranks.now)) result }
+        (place_outcome programmes.now candidates.now ranks.now) result }
     ensures worst { PreparedWorst (H.files shelf.old)
-        (string_bytes programmes.now) (string_bytes candidates.now) (string_bytes ranks.now)
-        result }
+        programmes.now candidates.now ranks.now result }
     ensures causes { HasCauses (H.faults shelf.old) (H.faults shelf.new)
         (H.tally shelf.old) (H.tally shelf.new) result }
     ensures files { H.files shelf.new ≡ H.files shelf.old }

@@ -398,6 +398,18 @@ fn long_line(alloc: Global, header: &str, size: usize, row: &str) -> Result<Vec<
     Ok(bytes)
 }
 
+// Three files whose data rows stand in lines of these sizes.
+fn long_lines(alloc: Global, sizes: [usize; 3]) -> Result<MemShelf, AllocError> {
+    let [programmes, candidates, ranks] = sizes;
+    let programmes = long_line(alloc, "programme,type,quota\n", programmes, "101,SAY,1")?;
+    let candidates = long_line(alloc, "candidate,list\n", candidates, "1,101")?;
+    let ranks = long_line(alloc, "candidate,type,rank\n", ranks, "1,SAY,1")?;
+    shelf(
+        alloc,
+        &[("p", &programmes), ("c", &candidates), ("r", &ranks)],
+    )
+}
+
 #[test]
 fn a_line_may_have_1024_bytes_in_each_file(rt: HostRuntime) -> Result<(), Fail> {
     let alloc = rt.alloc();
@@ -416,22 +428,24 @@ fn a_line_may_have_1024_bytes_in_each_file(rt: HostRuntime) -> Result<(), Fail> 
             "fault ranks line 2 field 0 F10 LineTooLong earlier 0\n",
         ),
     ] {
-        let [programmes, candidates, ranks] = sizes;
-        let mut shelf = MemShelf::new(alloc);
-        for (name, header, size, row) in [
-            ("p", "programme,type,quota\n", programmes, "101,SAY,1"),
-            ("c", "candidate,list\n", candidates, "1,101"),
-            ("r", "candidate,type,rank\n", ranks, "1,SAY,1"),
-        ] {
-            shelf.add(
-                String::from_str(alloc, name)?,
-                long_line(alloc, header, size, row)?,
-            )?;
-        }
-        let ran = run(&rt, alloc, &PLACE, shelf)?;
+        let ran = run(&rt, alloc, &PLACE, long_lines(alloc, sizes)?)?;
         assert_eq!(rt; ran.notes.bytes(), note.as_bytes());
     }
     Ok(())
+}
+
+// A programmes file with so many rows.
+fn many_programmes(alloc: Global, rows: u64) -> Result<Vec<u8>, AllocError> {
+    let mut programmes = b"programme,type,quota\n".to_vec(alloc)?;
+    for code in 1..=rows {
+        put_row_3(
+            &mut programmes,
+            Field::Number(code),
+            Field::Text(b"SAY"),
+            Field::Number(1),
+        )?;
+    }
+    Ok(programmes)
 }
 
 #[test]
@@ -444,17 +458,8 @@ fn a_programmes_file_may_have_60_000_rows(rt: HostRuntime) -> Result<(), Fail> {
             "fault programmes line 60002 field 0 F09 TooManyRows earlier 0\n",
         ),
     ] {
-        let mut programmes = b"programme,type,quota\n".to_vec(alloc)?;
-        for code in 1..=rows {
-            put_row_3(
-                &mut programmes,
-                Field::Number(code),
-                Field::Text(b"SAY"),
-                Field::Number(1),
-            )?;
-        }
         let mut shelf = shelf(alloc, &FREED_SEAT)?;
-        shelf.add(String::from_str(alloc, "p")?, programmes)?;
+        shelf.add(String::from_str(alloc, "p")?, many_programmes(alloc, rows)?)?;
         let ran = run(&rt, alloc, &PLACE, shelf)?;
         assert_eq!(rt; ran.notes.bytes(), note.as_bytes());
     }

@@ -1,6 +1,5 @@
 use Rattle.std.proofs.Common.{subst, ◌∙◌}
 use Rattle.std.specs.Prelude.{Option, Ok}
-use Rattle.std.specs.String.{string_bytes}
 use Rattle.place_edges.specs.Shelf.{Files}
 use Rattle.programme_table.specs.Table.{codes_of}
 use Rattle.candidate_table.specs.Table.{numbers_of}
@@ -15,14 +14,14 @@ returns-clause-told g c =
     let programmes = c.in_ok-programmes.programmes in
     let candidates = c.in_ok-candidates.candidates in
     let ranks = c.in_ok-ranks.ranks in
-    prepared-text (g.H.Shelf.files c.args.shelf.now) (string_bytes c.args.programmes.now)
-    (string_bytes c.args.candidates.now)
-    (string_bytes c.args.ranks.now) programmes candidates ranks c.in_ok-text.text
+    prepared-text (g.H.Shelf.files c.args.shelf.now) c.args.programmes.now
+    c.args.candidates.now
+    c.args.ranks.now programmes candidates ranks c.in_ok-text.text
     c.in_ok-programmes.ensures.told
-    (subst (λ (v : Option Files). FileRead v (string_bytes c.args.candidates.now)
+    (subst (λ (v : Option Files). FileRead v c.args.candidates.now
     (candidates_said (codes_of programmes.rows)) (Ok candidates))
     c.in_ok-programmes.ensures.files c.in_ok-candidates.ensures.told)
-    (subst (λ (v : Option Files). FileRead v (string_bytes c.args.ranks.now)
+    (subst (λ (v : Option Files). FileRead v c.args.ranks.now
     (ranks_said programmes.names (numbers_of candidates.lines)) (Ok ranks))
     (c.in_ok-candidates.ensures.files ∙ c.in_ok-programmes.ensures.files) c.in_ok-ranks.ensures.told)
     c.in_ok-text.ensures.printed
@@ -32,14 +31,14 @@ returns-clause-worst g c =
     let programmes = c.in_ok-programmes.programmes in
     let candidates = c.in_ok-candidates.candidates in
     let ranks = c.in_ok-ranks.ranks in
-    prepared-worst (g.H.Shelf.files c.args.shelf.now) (string_bytes c.args.programmes.now)
-    (string_bytes c.args.candidates.now)
-    (string_bytes c.args.ranks.now) programmes candidates ranks c.in_ok-text.text
+    prepared-worst (g.H.Shelf.files c.args.shelf.now) c.args.programmes.now
+    c.args.candidates.now
+    c.args.ranks.now programmes candidates ranks c.in_ok-text.text
     c.in_ok-programmes.ensures.told
-    (subst (λ (v : Option Files). FileRead v (string_bytes c.args.candidates.now)
+    (subst (λ (v : Option Files). FileRead v c.args.candidates.now
     (candidates_said (codes_of programmes.rows)) (Ok candidates))
     c.in_ok-programmes.ensures.files c.in_ok-candidates.ensures.told)
-    (subst (λ (v : Option Files). FileRead v (string_bytes c.args.ranks.now)
+    (subst (λ (v : Option Files). FileRead v c.args.ranks.now
     (ranks_said programmes.names (numbers_of candidates.lines)) (Ok ranks))
     (c.in_ok-candidates.ensures.files ∙ c.in_ok-programmes.ensures.files) c.in_ok-ranks.ensures.told)
     c.in_ok-text.ensures

@@ -1,5 +1,4 @@
 use Rattle.std.proofs.Common.{◌^◌, ◌≤◌, length, refl, sym, subst, arith}
-use Rattle.std.specs.String.{string_bytes}
 use Rattle.place_base.specs.declared.fault.FileKind.TheVariants as file
 use Rattle.place_edges.specs.Shelf.{HasBytes}
 use Rattle.programme_table.specs.Table.{codes_of}
@@ -13,7 +12,7 @@ use Rattle.place_run.proofs.files.read_candidates.Goals as goal
 pub returns-in_err-bytes-clause-told : goal.returns-in_err-bytes-clause-told
 unfolding candidates_said
 returns-in_err-bytes-clause-told g c =
-    at-refusal (FileRead (g.H.Shelf.files c.args.shelf.now) (string_bytes c.args.name.now)
+    at-refusal (FileRead (g.H.Shelf.files c.args.shelf.now) c.args.name.now
     (candidates_said (codes_of c.args.programmes.now.rows)))
     c.from_residual.result c.in_err-bytes.field-0.0 c.from_residual.ensures.1
     (read-stop _ _ file.Candidates _ _ (λ bytes many. judged-long file.Candidates _ _ bytes many)
@@ -22,11 +21,11 @@ returns-in_err-bytes-clause-told g c =
 pub returns-in_err-table-clause-told : goal.returns-in_err-table-clause-told
 unfolding candidates_said
 returns-in_err-table-clause-told g c =
-    let held = subst (HasBytes (g.H.Shelf.files c.args.shelf.now) (string_bytes c.args.name.now))
+    let held = subst (HasBytes (g.H.Shelf.files c.args.shelf.now) c.args.name.now)
     (sym c.deref.ensures.value) c.in_ok-bytes.ensures.told in
     let few : length c.deref.result.now ≤ 2 ^ 30 = omega
     (arith, c.in_ok-bytes.ensures.few, c.deref.ensures.len) in
-    at-refusal (FileRead (g.H.Shelf.files c.args.shelf.now) (string_bytes c.args.name.now)
+    at-refusal (FileRead (g.H.Shelf.files c.args.shelf.now) c.args.name.now
     (candidates_said (codes_of c.args.programmes.now.rows)))
     c.from_residual-in_err-table.result (stop_of c.in_err-table.field-0.0)
     c.from_residual-in_err-table.ensures.1
@@ -47,7 +46,7 @@ returns-in_err-table-clause-causes g c =
 pub returns-clause-told : goal.returns-clause-told
 unfolding candidates_said
 returns-clause-told g c =
-    let held = subst (HasBytes (g.H.Shelf.files c.args.shelf.now) (string_bytes c.args.name.now))
+    let held = subst (HasBytes (g.H.Shelf.files c.args.shelf.now) c.args.name.now)
     (sym c.deref.ensures.value) c.in_ok-bytes.ensures.told in
     let few : length c.deref.result.now ≤ 2 ^ 30 = omega
     (arith, c.in_ok-bytes.ensures.few, c.deref.ensures.len) in

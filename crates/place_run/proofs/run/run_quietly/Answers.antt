@@ -1,6 +1,5 @@
 use Rattle.std.proofs.Common.{arith, ◌≡◌}
 use Rattle.std.proofs.lemmas.Grind.{common_steps}
-use Rattle.std.specs.String.{string_bytes}
 use Rattle.command_words.specs.Words.{texts}
 use Rattle.place_run.specs.Outcome.{word_at}
 use Rattle.place_run.proofs.Endings.{front-finished, worst-finished}
@@ -13,8 +12,8 @@ returns-clause-kept g c =
 pub returns-clause-worst : goal.returns-clause-worst
 returns-clause-worst g c =
     let words = texts c.args.words.now in
-    let programmes : string_bytes c.programmes-item.result ≡ word_at words 1 = grind (arith, common_steps) in
-    let candidates : string_bytes c.candidates-item.result ≡ word_at words 2 = grind (arith, common_steps) in
-    let ranks : string_bytes c.ranks-item.result ≡ word_at words 3 = grind (arith, common_steps) in
+    let programmes : c.deref.result.now ≡ word_at words 1 = grind (arith, common_steps) in
+    let candidates : c.deref-2.result.now ≡ word_at words 2 = grind (arith, common_steps) in
+    let ranks : c.deref-3.result.now ≡ word_at words 3 = grind (arith, common_steps) in
     worst-finished g.K.Sink.written g.K.Sink.faults _ words _ _ _ _ _ _ _ programmes candidates
     ranks c.prepare_place-prepared.ensures.worst c.finish.ensures
