@@ -1,11 +1,12 @@
 #!/bin/sh
 # Times the walk of a rank file by rows, fields and numbers beside plain Rust: walk.sh FILE
-# The timing program is proved and built in a repository of its own under bench/out, so it is no part of the gate.
+# The timing program is proved and built in a repository of its own in a temporary folder, so it is no part of the gate.
 set -e
 here=$(cd "$(dirname "$0")" && pwd)
-repository=$here/out/walk
 command -v rustc >/dev/null || { echo "bench: skipped, there is no rustc"; exit 0; }
-mkdir -p "$repository/crates/walk/src" "$repository/crates/walk/proofs/walk" "$repository/crates/walk/specs"
+repository=$(mktemp -d)
+trap 'rm -rf "$repository"' EXIT
+mkdir -p "$here/out" "$repository/crates/walk/src" "$repository/crates/walk/proofs/walk" "$repository/crates/walk/specs"
 (cd "$repository" && git init -q .)
 cp "$here/../HANDLES" "$repository/"
 for crate in place_base record_files place_edges; do
