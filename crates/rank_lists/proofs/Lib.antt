@@ -9,5 +9,4 @@ pub mod Standings
 pub mod Ranking
 pub mod TableLemmas
 pub mod Reading
-pub mod Lookups
 pub mod ShortForms

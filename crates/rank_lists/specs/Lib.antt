@@ -1,4 +1,3 @@
-pub mod ByCandidate
 pub mod Duplicates
 pub mod Gathered
 pub mod Groups

@@ -14,10 +14,8 @@ mod duplicates;
 // Numbers in order, and the first of them that stands twice.
 mod repeats;
 // The turn order of a type, sorted from the ranks given in it.
-mod turns;
-// The ranks of each type by candidate.
-mod by_candidate;
 #[cfg(test)]
 mod tests;
+mod turns;
 
 pub use lists::{RankLists, RankParts};

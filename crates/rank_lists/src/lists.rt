@@ -1,19 +1,18 @@
 // The turn orders and ranks of a file, and their look-ups.
 
-ghost use Rattle.std.specs.Prelude.{◌≡◌, ◌^◌, ◌<◌, ◌≤◌, length, IfOk};
+ghost use Rattle.std.specs.Prelude.{◌≡◌, ◌^◌, ◌<◌, ◌≤◌, length};
 ghost use Rattle.record_files.specs.FirstFaults.{IsTableRead};
 ghost use Rattle.rank_lists.specs.RankRows.{ranks_fault};
 ghost use Rattle.rank_lists.specs.RankTables.{ranks_table, table_with, order_at, rank_at};
 ghost use Rattle.rank_lists.specs.Soundness.{IsSound};
 
-use crate::by_candidate::tables_by_candidate;
 use crate::duplicates::first_duplicate;
 use crate::gather::{Gathered, RankRows, gather};
 use crate::turns::all_turns;
 use market::List;
 use place_base::{Finder, TypeFinder};
 use record_files::TableStop;
-use std::alloc::{AllocError, Global};
+use std::alloc::Global;
 use std::marker::Model;
 use std::thread::Threads;
 
@@ -26,19 +25,17 @@ pub struct RankLists {
     candidates: u32,
     orders: Vec<List>,
     ranks: Vec<List>,
-    // For each type the rank of each candidate, 0 for none.
-    by_candidate: Vec<List>,
 }
 
 impl Model for RankLists {
     ghost use Rattle.rank_lists.specs.RankTables.{RankTable, table_with};
-    ghost use Rattle.rank_lists.specs.ByCandidate.{HasTables};
+    ghost use Rattle.rank_lists.specs.Soundness.{IsSound};
 
     ghost Value = { RankTable };
 
     ghost view = { λ l. table_with l.candidates l.orders.items l.ranks.items };
 
-    ghost invariant = { λ l. HasTables (table_with l.candidates l.orders.items l.ranks.items) l.by_candidate.items };
+    ghost invariant = { λ l. IsSound (table_with l.candidates l.orders.items l.ranks.items) };
 }
 
 /// The turn order of each type and the ranks in it, as a market takes them.
@@ -81,23 +78,19 @@ impl RankLists {
             return Err(TableStop::Fault(fault));
         }
         let turns = all_turns(alloc, given, candidates)?;
-        let lists = RankLists::of_turns(alloc, candidates.count(), turns)?;
-        Ok(lists)
+        Ok(RankLists::of_turns(candidates.count(), turns))
     }
 
     // The lists of turn orders of so many candidates.
-    fn of_turns(alloc: Global, candidates: u32, turns: RankParts) -> Result<RankLists, AllocError>
+    fn of_turns(candidates: u32, turns: RankParts) -> RankLists
         requires { IsSound (table_with candidates turns.orders.items turns.ranks.items) }
-        ensures { IfOk result (λ lists. lists
-            ≡ table_with candidates turns.orders.items turns.ranks.items) }
+        ensures { result ≡ table_with candidates turns.orders.items turns.ranks.items }
     {
-        let by_candidate = tables_by_candidate(alloc, candidates, &turns.orders, &turns.ranks)?;
-        Ok(RankLists {
+        RankLists {
             candidates,
             orders: turns.orders,
             ranks: turns.ranks,
-            by_candidate,
-        })
+        }
     }
 
     /// The candidates with a rank in a type, by rising rank.
@@ -108,14 +101,20 @@ impl RankLists {
         self.orders[kind as usize].items()
     }
 
-    /// The rank of a candidate in a type, or `None` where the candidate has none.
+    /// The rank of a candidate in a type, or `None` where the candidate has none. It walks the turn
+    /// order; a market finds a rank at once.
     pub fn rank_of(&self, kind: u32, candidate: u32) -> Option<u32>
         requires kind { kind < length self.now.orders }
         requires candidate { candidate < self.now.candidates }
         ensures { result ≡ rank_at self.now kind candidate }
     {
-        let rank = self.by_candidate[kind as usize].items()[candidate as usize];
-        if rank == 0 { None } else { Some(rank) }
+        let order = self.orders[kind as usize].items();
+        for (turn, other) in order.iter().enumerate() {
+            if *other == candidate {
+                return Some(self.ranks[kind as usize].items()[turn]);
+            }
+        }
+        None
     }
 
     /// Gives the turn orders and ranks to a market, without a copy.

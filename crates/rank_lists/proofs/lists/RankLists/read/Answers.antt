@@ -58,7 +58,7 @@ returns g c =
     let stop = subst (λ o. StopsAt gathers.count gathers.left o) c.in_default-stop.is
     gathers.stop in (
       no-fault names numbers bytes c.in_ok-rows.field-0 gathers none stop,
-      (c.in_ok-lists.ensures {u = tt})
+      (c.of_turns.ensures)
           ∙ table-read names numbers bytes c.in_ok-rows.field-0 gathers none stop few c.count.result _ _
           size (c.in_ok-turns.ensures {u = tt}),
     )
