@@ -1,8 +1,8 @@
 -- Many turns with short lists over seven programmes are a valid dictatorship.
-use Rattle.std.proofs.Common.{◌≡◌, ℕ, zero, suc, ◌<◌, ◌≤◌, List, [], ◌∷◌, ◌++◌, length, Some, sym, refl, ap, subst, ◌∙◌, ⊎_elim, arith}
+use Rattle.std.proofs.Common.{◌≡◌, ℕ, zero, suc, ◌<◌, ◌≤◌, List, [], ◌∷◌, ◌++◌, length, Some, refl, arith}
 use Rattle.std.specs.Prelude.{slice_get, slice_index, slice_index_or}
 use Rattle.std.proofs.lemmas.Option.{slice_get-get_or}
-use Rattle.interleaving_core.proofs.Places.{at_snoc}
+use Rattle.word_rule.proofs.Seats.{each_snoc}
 use Rattle.market.specs.Dictatorships.{Dictatorship, IsValidDictatorship, list_at}
 use Rattle.market.proofs.Checks.{dictatorship_fits, turn_lists_fit, dictatorship_valid_from}
 use Rattle.market.proofs.Computes.{computes}
@@ -28,11 +28,7 @@ small_three a b c la lb lc = record { short = omega arith; below = at }
 -- one more
 pub small_snoc : (l xs : List (List ℕ)) (m : List ℕ) → l ≡ xs ++ m ∷ [] → AreSmall xs → IsSmall m
     → AreSmall l
-small_snoc l xs m is all mine k list e =
-    ⊎_elim
-    (λ (t : slice_get xs k ≡ Some list). all k list t)
-    (λ (t : (k ≡ length xs) × (m ≡ list)). subst IsSmall t.1 mine)
-    (at_snoc xs m list k (ap (λ z. slice_get z k) (sym is) ∙ e))
+small_snoc = each_snoc (λ _ list. IsSmall list)
 
 -- the quotas of the seven programmes, of which no seat is taken
 abbrev pub seven_programmes : List (List ℕ) → Dictatorship

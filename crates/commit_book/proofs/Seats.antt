@@ -1,29 +1,21 @@
 -- Lists of seats that may draw: one taken from the end, or put there.
-use Rattle.std.proofs.Common.{◌≡◌, List, [], ◌∷◌, ◌++◌, length, Some, sym, ap, subst, ◌∙◌, ⊎_elim}
-use Rattle.std.specs.Prelude.{slice_get}
-use Rattle.interleaving_core.proofs.Places.{at_snoc, at_longer, at_last}
+use Rattle.std.proofs.Common.{◌≡◌, List, [], ◌∷◌, ◌++◌, ap}
 use Rattle.interleaving_core.specs.Core.{View}
 use Rattle.word_rule.specs.Rounds.{AllNew}
 use Rattle.word_rule.specs.declared.seat.SharedRound.{SharedRound}
 use Rattle.word_rule.specs.declared.seat.WorkSeat.{WorkSeat}
+use Rattle.word_rule.proofs.Seats.{each_last, each_snoc}
 use Rattle.commit_book.specs.Seats.{IsReady, AllReady}
 
 -- the last of these seats, and the others
 pub ready_last : (round : SharedRound) (l xs : List WorkSeat) (m : WorkSeat) → l ≡ xs ++ m ∷ []
     → AllReady round l → IsReady round m × AllReady round xs
-ready_last round l xs m is all = (
-  all (length xs) m (ap (λ z. slice_get z (length xs)) is ∙ at_last xs m),
-  λ k me e. all k me (ap (λ z. slice_get z k) is ∙ at_longer xs (m ∷ []) k me e),
-)
+ready_last round = each_last (λ _ me. IsReady round me)
 
 -- one more such seat
 pub ready_snoc : (round : SharedRound) (l xs : List WorkSeat) (m : WorkSeat) → l ≡ xs ++ m ∷ []
     → AllReady round xs → IsReady round m → AllReady round l
-ready_snoc round l xs m is all mine k me e =
-    ⊎_elim
-    (λ (t : slice_get xs k ≡ Some me). all k me t)
-    (λ (t : (k ≡ length xs) × (m ≡ me)). subst (IsReady round) t.1 mine)
-    (at_snoc xs m me k (ap (λ z. slice_get z k) (sym is) ∙ e))
+ready_snoc round = each_snoc (λ _ me. IsReady round me)
 
 -- seats at the opening may draw
 pub ready_new : (round : SharedRound) (l : List WorkSeat) → AllNew round l → AllReady round l

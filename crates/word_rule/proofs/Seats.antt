@@ -8,13 +8,31 @@ use Rattle.word_rule.specs.Rounds.{knows, shares_of, IsNew, AllNew, IsOver, AllO
 use Rattle.word_rule.specs.declared.seat.SharedRound.{SharedRound}
 use Rattle.word_rule.specs.declared.seat.WorkSeat.{WorkSeat}
 
+module _ {A : Type 0} (P : ℕ → A → Type 0) where
+  -- at each place of the list it holds
+  abbrev Each : List A → Type 0
+  Each l = (k : ℕ) (x : A) → slice_get l k ≡ Some x → P k x
+
+  -- of the last one, and of the others
+  pub each_last : (l xs : List A) (m : A) → l ≡ xs ++ m ∷ [] → Each l → P (length xs) m × Each xs
+  each_last l xs m is all = (
+    all (length xs) m (ap (λ z. slice_get z (length xs)) is ∙ at_last xs m),
+    λ k x e. all k x (ap (λ z. slice_get z k) is ∙ at_longer xs (m ∷ []) k x e),
+  )
+
+  -- of one more
+  pub each_snoc : (l xs : List A) (m : A) → l ≡ xs ++ m ∷ [] → Each xs → P (length xs) m → Each l
+  each_snoc l xs m is all mine k x e =
+      ⊎_elim
+      (λ (t : slice_get xs k ≡ Some x). all k x t)
+      (λ (t : (k ≡ length xs) × (m ≡ x)).
+      subst (λ (z : ℕ × A). P z.0 z.1) (λ i. (sym t.0 i, t.1 i)) mine)
+      (at_snoc xs m x k (ap (λ z. slice_get z k) (sym is) ∙ e))
+
 -- the last of seats that are over, and the others
 pub over_last : (round : SharedRound) (l xs : List WorkSeat) (m : WorkSeat) → l ≡ xs ++ m ∷ []
     → AllOver round l → IsOver round m × AllOver round xs
-over_last round l xs m is all = (
-  all (length xs) m (ap (λ z. slice_get z (length xs)) is ∙ at_last xs m),
-  λ k me e. all k me (ap (λ z. slice_get z k) is ∙ at_longer xs (m ∷ []) k me e),
-)
+over_last round = each_last (λ _ me. IsOver round me)
 
 -- their shares
 pub shares_last : (l xs : List WorkSeat) (m : WorkSeat) → l ≡ xs ++ m ∷ []
@@ -36,12 +54,7 @@ shares_none l left n is none rest =
 -- one more seat at the opening
 pub new_snoc : (round : SharedRound) (l xs : List WorkSeat) (m : WorkSeat) → l ≡ xs ++ m ∷ []
     → AllNew round xs → IsNew round (length xs) m → AllNew round l
-new_snoc round l xs m is all mine k me e =
-    ⊎_elim
-    (λ (t : slice_get xs k ≡ Some me). all k me t)
-    (λ (t : (k ≡ length xs) × (m ≡ me)).
-    subst (λ (z : ℕ × WorkSeat). IsNew round z.0 z.1) (λ i. (sym t.0 i, t.1 i)) mine)
-    (at_snoc xs m me k (ap (λ z. slice_get z k) (sym is) ∙ e))
+new_snoc round = each_snoc (IsNew round)
 
 -- one more seat
 pub count_snoc : (l xs : List WorkSeat) (m : WorkSeat) → l ≡ xs ++ m ∷ [] → length l ≡ length xs + 1
