@@ -5,12 +5,12 @@ use Rattle.market.specs.Problems.{Problem, place_of, kind_of, list_of, order_of,
 use Rattle.market.specs.Mechanism.{tentative, best_in}
 
 -- what a table has for a type and a candidate
-abbrev pub choice_in : List (List (Option ℕ)) → ℕ → ℕ → Option ℕ
-choice_in table t i = slice_index_or (slice_index_or table t []) i None
+abbrev pub programme_in : List (List (Option ℕ)) → ℕ → ℕ → Option ℕ
+programme_in table t i = slice_index_or (slice_index_or table t []) i None
 
 -- the table with no choice anywhere
-unfoldable pub no_choices : Problem → List (List (Option ℕ))
-no_choices m = replicate m.types (replicate (length m.lists) None)
+unfoldable pub empty_table : Problem → List (List (Option ℕ))
+empty_table m = replicate m.types (replicate (length m.lists) None)
 
 -- the table of one round: the tentative programmes under the cuts
 pub record IsRound (m : Problem) (cuts : List ℕ) (table : List (List (Option ℕ))) : Type 0 where
@@ -38,11 +38,11 @@ pub record IsTable (m : Problem) (table : List (List (Option ℕ))) : Type 0 whe
 -- each choice is a programme of its type, of a candidate who has a turn in it, and stands within the
 -- candidate's cut
 pub record IsWithinCuts (m : Problem) (table : List (List (Option ℕ))) (cuts : List ℕ) : Type 0 where
-  pub kind : (t i p : ℕ) → choice_in table t i ≡ Some p → kind_of m p ≡ t
-  pub turn : (t i p : ℕ) → choice_in table t i ≡ Some p → turn_of m t i < length (order_of m t)
-  pub within : (t i p : ℕ) → choice_in table t i ≡ Some p
+  pub kind : (t i p : ℕ) → programme_in table t i ≡ Some p → kind_of m p ≡ t
+  pub turn : (t i p : ℕ) → programme_in table t i ≡ Some p → turn_of m t i < length (order_of m t)
+  pub within : (t i p : ℕ) → programme_in table t i ≡ Some p
       → place_of p (list_of m i) < slice_index cuts i
 
 -- the best choice of each candidate
-unfoldable pub placed_in : Problem → (ℕ → ℕ → Option ℕ) → List (Option ℕ)
-placed_in m c = map (λ i. slice_get (list_of m i) (best_in m c i)) (range_with_len 0 (length m.lists))
+unfoldable pub best_programmes_in : Problem → (ℕ → ℕ → Option ℕ) → List (Option ℕ)
+best_programmes_in m c = map (λ i. slice_get (list_of m i) (best_in m c i)) (range_with_len 0 (length m.lists))

@@ -1,35 +1,13 @@
 // The market of three rounds by its calls, each that takes memory with ample memory.
 
-ghost use Rattle.std.specs.Prelude.{◌≡◌, ◌<◌, IfOk};
+ghost use Rattle.std.specs.Prelude.{◌<◌};
 ghost use Rattle.market.specs.Mechanism.{IsCuts};
-ghost use Rattle.market.specs.Examples.{three_rounds};
 
-use crate::{Cuts, List, Market, Placement, Prog, Tentative};
+use crate::examples::three_rounds;
+use crate::{Cuts, Market, Placement, Tentative};
 use std::alloc::{AllocError, Global};
 use std::process::Abort;
 use std::test::Fail;
-
-// The market of three rounds.
-fn three_rounds(alloc: Global) -> Result<Market, AllocError>
-    ensures { IfOk result (λ m. m ≡ three_rounds) }
-{
-    let programmes = vec![in alloc;
-        Prog { kind: 0, quota: 1 },
-        Prog { kind: 0, quota: 1 },
-        Prog { kind: 1, quota: 1 },
-    ]?;
-    let first = List::from_slice(alloc, &[0, 2])?;
-    let second = List::from_slice(alloc, &[2, 0, 1])?;
-    let third = List::from_slice(alloc, &[1])?;
-    let lists = vec![in alloc; first, second, third]?;
-    let order = List::from_slice(alloc, &[0, 1, 2])?;
-    let other_order = List::from_slice(alloc, &[0, 1, 2])?;
-    let orders = vec![in alloc; order, other_order]?;
-    let ranks = List::from_slice(alloc, &[1, 2, 3])?;
-    let other_ranks = List::from_slice(alloc, &[1, 2, 3])?;
-    let ranks = vec![in alloc; ranks, other_ranks]?;
-    Market::build(alloc, 2, programmes, lists, orders, ranks)
-}
 
 // What several threads may share, and one may hand to another.
 fn crosses_threads<T: Send + Sync>(_value: &T) {}
