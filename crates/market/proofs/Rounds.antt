@@ -10,7 +10,7 @@ use Rattle.std.proofs.lemmas.List.Folds.{find_at}
 use Rattle.std.proofs.Math.ListN.{get_or-map as get_or-map_past}
 use Rattle.market.specs.Counting.{count_below}
 use Rattle.market.specs.Problems.{Problem, place_of, kind_of, list_of}
-use Rattle.market.specs.Mechanism.{tentative, has_several, is_taken, best_place, next_cut, next_cuts, whole_cuts, cuts_after, several_count, is_settled, settled_from, entry_count, entries_left, mechanism_rounds, RoundsEnd, cutting_rounds, best_programme, best_in, cut_in, cuts_in, has_several_in, several_in}
+use Rattle.market.specs.Mechanism.{tentative, has_several, is_taken, best_place, next_cut, next_cuts, whole_cuts, cuts_after, several_count, is_settled, settled_from, entry_count, entries_left, mechanism_rounds, HasLastRound, cutting_rounds, best_programme, best_in, cut_in, cuts_in, has_several_in, several_in}
 use Rattle.market.proofs.Firsts.{find_passes, find_first, first_at, place_same}
 use Rattle.market.proofs.Turns.{is_programme-true, is_programme-from, some_from}
 use Rattle.market.proofs.Counts.{Passes, count_one, count_two, count_some, count_some_two, sum_lt, sum_same}
@@ -308,7 +308,7 @@ pub cutting_rounds-settles : (m : Problem) → Settles m 0 (cutting_rounds m) (e
 unfolding cutting_rounds
 cutting_rounds-settles m = let e = first_total m in settles m (entry_count m) 0 (omega arith)
 
-pub rounds_end : (m : Problem) → RoundsEnd m
+pub rounds_end : (m : Problem) → HasLastRound m
 unfolding mechanism_rounds
 rounds_end m =
     let s = cutting_rounds-settles m in

@@ -150,7 +150,7 @@ mechanism m =
 
 -- the rounds end: at most one round more than there are list entries, the last one settled, and each
 -- earlier one cutting an entry away
-pub record RoundsEnd (m : Problem) : Type 0 where
+pub record HasLastRound (m : Problem) : Type 0 where
   pub bounded : mechanism_rounds m ≤ entry_count m + 1
   pub last : IsTrue (is_settled m (cuts_after m (cutting_rounds m)))
   pub cutting : (r : ℕ) → r < cutting_rounds m

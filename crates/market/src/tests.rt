@@ -1,13 +1,16 @@
 // The market of three rounds by its calls, each that takes memory with ample memory.
 
-ghost use Rattle.std.specs.Prelude.{◌<◌};
+ghost use Rattle.std.specs.Prelude.{◌≡◌, ◌<◌, [], ◌∷◌, IfOk};
+ghost use Rattle.market.specs.Problems.{problem};
+ghost use Rattle.market.specs.Examples.{prog};
 ghost use Rattle.market.specs.Mechanism.{IsCuts};
 
 use crate::examples::three_rounds;
-use crate::{Cuts, Market, Placement, Tentative};
+use crate::{Cuts, List, Market, Placement, Prog, Tentative};
 use std::alloc::{AllocError, Global};
 use std::process::Abort;
 use std::test::Fail;
+use std::thread::Threads;
 
 // What several threads may share, and one may hand to another.
 fn crosses_threads<T: Send + Sync>(_value: &T) {}
@@ -83,6 +86,30 @@ fn gives_the_dictatorship_of_a_type(rt: HostRuntime) -> Result<(), Fail> {
     assert_eq!(rt; cuts.cut(1), 2);
     let lists = turn_lists(alloc, &market, &cuts, 0)?;
     assert_eq!(rt; lists.as_slice(), &[0, 9, 0, 9, 1, 9][..]);
+    Ok(())
+}
+
+// A market of two types, one programme each and one candidate, made by two threads.
+fn built_by_two<R: Threads + Sync>(rt: &R, alloc: Global) -> Result<Market, AllocError>
+    ensures { IfOk result (λ m. m ≡ problem 2 (prog 0 1 ∷ prog 1 1 ∷ []) ((1 ∷ 0 ∷ []) ∷ [])
+        ((0 ∷ []) ∷ (0 ∷ []) ∷ []) ((7 ∷ []) ∷ (7 ∷ []) ∷ [])) }
+{
+    let programmes = vec![in alloc; Prog { kind: 0, quota: 1 }, Prog { kind: 1, quota: 1 }]?;
+    let list = List::from_slice(alloc, &[1, 0])?;
+    let lists = vec![in alloc; list]?;
+    let orders = vec![in alloc; List::from_slice(alloc, &[0])?, List::from_slice(alloc, &[0])?]?;
+    let ranks = vec![in alloc; List::from_slice(alloc, &[7])?, List::from_slice(alloc, &[7])?]?;
+    Market::build_by(rt, alloc, 2, 2, programmes, lists, orders, ranks)
+}
+
+#[test]
+fn is_the_same_made_by_two_threads(rt: HostRuntime) -> Result<(), Fail> {
+    let alloc = rt.alloc();
+    let market = built_by_two(&rt, alloc)?;
+    for kind in 0..market.type_count() {
+        assert_eq!(rt; market.rank(kind, 0), Some(7));
+        assert_eq!(rt; market.turn(kind, 0), 0);
+    }
     Ok(())
 }
 

@@ -1,8 +1,8 @@
 // The lists of all types in turn order, made by several threads.
 
-ghost use Rattle.std.specs.Prelude.{◌≡◌, ℕ, ◌<◌, length, IfOk, Option};
+ghost use Rattle.std.specs.Prelude.{◌≡◌, ℕ, ◌<◌, ◌≤◌, length, slice_index_or, IfOk, Option};
 ghost use Rattle.std.specs.Option.{IfSome};
-ghost use Rattle.std.specs.Prelude.{slice_index_or};
+ghost use Rattle.market.specs.declared.limits.TheConstants.{MAX_TYPES};
 ghost use Rattle.market.specs.Tables.{IsLocals};
 ghost use Rattle.market.specs.TypeLists.{FlatTypeLists, IsTypeLists, HasTypeLists};
 
@@ -59,7 +59,7 @@ fn make_lists<R: Threads + Sync>(
 )
     requires threads { 0 < threads }
     requires types { length made.old ≡ parts.now.types }
-    requires few { parts.now.types < 4294967296 }
+    requires few { parts.now.types ≤ MAX_TYPES }
     requires numbers { IsLocals parts.now locals.now }
     ensures { (t : ℕ) (d : Option FlatTypeLists) → t < length made.old
         → IfSome (slice_index_or made.new t d) (IsTypeLists parts.now t) }
@@ -69,7 +69,7 @@ fn make_lists<R: Threads + Sync>(
         made,
         threads as usize,
         &|kind, of_kind: &mut Option<TypeLists>|
-            requires { (kind < parts.now.types) × (parts.now.types < 4294967296)
+            requires { (kind < parts.now.types) × (parts.now.types ≤ MAX_TYPES)
                 × IsLocals parts.now locals.now }
             ensures { IfSome of_kind.new (IsTypeLists parts.entry.now kind) }
         {
