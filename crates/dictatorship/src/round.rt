@@ -1,7 +1,6 @@
 // One round: the dictatorship of each type, and what each candidate takes in it.
 
-ghost use Rattle.std.specs.Prelude.{◌≡◌, ℕ, ◌<◌, [], length, slice_index, slice_index_or, slice_get, IfOk};
-ghost use Rattle.std.specs.Option.{option_map};
+ghost use Rattle.std.specs.Prelude.{◌≡◌, ℕ, ◌<◌, [], length, slice_index_or, IfOk};
 ghost use Rattle.market.specs.Problems.{order_of};
 ghost use Rattle.market.specs.Mechanism.{IsCuts};
 ghost use Rattle.market.specs.Choices.{IsRound};
@@ -41,26 +40,11 @@ fn run_type(
     ensures others { IfOk result (λ _. (t : ℕ) → (t ≡ kind → ⊥)
         → slice_index_or table.new t [] ≡ slice_index_or table.old t []) }
 {
-    let members = market.type_programmes(kind);
-    let order = market.order(kind);
-    let fill = vec![in alloc; 0u32; members.len()]?;
+    let fill = vec![in alloc; 0u32; market.type_programmes(kind).len()]?;
     let dict = market.dict(alloc, kind, cuts, 0, &fill)?;
-    let found = run_plain(alloc, &dict)?;
-    for (turn, candidate) in order.iter().enumerate() {
-        let programme = entry(members, dict.list(turn as u32), found[turn]);
-        table.set(kind, *candidate, programme);
+    let places = run_plain(alloc, &dict)?;
+    for turn in 0..dict.turns() {
+        table.write_turn(market, cuts, kind, 0, &dict, turn, places[turn as usize]);
     }
     Ok(())
-}
-
-// The programme that a list of local numbers has at a place, if there is one.
-fn entry(members: &[u32], list: &[u32], place: u32) -> Option<u32>
-    requires { (j : ℕ) → j < length list.now → slice_index list.now j < length members.now }
-    ensures { result ≡ option_map (slice_index members.now) (slice_get list.now place) }
-{
-    let place = place as usize;
-    if place < list.len() {
-        return Some(members[list[place] as usize]);
-    }
-    None
 }

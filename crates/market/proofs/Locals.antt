@@ -13,7 +13,7 @@ use Rattle.market.specs.Problems.{Problem, IsValid, kind_of, quota_of, list_of, 
 use Rattle.market.specs.Stability.{held_by}
 use Rattle.market.specs.Dictatorships.{Dictatorship, has_seat, list_at, first_open, choice, choices, pick, seats_taken, IsValidDictatorship}
 use Rattle.market.specs.Mechanism.{is_offered, turn_list, type_dictatorship}
-use Rattle.market.specs.LocalNumbers.{programmes_of, local_of, local_list, local_dictatorship, IsFill}
+use Rattle.market.specs.LocalNumbers.{programmes_of, local_of, local_list, local_dictatorship, IsFill, IsFillBefore}
 use Rattle.market.proofs.Firsts.{find_listed, place_get, place_step}
 use Rattle.market.proofs.Turns.{is_open, pick-find, seats_taken-zero, seats_taken-suc}
 use Rattle.market.proofs.Tentatives.{type-quota, type-fill, type-list, offered-kind, zeros}
@@ -56,7 +56,7 @@ local-quota : (m : Problem) (cuts fill : List ℕ) (t from : ℕ)
 unfolding local_dictatorship
 local-quota m cuts fill t from = refl
 
-local-fill : (m : Problem) (cuts fill : List ℕ) (t from : ℕ)
+pub local-fill : (m : Problem) (cuts fill : List ℕ) (t from : ℕ)
     → (local_dictatorship m cuts t from fill).fill ≡ fill
 unfolding local_dictatorship
 local-fill m cuts fill t from = refl
@@ -199,10 +199,7 @@ module _ (m : Problem) (v : IsValid m) (cuts fill : List ℕ) (t from : ℕ) (lt
       by_picked None e = refl
       by_picked (Some q) e = let x = pick_entry (from + k) q l e in same_number p q lp x.0 kp x.1
 
-  same_seats : ((j : ℕ) → j < length (programmes_of m t)
-      → slice_index fill j
-      ≡ seats_taken (type_dictatorship m cuts t) from (slice_index (programmes_of m t) j))
-      → (k : ℕ) → from + k ≤ length (order_of m t) → SameSeats k
+  same_seats : IsFillBefore m cuts t from fill → (k : ℕ) → from + k ≤ length (order_of m t) → SameSeats k
   unfolding SameSeats
   same_seats fills zero l p lp kp =
       let e = local_dictatorship m cuts t from fill in
@@ -225,18 +222,12 @@ module _ (m : Problem) (v : IsValid m) (cuts fill : List ℕ) (t from : ℕ) (lt
       let c = ap (λ (k : ℕ). seats_taken d k p) n in
       omega arith
 
-  pub local-choice : ((j : ℕ) → j < length (programmes_of m t)
-      → slice_index fill j
-      ≡ seats_taken (type_dictatorship m cuts t) from (slice_index (programmes_of m t) j))
-      → (k : ℕ) → from + k < length (order_of m t)
+  pub local-choice : IsFillBefore m cuts t from fill → (k : ℕ) → from + k < length (order_of m t)
       → choice (local_dictatorship m cuts t from fill) k
       ≡ choice (type_dictatorship m cuts t) (from + k)
   local-choice fills k l = same_choice k (same_seats fills k (omega arith)) l
 
-  pub local-pick : ((j : ℕ) → j < length (programmes_of m t)
-      → slice_index fill j
-      ≡ seats_taken (type_dictatorship m cuts t) from (slice_index (programmes_of m t) j))
-      → (k : ℕ) → from + k < length (order_of m t)
+  pub local-pick : IsFillBefore m cuts t from fill → (k : ℕ) → from + k < length (order_of m t)
       → pick (local_dictatorship m cuts t from fill) k
       ≡ option_map (local_of m) (pick (type_dictatorship m cuts t) (from + k))
   local-pick fills k l = same_pick k (same_seats fills k (omega arith)) l
@@ -257,10 +248,7 @@ no_fills m cuts fill t z j l = let e =
 -- the entry that a turn chooses, in the market's own numbers
 pub entry-pick : (m : Problem) → IsValid m → (cuts fill : List ℕ) (t from k : ℕ)
     → t < m.types
-    → ((j : ℕ) → j < length (programmes_of m t)
-    → slice_index fill j
-    ≡ seats_taken (type_dictatorship m cuts t) from (slice_index (programmes_of m t) j))
-    → from + k < length (order_of m t)
+    → IsFillBefore m cuts t from fill → from + k < length (order_of m t)
     → option_map (slice_index (programmes_of m t))
     (pick (local_dictatorship m cuts t from fill) k)
     ≡ pick (type_dictatorship m cuts t) (from + k)
@@ -286,13 +274,12 @@ pick_is : (d : Dictatorship) (k : ℕ) → slice_get (list_at d k) (choice d k) 
 unfolding pick
 pick_is d k = refl
 
-pub entries_fit : (m : Problem) → IsValid m
-    → (cuts fill : List ℕ) (t from k : ℕ) (d : Dictatorship) (list : List ℕ) → t < m.types
-    → IsFill m t fill → from ≤ length (order_of m t) → d ≡ local_dictatorship m cuts t from fill
+-- the entries of a turn's list are local numbers of the type
+pub entries_fit : (m : Problem) (cuts fill : List ℕ) (t from k : ℕ) (d : Dictatorship)
+    (list : List ℕ) → IsValidDictatorship d → d ≡ local_dictatorship m cuts t from fill
     → k < length d.lists → list ≡ list_at d k → (j : ℕ) → j < length list
     → slice_index list j < length (programmes_of m t)
-entries_fit m v cuts fill t from k d list lt f le e l el j lj =
-    let valid = subst IsValidDictatorship (sym e) (local_valid m v t cuts fill from lt f le) in
+entries_fit m cuts fill t from k d list valid e l el j lj =
     let q = ap (λ (x : Dictatorship). length x.quota) e
     ∙ ap (λ (xs : List ℕ). length xs) (local-quota m cuts fill t from)
     ∙ length-map (programmes_of m t) (quota_of m) in
@@ -300,36 +287,26 @@ entries_fit m v cuts fill t from k d list lt f le e l el j lj =
     let x = ap (λ (xs : List ℕ). slice_index xs j) el in
     omega arith
 
+-- what a caller reads at the choice of a turn is the pick of the type's own dictatorship
 pub turn_pick : (m : Problem) → IsValid m
-    →
-    (cuts fill : List ℕ) (t from k : ℕ) (d : Dictatorship) (members list found : List ℕ)
-    (place : ℕ) (x : Option ℕ)
-    → t < m.types
-    → ((j : ℕ) → j < length (programmes_of m t)
-    → slice_index fill j
-    ≡ seats_taken (type_dictatorship m cuts t) from (slice_index (programmes_of m t) j))
-    → d ≡ local_dictatorship m cuts t from fill → from + k < length (order_of m t)
-    → members ≡ programmes_of m t → list ≡ list_at d k → found ≡ choices d
-    → place ≡ slice_index found k → x ≡ option_map (slice_index members) (slice_get list place)
+    → (cuts fill : List ℕ) (t from k : ℕ) (d : Dictatorship) (members list : List ℕ) (place : ℕ)
+    (x : Option ℕ)
+    → t < m.types → IsFillBefore m cuts t from fill → d ≡ local_dictatorship m cuts t from fill
+    → from + k < length (order_of m t) → members ≡ programmes_of m t → list ≡ list_at d k
+    → place ≡ choice d k → x ≡ option_map (slice_index members) (slice_get list place)
     → x ≡ pick (type_dictatorship m cuts t) (from + k)
-turn_pick m v cuts fill t from k d members list found place x lt fills e l em el ef ep ex =
-    let n = ap (λ (x : Dictatorship). length x.lists) e ∙ local-turns m cuts fill t from in
-    let p = ep ∙ ap (λ (xs : List ℕ). slice_index xs k) ef ∙ choices-at d k (omega arith) in
+turn_pick m v cuts fill t from k d members list place x lt fills e l em el ep ex =
     ex
     ∙ ap (λ (xs : List ℕ). option_map (slice_index xs) (slice_get list place)) em
     ∙ ap (λ (xs : List ℕ). option_map (slice_index (programmes_of m t)) (slice_get xs place)) el
-    ∙ ap (λ (c : ℕ). option_map (slice_index (programmes_of m t)) (slice_get (list_at d k) c)) p
+    ∙ ap (λ (c : ℕ). option_map (slice_index (programmes_of m t)) (slice_get (list_at d k) c)) ep
     ∙ ap (option_map (slice_index (programmes_of m t)))
     (pick_is d k ∙ ap (λ (y : Dictatorship). pick y k) e)
     ∙ entry-pick m v cuts fill t from k lt fills l
 
 -- with no seat taken, from the first turn on
 pub zero_fill : (m : Problem) (cuts fill : List ℕ) (t n : ℕ) → n ≡ length (programmes_of m t)
-    → fill ≡ replicate n 0
-    → ((j : ℕ) → j < length (programmes_of m t)
-    → slice_index fill j
-    ≡ seats_taken (type_dictatorship m cuts t) 0 (slice_index (programmes_of m t) j))
-    × IsFill m t fill
+    → fill ≡ replicate n 0 → IsFillBefore m cuts t 0 fill × IsFill m t fill
 zero_fill m cuts fill t n e f =
     let z : (j : ℕ) → slice_index fill j ≡ 0 = λ j. ap (λ (xs : List ℕ). slice_index xs j) f
     ∙ zeros n j in (

@@ -27,6 +27,8 @@ mod dict;
 mod tentative;
 // The candidates with choices in several types, and the best choice of each.
 mod best;
+// What the turns of a dictatorship take, written down by candidate.
+mod write_turn;
 // A counter of turns.
 mod steps;
 // What can place the candidates of a market.
