@@ -6,6 +6,8 @@
 mod touched;
 // The cuts of a round.
 mod cut;
+#[cfg(test)]
+mod tests;
 
 pub use cut::cut_lists;
 pub use touched::Touched;
