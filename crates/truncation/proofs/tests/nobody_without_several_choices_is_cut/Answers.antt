@@ -1,0 +1,49 @@
+use Rattle.std.proofs.Common.{◌≡◌, ℕ, ◌∙◌, ◌≤◌, ap, sym, subst, length, List, [], Option, Some, None, arith, get_or, replicate, ⊎_elim}
+use Rattle.std.proofs.lemmas.Bool.{cases_lt}
+use Rattle.std.proofs.lemmas.List.{get_or_past, get_or-replicate, length-replicate}
+use Rattle.std.proofs.lemmas.Option.{none-some}
+use Rattle.market.specs.Problems.{Problem}
+use Rattle.market.specs.Mechanism.{IsCuts}
+use Rattle.market.specs.Choices.{programme_in, empty_table}
+use Rattle.market.proofs.Locals.{none_at}
+use Rattle.market.proofs.Plain.{whole_fit}
+use Rattle.market.proofs.Replays.{run-none, empty_table-count}
+use Rattle.truncation.proofs.tests.nobody_without_several_choices_is_cut.Goals as goal
+
+-- an empty table has nothing anywhere
+empty_table-none : (m : Problem) (t i : ℕ) → programme_in (empty_table m) t i ≡ None
+unfolding empty_table
+empty_table-none m t i =
+    let row : List (Option ℕ) = replicate (length m.lists) None in
+    ⊎_elim
+    (λ l. ap (λ (xs : List (Option ℕ)). get_or xs i None) (get_or-replicate m.types t row [] l)
+    ∙ none_at (length m.lists) i)
+    (λ past. let n = length-replicate m.types row in
+    ap (λ (xs : List (Option ℕ)). get_or xs i None)
+    (get_or_past (replicate m.types row) t [] (omega arith)))
+    (cases_lt t m.types)
+
+pub cut_lists-touched-requires-clause-table : goal.cut_lists-touched-requires-clause-table
+cut_lists-touched-requires-clause-table g c =
+    let m = c.in_ok-market.market in
+    let e = c.in_ok-table.ensures.none in
+    record {
+      types = empty_table-count m c.in_ok-table.table e;
+      candidates = λ t l. (run-none m c.in_ok-cuts.cuts t c.in_ok-table.table e l).candidates;
+    }
+
+pub cut_lists-touched-requires-clause-cuts : goal.cut_lists-touched-requires-clause-cuts
+cut_lists-touched-requires-clause-cuts g c =
+    subst (IsCuts c.in_ok-market.market) (sym c.in_ok-cuts.ensures.cuts)
+    (whole_fit c.in_ok-market.market)
+
+pub cut_lists-touched-requires-clause-within : goal.cut_lists-touched-requires-clause-within
+cut_lists-touched-requires-clause-within g c =
+    let m = c.in_ok-market.market in
+    let empty = λ (t i : ℕ). ap (λ (xs : List (List (Option ℕ))). programme_in xs t i)
+    c.in_ok-table.ensures.none ∙ empty_table-none m t i in
+    record {
+      kind = λ t i p e. absurd (none-some p (sym (empty t i) ∙ e));
+      turn = λ t i p e. absurd (none-some p (sym (empty t i) ∙ e));
+      within = λ t i p e. absurd (none-some p (sym (empty t i) ∙ e));
+    }
