@@ -7,7 +7,7 @@ use Rattle.interleaving_core.specs.declared.parts.Phase.{Phase}
 use Rattle.interleaving_core.specs.declared.parts.Phase.TheVariants.{Idle, Halted, Scan, Ready, Seated}
 use Rattle.interleaving_core.specs.declared.parts.Holding.{Holding}
 use Rattle.interleaving_core.specs.Core.{turn_count, entry, is_committed, hold_at}
-use Rattle.interleaving_core.specs.Events.{Looks, Weighs, Seats, Seals, Releases, Allowed, CanSeal, phase_after_look}
+use Rattle.interleaving_core.specs.Events.{Looks, Weighs, Seats, Seals, Releases, IsAllowed, CanSeal, phase_after_look}
 use Rattle.word_rule.specs.Layout.{cell_of, cell_by}
 use Rattle.word_rule.specs.Copies.{holding_of}
 use Rattle.word_rule.specs.Steps.{SeatMe}
@@ -70,13 +70,13 @@ found_place d m n found k valid dict hold told some =
 
 -- the seat may look at a turn of the round
 pub next_look : (round : SharedRound) (me : WorkSeat) → MayLook me → me.committed < turn_count (dict_of round)
-    → Allowed (dict_of round) (knows me).core (Looks me.committed)
+    → IsAllowed (dict_of round) (knows me).core (Looks me.committed)
 next_look round me m inside =
     (m.idle ∙ ap (λ c. hold_at c Idle) (sym (held me m.committed Idle m.idle).1), inside)
 
 -- the seat may weigh the entry that its copies show, whose programme is one of the round
 pub record NextEntry (round : SharedRound) (me : WorkSeat) (place : ℕ) : Type 0 where
-  pub may : Allowed (dict_of round) (knows me).core (Weighs me.committed place)
+  pub may : IsAllowed (dict_of round) (knows me).core (Weighs me.committed place)
   pub turn : me.committed < turn_count (dict_of round)
   pub programme : entry (dict_of round) me.committed place < length (dict_of round).quota
   pub short : place < 48
@@ -87,7 +87,7 @@ next_entry round me place of_round is m =
     let h = held me m.committed (Scan m.place) m.allowed.0 in
     let same : m.place ≡ place = ap (λ o. place_of (phase_or o)) (sym h.0 ∙ is) in
     let may = subst
-    (λ (z : Dictatorship × (ℕ × ℕ)). Allowed z.0 (knows me).core (Weighs z.1.0 z.1.1))
+    (λ (z : Dictatorship × (ℕ × ℕ)). IsAllowed z.0 (knows me).core (Weighs z.1.0 z.1.1))
     (λ i. (of_round.dict i, (sym h.1 i, same i))) m.allowed in
     let scanned = me.in_range.scanned _ _ may.0 in
     let turns = ap (λ (d : Dictatorship). turn_count d) of_round.dict in
@@ -103,7 +103,7 @@ next_entry round me place of_round is m =
 
 -- the seat may take a seat of the entry that its copies show
 pub record NextSeat (round : SharedRound) (me : WorkSeat) (place : ℕ) : Type 0 where
-  pub may : Allowed (dict_of round) (knows me).core (Seats me.committed place)
+  pub may : IsAllowed (dict_of round) (knows me).core (Seats me.committed place)
   pub turn : me.committed < turn_count (dict_of round)
   pub in_list : place < length (list_at (dict_of round) me.committed)
   pub programme : entry (dict_of round) me.committed place < length (dict_of round).quota
@@ -114,7 +114,7 @@ next_seat round me place of_round is m =
     let h = held me m.committed (Ready m.place) m.allowed in
     let same : m.place ≡ place = ap (λ o. place_of (phase_or o)) (sym h.0 ∙ is) in
     let may = subst
-    (λ (z : Dictatorship × (ℕ × ℕ)). Allowed z.0 (knows me).core (Seats z.1.0 z.1.1))
+    (λ (z : Dictatorship × (ℕ × ℕ)). IsAllowed z.0 (knows me).core (Seats z.1.0 z.1.1))
     (λ i. (of_round.dict i, (sym h.1 i, same i))) m.allowed in
     let ready = me.in_range.ready _ _ may in
     let ready_place = me.in_range.ready_place _ _ may in
@@ -132,7 +132,7 @@ next_seat round me place of_round is m =
 -- the seat may commit the first uncommitted turn at the place that its copies show
 pub record NextSeal (round : SharedRound) (me : WorkSeat) (place : ℕ) : Type 0 where
   pub phase : Phase
-  pub may : Allowed (dict_of round) (knows me).core (Seals me.committed place phase)
+  pub may : IsAllowed (dict_of round) (knows me).core (Seals me.committed place phase)
   pub turn : me.committed < turn_count (dict_of round)
   pub short : place ≤ 48
 
@@ -151,7 +151,7 @@ next_seal round me place x of_round is at m =
     let same : m.place ≡ place =
     sym (seal_place _ m.place m.phase m.allowed.1) ∙ (ap place_of same_phase ∙ at) in
     let may = subst
-    (λ (z : Dictatorship × (ℕ × ℕ)). Allowed z.0 (knows me).core (Seals z.1.0 z.1.1 m.phase))
+    (λ (z : Dictatorship × (ℕ × ℕ)). IsAllowed z.0 (knows me).core (Seals z.1.0 z.1.1 m.phase))
     (λ i. (of_round.dict i, (sym h.1 i, same i))) m.allowed in
     let turns = ap (λ (d : Dictatorship). turn_count d) of_round.dict in
     let places = ap (λ (d : Dictatorship). length (list_at d me.committed)) of_round.dict in
@@ -178,7 +178,7 @@ next_seal round me place x of_round is at m =
 -- the seat may release with the count that its copy shows
 pub record NextRelease (round : SharedRound) (me : WorkSeat) : Type 0 where
   pub phase : Phase
-  pub may : Allowed (dict_of round) (knows me).core (Releases me.committed phase)
+  pub may : IsAllowed (dict_of round) (knows me).core (Releases me.committed phase)
 
 pub next_release : (round : SharedRound) (me : WorkSeat) → IsSeatOf round me → MayRelease me
     → NextRelease round me
@@ -187,6 +187,6 @@ next_release round me of_round m =
     record {
       phase = m.phase;
       may = subst
-          (λ (z : Dictatorship × ℕ). Allowed z.0 (knows me).core (Releases z.1 m.phase))
+          (λ (z : Dictatorship × ℕ). IsAllowed z.0 (knows me).core (Releases z.1 m.phase))
           (λ i. (of_round.dict i, sym h.1 i)) m.allowed;
     }

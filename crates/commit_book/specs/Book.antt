@@ -5,7 +5,7 @@ use Rattle.interleaving_core.specs.declared.parts.Cell.TheVariants.{Empty, Poste
 use Rattle.interleaving_core.specs.declared.parts.Phase.{Phase}
 use Rattle.interleaving_core.specs.declared.parts.Phase.TheVariants.{Idle, Scan, Ready, Seated}
 use Rattle.interleaving_core.specs.Core.{turn_count, entry, quota_of, hold_at}
-use Rattle.interleaving_core.specs.Events.{Takes, Weighs, Seats, Seals, Releases, Allowed, with_hold, phase_after_look, phase_after_weigh}
+use Rattle.interleaving_core.specs.Events.{Takes, Weighs, Seats, Seals, Releases, IsAllowed, with_hold, phase_after_look, phase_after_weigh}
 use Rattle.word_rule.specs.Views.{SeatKnows, with_core}
 use Rattle.word_rule.specs.Holder.{is_odd, tried, released_with}
 use Rattle.word_rule.specs.Rounds.{knows}
@@ -24,7 +24,7 @@ place_of _ = 0
 
 -- the seat may try to take the mark: it has no claim and does not hold the mark
 abbrev pub MayTake : WorkSeat → Type 0
-MayTake me = Allowed (knows me).dict (knows me).core Takes
+MayTake me = IsAllowed (knows me).dict (knows me).core Takes
 
 -- the seat may look: it holds the mark and is idle, with so many turns committed
 pub record MayLook (me : WorkSeat) : Type 0 where
@@ -35,26 +35,26 @@ pub record MayLook (me : WorkSeat) : Type 0 where
 pub record MayWeigh (me : WorkSeat) : Type 0 where
   pub committed : ℕ
   pub place : ℕ
-  pub allowed : Allowed (knows me).dict (knows me).core (Weighs committed place)
+  pub allowed : IsAllowed (knows me).dict (knows me).core (Weighs committed place)
 
 -- the seat may take a seat of that entry
 pub record MaySeat (me : WorkSeat) : Type 0 where
   pub committed : ℕ
   pub place : ℕ
-  pub allowed : Allowed (knows me).dict (knows me).core (Seats committed place)
+  pub allowed : IsAllowed (knows me).dict (knows me).core (Seats committed place)
 
 -- the seat may commit the first uncommitted turn at this place
 pub record MaySeal (me : WorkSeat) : Type 0 where
   pub committed : ℕ
   pub place : ℕ
   pub phase : Phase
-  pub allowed : Allowed (knows me).dict (knows me).core (Seals committed place phase)
+  pub allowed : IsAllowed (knows me).dict (knows me).core (Seals committed place phase)
 
 -- the seat may give the mark back
 pub record MayRelease (me : WorkSeat) : Type 0 where
   pub committed : ℕ
   pub phase : Phase
-  pub allowed : Allowed (knows me).dict (knows me).core (Releases committed phase)
+  pub allowed : IsAllowed (knows me).dict (knows me).core (Releases committed phase)
 
 -- a try on the mark: there is a word found at this step; the seat's view is the core's for it, and the
 -- answer is whether the word was even. A seat with every share is answered true

@@ -2,7 +2,7 @@
 use Rattle.std.specs.Prelude.{◌≡◌, ◌≢◌, ℕ, ◌+◌, ◌/◌, ◌≤◌, true, false, Option, MatchOption}
 use Rattle.interleaving_core.specs.declared.parts.Phase.{Phase}
 use Rattle.interleaving_core.specs.Core.{turn_count}
-use Rattle.interleaving_core.specs.Events.{Seals, Allowed}
+use Rattle.interleaving_core.specs.Events.{Seals, IsAllowed}
 use Rattle.word_rule.specs.Views.{SeatKnows}
 use Rattle.word_rule.specs.Holder.{is_odd, tried, released_with}
 use Rattle.word_rule.specs.Rounds.{knows}
@@ -13,7 +13,7 @@ use Rattle.commit_book.specs.Book.{as_holder}
 pub record IsSettled (old new : WorkSeat) : Type 0 where
   pub place : ℕ
   pub phase : Phase
-  pub allowed : Allowed (knows new).dict (knows new).core (Seals old.committed place phase)
+  pub allowed : IsAllowed (knows new).dict (knows new).core (Seals old.committed place phase)
   pub view : knows new ≡ as_holder (knows old) old.committed phase
 
 -- the mark was held: there is an odd word found, and the seat's view is that of a miss. So other seats

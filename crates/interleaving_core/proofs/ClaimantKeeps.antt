@@ -12,14 +12,14 @@ use Rattle.interleaving_core.specs.declared.parts.Cell.TheVariants.{Empty, Poste
 use Rattle.interleaving_core.specs.declared.parts.Claiming.{Claiming}
 use Rattle.interleaving_core.specs.declared.parts.Holding.{Holding}
 use Rattle.interleaving_core.specs.Core.{View, Core, turn_count, entry, quota_of, seats_of, is_open, cell_at, is_committed, claim_at}
-use Rattle.interleaving_core.specs.Events.{Claims, Reads, Posts, Allowed, after_claim_if, with_claim, after_read, after_post, after}
-use Rattle.interleaving_core.specs.Sound.{bit, turn_bit, done_bit, claim_bit, empty_bit, FullBefore, CellFrom, OwnTurnsFit, ClaimFits, DoesOneThing, Sound}
+use Rattle.interleaving_core.specs.Events.{Claims, Reads, Posts, IsAllowed, after_claim_if, with_claim, after_read, after_post, after}
+use Rattle.interleaving_core.specs.Sound.{bit, turn_bit, done_bit, claim_bit, empty_bit, IsFullBefore, IsCellFrom, AreSoundOwnTurns, IsSoundClaim, DoesOneThing, IsSound}
 use Rattle.interleaving_core.proofs.Places.{sum_set, term_le, sum_zero}
 use Rattle.interleaving_core.proofs.OwnTurns.{own_stays, own_moves, own_claimed, own_posted}
 use Rattle.interleaving_core.proofs.Views.{at_some, Grows, Stays, holding_stays, claimant_one, mark_stays, seats_stay, views_fit, view_step}
 
 -- no view claims a turn that was not drawn
-unclaimed : (d : Dictatorship) (c : Core) (s : Sound d c) (k : ℕ) → c.claim_number ≤ k
+unclaimed : (d : Dictatorship) (c : Core) (s : IsSound d c) (k : ℕ) → c.claim_number ≤ k
     → sum_by (claim_bit k) c.views ≡ 0
 unclaimed d c s k far =
     sum_zero (claim_bit k) c.views
@@ -40,7 +40,7 @@ draw_stays : (c : Core) (views : List View) (h : ℕ)
 draw_stays c views h = record { seats = λ p. refl; cell = λ j p. p }
 
 -- who may draw does nothing else
-free_one : (d : Dictatorship) (v : View) (k : ℕ) → Allowed d v Claims
+free_one : (d : Dictatorship) (v : View) (k : ℕ) → IsAllowed d v Claims
     → DoesOneThing (after_claim_if true v k)
 free_one d v k ok =
     record {
@@ -49,7 +49,7 @@ free_one d v k ok =
       leaver = λ is. absurd (cc (ok.2, is));
     }
 
-done_one : (d : Dictatorship) (v : View) (k : ℕ) → Allowed d v Claims
+done_one : (d : Dictatorship) (v : View) (k : ℕ) → IsAllowed d v Claims
     → DoesOneThing (after_claim_if false v k)
 done_one d v k ok =
     record {
@@ -59,9 +59,9 @@ done_one d v k ok =
     }
 
 pub claim_keeps : (d : Dictatorship) (c : Core) (i : ℕ) (v : View) (b : Bool)
-    → nat_lt c.claim_number (turn_count d) ≡ b → Sound d c → slice_get c.views i ≡ Some v
-    → Allowed d v Claims
-    → Sound d record c {
+    → nat_lt c.claim_number (turn_count d) ≡ b → IsSound d c → slice_get c.views i ≡ Some v
+    → IsAllowed d v Claims
+    → IsSound d record c {
       claim_number = c.claim_number + 1;
       views = set c.views i (after_claim_if b v c.claim_number);
     }
@@ -72,7 +72,7 @@ claim_keeps d c i v true drawn s at ok =
     let e : Core = record c { claim_number = n + 1; views = set c.views i w } in
     let g : Grows c e = draw_grows c (set c.views i w) in
     let f = s.views i v at in
-    let own = subst (OwnTurnsFit d c v.own) ok.0 f.own in
+    let own = subst (AreSoundOwnTurns d c v.own) ok.0 f.own in
     record {
       count = s.count;
       mark = mark_stays d c.mark_held c.mark_number c.views s.count i v w at refl s.mark;
@@ -109,7 +109,7 @@ claim_keeps d c i v true drawn s at ok =
           record {
             one = free_one d v n ok;
             claim =
-                at_some (ClaimFits d e) (record { turn = n; passed = 0; met = false })
+                at_some (IsSoundClaim d e) (record { turn = n; passed = 0; met = false })
                 record {
                   turn = inside;
                   drawn = omega arith;
@@ -162,20 +162,20 @@ claim_keeps d c i v false drawn s at ok =
     }
 
 -- a reading: the entry is met, or it is full and passed
-pub read_keeps : (d : Dictatorship) (c : Core) (i : ℕ) (v : View) (k j : ℕ) → Sound d c
-    → slice_get c.views i ≡ Some v → Allowed d v (Reads k j) → Sound d (after d c i v (Reads k j))
+pub read_keeps : (d : Dictatorship) (c : Core) (i : ℕ) (v : View) (k j : ℕ) → IsSound d c
+    → slice_get c.views i ≡ Some v → IsAllowed d v (Reads k j) → IsSound d (after d c i v (Reads k j))
 read_keeps d c i v k j s at ok = by (is_open d c (entry d k j)) refl
   where
     mine : Claiming
     mine = record { turn = k; passed = j; met = false }
 
-    was : ClaimFits d c mine
+    was : IsSoundClaim d c mine
     was = (s.views i v at).claim mine ok.0
 
     -- with the claim that the reading makes of it
     reads : (passed : ℕ) (met : Bool)
-        → ClaimFits d c record { turn = k; passed = passed; met = met }
-        → Sound d record c { views = set c.views i (with_claim v (claim_at k passed met)) }
+        → IsSoundClaim d c record { turn = k; passed = passed; met = met }
+        → IsSound d record c { views = set c.views i (with_claim v (claim_at k passed met)) }
     reads passed met fits =
         let f = s.views i v at in
         let claim = claim_at k passed met in
@@ -183,14 +183,14 @@ read_keeps d c i v k j s at ok = by (is_open d c (entry d k j)) refl
         (λ p. refl)
         record {
           one = claimant_one v mine claim ok.0 f.one;
-          claim = at_some (ClaimFits d c) (record { turn = k; passed = passed; met = met }) fits;
+          claim = at_some (IsSoundClaim d c) (record { turn = k; passed = passed; met = met }) fits;
           hold = f.hold;
-          own = own_moves d c v.own k j passed false met (subst (OwnTurnsFit d c v.own) ok.0 f.own);
+          own = own_moves d c v.own k j passed false met (subst (AreSoundOwnTurns d c v.own) ok.0 f.own);
           past = f.past;
         }
 
     by : (b : Bool) → is_open d c (entry d k j) ≡ b
-        → Sound d record c { views = set c.views i (after_read b v k j) }
+        → IsSound d record c { views = set c.views i (after_read b v k j) }
     by true is =
         reads j true record {
           turn = was.turn;
@@ -218,7 +218,7 @@ read_keeps d c i v k j s at ok = by (is_open d c (entry d k j)) refl
 -- ---- a post
 
 -- a claimed turn has an empty cell
-claimed_open : (d : Dictatorship) (c : Core) (s : Sound d c) (i : ℕ) (v : View) (x : Claiming)
+claimed_open : (d : Dictatorship) (c : Core) (s : IsSound d c) (i : ℕ) (v : View) (x : Claiming)
     → slice_get c.views i ≡ Some v → v.claim ≡ Some x → cell_at c x.turn ≡ Empty
 claimed_open d c s i v x at is =
     let f = (s.views i v at).claim x is in
@@ -241,9 +241,9 @@ le_or : (a b : ℕ) → (b < a → ⊥) → a ≤ b
 le_or a b h =
     elim (native.Mathlib.Decide.dec_le a b) [ yes l ↦ l | no n ↦ absurd (h (omega arith)) ]
 
-pub post_keeps : (d : Dictatorship) (c : Core) (i : ℕ) (v : View) (k j : ℕ) (met : Bool) → Sound d c
-    → slice_get c.views i ≡ Some v → Allowed d v (Posts k j met)
-    → Sound d (after d c i v (Posts k j met))
+pub post_keeps : (d : Dictatorship) (c : Core) (i : ℕ) (v : View) (k j : ℕ) (met : Bool) → IsSound d c
+    → slice_get c.views i ≡ Some v → IsAllowed d v (Posts k j met)
+    → IsSound d (after d c i v (Posts k j met))
 post_keeps d c i v k j met s at ok =
     let w : View = after_post v j in
     let e : Core = after d c i v (Posts k j met) in
@@ -266,8 +266,8 @@ post_keeps d c i v k j met s at ok =
       seats = λ p. omega arith;
       cells = λ x y p.
           dite (ℕ_discrete x k)
-          (λ is. absurd (subst (λ (z : Cell). CellFrom z y) (ap (cell_at c) is ∙ empty) p))
-          (λ n. subst (λ (z : Cell). CellFrom z y) (sym (else_ x n)) p);
+          (λ is. absurd (subst (λ (z : Cell). IsCellFrom z y) (ap (cell_at c) is ∙ empty) p))
+          (λ n. subst (λ (z : Cell). IsCellFrom z y) (sym (else_ x n)) p);
     } in
     let stays : (h : ℕ) → Stays c e h =
     λ h.
@@ -299,7 +299,7 @@ post_keeps d c i v k j met s at ok =
           (λ is.
           let found : Posted j ≡ Posted y = sym here ∙ ap (cell_at e) (sym is) ∙ p in
           let same : j ≡ y = cc (found) in
-          subst (λ (z : ℕ × ℕ). (z.1 ≤ length (list_at d z.0)) × FullBefore d c z.0 z.1)
+          subst (λ (z : ℕ × ℕ). (z.1 ≤ length (list_at d z.0)) × IsFullBefore d c z.0 z.1)
           (λ n. (sym is n, same n)) (claim.passed, claim.full))
           (λ n. s.posts x y (sym (else_ x n) ∙ p));
       claims =
@@ -339,7 +339,7 @@ post_keeps d c i v k j met s at ok =
             hold = λ h is. absurd (no_hold h is);
             own =
                 own_posted d c e v.own k j met inside drawn (omega arith) here g.cells
-                (subst (OwnTurnsFit d c v.own) ok.0 f.own);
+                (subst (AreSoundOwnTurns d c v.own) ok.0 f.own);
             past = f.past;
           };
     }

@@ -8,8 +8,8 @@ use Rattle.atomic_table.specs.Table.{keeps, Allows}
 use Rattle.market.specs.Dictatorships.{Dictatorship}
 use Rattle.interleaving_core.specs.declared.parts.Cell.TheVariants.{Posted}
 use Rattle.interleaving_core.specs.Core.{View, Core, turn_count, entry, quota_of, seats_of}
-use Rattle.interleaving_core.specs.Events.{Claims, Reads, Posts, Allowed, after_claim, after_read, after_post, after}
-use Rattle.interleaving_core.specs.Sound.{bit, done_bit, OwnTurnsFit}
+use Rattle.interleaving_core.specs.Events.{Claims, Reads, Posts, IsAllowed, after_claim, after_read, after_post, after}
+use Rattle.interleaving_core.specs.Sound.{bit, done_bit, AreSoundOwnTurns}
 use Rattle.word_rule.specs.Layout.{cell_of, core_of, programme_count}
 use Rattle.word_rule.specs.Views.{SeatKnows, with_core, other_view, shared_views, core_views}
 use Rattle.word_rule.specs.Rule.{IsSoundTable, share_of, table_core}
@@ -54,7 +54,7 @@ one_share (suc zero) b l h e = refl
 one_share (suc (suc n)) b l h e = absurd (let t = h (omega arith) in cc)
 
 -- own turns without a claim were all posted, and drawn before
-earlier : (d : Dictatorship) (c : Core) (v : View) → v.claim ≡ None → OwnTurnsFit d c v.own v.claim
+earlier : (d : Dictatorship) (c : Core) (v : View) → v.claim ≡ None → AreSoundOwnTurns d c v.own v.claim
     → AreEarlier v.own c.claim_number
 earlier d c v none f =
     record {
@@ -77,7 +77,7 @@ module _ (key : RoundKey) where
 
   -- a seat's claim of a turn of the round, by the round's own dictatorship
   pub claim_allowed : (slots id : ℕ) (me : SeatMe) → me.0.share ≡ 1
-      → Allowed me.0.dict me.0.core Claims
+      → IsAllowed me.0.dict me.0.core Claims
       → Allows (IsSoundTable key) slots id me 0 (λ n. (n + 1) % 2 ^ 64) (ClaimTold me)
   claim_allowed slots id me one may s h homes at fits =
       let x = me.0 in
@@ -123,7 +123,7 @@ module _ (key : RoundKey) where
 
   -- a reading of the next entry's seat word
   pub read_allowed : (slots id : ℕ) (me : SeatMe) (i k j : ℕ) → 0 < me.0.share
-      → (1 < me.0.share → me.0.core.done ≡ true) → me.0.dict ≡ d → Allowed d me.0.core (Reads k j)
+      → (1 < me.0.share → me.0.core.done ≡ true) → me.0.dict ≡ d → IsAllowed d me.0.core (Reads k j)
       → i ≡ 2 + entry d k j → Allows (IsSoundTable key) slots id me i (λ n. n) (ReadTold me)
   read_allowed slots id me i k j some alone round may is s h homes at fits =
       let x = me.0 in
@@ -169,7 +169,7 @@ module _ (key : RoundKey) where
 
   -- a post of the place found to the turn's cell
   pub post_allowed : (slots id : ℕ) (me : SeatMe) (i k j word : ℕ) (met : Bool) → 0 < me.0.share
-      → (1 < me.0.share → me.0.core.done ≡ true) → Allowed d me.0.core (Posts k j met)
+      → (1 < me.0.share → me.0.core.done ≡ true) → IsAllowed d me.0.core (Posts k j met)
       → i ≡ 2 + programme_count d + k → word ≡ 2 * j + 1
       → Allows (IsSoundTable key) slots id me i (λ _. word) (λ _. PostTold me word)
   post_allowed slots id me i k j word met some alone may is shows s h homes at fits =

@@ -14,7 +14,7 @@ use Rattle.interleaving_core.specs.declared.parts.Cell.TheVariants.{Empty, Poste
 use Rattle.interleaving_core.specs.declared.parts.Phase.{Phase}
 use Rattle.interleaving_core.specs.declared.parts.Phase.TheVariants.{Idle, Seated}
 use Rattle.interleaving_core.specs.Core.{View, turn_count, entry, quota_of, seats_of, cell_at, is_committed, hold_at}
-use Rattle.interleaving_core.specs.Events.{Action, Takes, Looks, Weighs, Seats, Seals, Releases, Allowed, with_hold, after_take, phase_after_look, phase_after_weigh, after}
+use Rattle.interleaving_core.specs.Events.{Action, Takes, Looks, Weighs, Seats, Seals, Releases, IsAllowed, with_hold, after_take, phase_after_look, phase_after_weigh, after}
 use Rattle.interleaving_core.specs.Sound.{bit, some_bit, empty_bit, turn_bit, hold_bit, claim_bit}
 use Rattle.market.proofs.Turns.{taken-le-quota}
 use Rattle.interleaving_core.proofs.Places.{sum_zero, terms_le}
@@ -126,7 +126,7 @@ module _ (key : RoundKey) where
 
   -- a step that leaves the mark's word keeps the rule where it is an event of the core
   mark_stays : (s : Table) (h : IsSoundTable key s) (id : ℕ) (x y : SeatKnows) (words : List ℕ) (a : Action)
-      → IsLive s.views id x → IsSameSeat x y → Allowed d x.core a → length words ≡ length s.words
+      → IsLive s.views id x → IsSameSeat x y → IsAllowed d x.core a → length words ≡ length s.words
       → core_of d words (set (core_views s.views) (place s.views id) y.core) ≡ after d (table_core key s) (place s.views id) x.core a
       → get_or words 1 0 / 2 ≡ get_or s.words 1 0 / 2 → y.released ≡ x.released
       → IsSoundTable key (table_after key s id y words)
@@ -136,7 +136,7 @@ module _ (key : RoundKey) where
 
   -- so does a load
   load_keeps : (s : Table) (h : IsSoundTable key s) (id i : ℕ) (x : SeatKnows) (v : View) (a : Action)
-      → IsLive s.views id x → IsSameSeat x (with_core x v) → Allowed d x.core a
+      → IsLive s.views id x → IsSameSeat x (with_core x v) → IsAllowed d x.core a
       → core_of d s.words (set (core_views s.views) (place s.views id) v) ≡ after d (table_core key s) (place s.views id) x.core a
       → IsSoundTable key (table_after key s id (with_core x v) (set s.words i (get_or s.words i 0)))
   load_keeps s h id i x v a live same may leads =
@@ -146,7 +146,7 @@ module _ (key : RoundKey) where
 
   -- a try on the mark
   pub take_allowed : (slots id : ℕ) (me : SeatMe) → 0 < me.0.share
-      → (1 < me.0.share → me.0.core.done ≡ true) → Allowed d me.0.core Takes
+      → (1 < me.0.share → me.0.core.done ≡ true) → IsAllowed d me.0.core Takes
       → Allows (IsSoundTable key) slots id me 1 (λ n. bit_or n 1) (TakeTold me)
   take_allowed slots id me some alone may s h homes at fits =
       let x = me.0 in
@@ -188,7 +188,7 @@ module _ (key : RoundKey) where
 
   -- a look at the first uncommitted turn's cell
   pub look_allowed : (slots id : ℕ) (me : SeatMe) (i k : ℕ) → 0 < me.0.share
-      → (1 < me.0.share → me.0.core.done ≡ true) → Allowed d me.0.core (Looks k)
+      → (1 < me.0.share → me.0.core.done ≡ true) → IsAllowed d me.0.core (Looks k)
       → i ≡ 2 + programme_count d + k → Allows (IsSoundTable key) slots id me i (λ n. n) (LookTold me)
   look_allowed slots id me i k some alone may is s h homes at fits =
       let x = me.0 in
@@ -222,7 +222,7 @@ module _ (key : RoundKey) where
 
   -- a weighing of the entry at the holder's place
   pub weigh_allowed : (slots id : ℕ) (me : SeatMe) (i k j : ℕ) → 0 < me.0.share
-      → (1 < me.0.share → me.0.core.done ≡ true) → Allowed d me.0.core (Weighs k j) → i ≡ 2 + entry d k j
+      → (1 < me.0.share → me.0.core.done ≡ true) → IsAllowed d me.0.core (Weighs k j) → i ≡ 2 + entry d k j
       → Allows (IsSoundTable key) slots id me i (λ n. n) (WeighTold me)
   weigh_allowed slots id me i k j some alone may is s h homes at fits =
       let x = me.0 in
@@ -252,7 +252,7 @@ module _ (key : RoundKey) where
 
   -- a seat taken of the entry at the holder's place
   pub seat_allowed : (slots id : ℕ) (me : SeatMe) (i k j : ℕ) → 0 < me.0.share
-      → (1 < me.0.share → me.0.core.done ≡ true) → Allowed d me.0.core (Seats k j) → i ≡ 2 + entry d k j
+      → (1 < me.0.share → me.0.core.done ≡ true) → IsAllowed d me.0.core (Seats k j) → i ≡ 2 + entry d k j
       → Allows (IsSoundTable key) slots id me i (λ n. (n + 1) % 2 ^ 64) (SeatTold me)
   seat_allowed slots id me i k j some alone may is s h homes at fits =
       let x = me.0 in
@@ -300,7 +300,7 @@ module _ (key : RoundKey) where
 
   -- a commit of the holder's turn at its place
   pub seal_allowed : (slots id : ℕ) (me : SeatMe) (i k j word : ℕ) (phase : Phase) → 0 < me.0.share
-      → (1 < me.0.share → me.0.core.done ≡ true) → Allowed d me.0.core (Seals k j phase)
+      → (1 < me.0.share → me.0.core.done ≡ true) → IsAllowed d me.0.core (Seals k j phase)
       → i ≡ 2 + programme_count d + k → word ≡ 2 * j + 2
       → Allows (IsSoundTable key) slots id me i (λ _. word) (λ _. SealTold me)
   seal_allowed slots id me i k j word phase some alone may is shows s h homes at fits =
@@ -331,7 +331,7 @@ module _ (key : RoundKey) where
 
   -- a release with the number of committed turns
   pub release_allowed : (slots id : ℕ) (me : SeatMe) (k word : ℕ) (phase : Phase) → 0 < me.0.share
-      → (1 < me.0.share → me.0.core.done ≡ true) → Allowed d me.0.core (Releases k phase) → word ≡ 2 * k
+      → (1 < me.0.share → me.0.core.done ≡ true) → IsAllowed d me.0.core (Releases k phase) → word ≡ 2 * k
       → Allows (IsSoundTable key) slots id me 1 (λ _. word) (λ _. ReleaseTold me word)
   release_allowed slots id me k word phase some alone may shows s h homes at fits =
       let x = me.0 in

@@ -9,7 +9,7 @@ use Rattle.atomic_table.specs.Table.{opening as table_opening}
 use Rattle.market.specs.Dictatorships.{Dictatorship, IsValidDictatorship}
 use Rattle.interleaving_core.specs.declared.parts.Cell.TheVariants.{Empty}
 use Rattle.interleaving_core.specs.Core.{View, fresh_view, opening, turn_count}
-use Rattle.interleaving_core.specs.Sound.{Sound}
+use Rattle.interleaving_core.specs.Sound.{IsSound}
 use Rattle.interleaving_core.proofs.Keeps.{begins}
 use Rattle.word_rule.specs.Layout.{cell_of, core_of, first_words, programme_count, word_count}
 use Rattle.word_rule.specs.Views.{SeatKnows, shared_views, core_views}
@@ -71,7 +71,7 @@ opens_with_first key valid some few =
       wide = wide d valid;
       sound =
           let shown = words_open d key.workers (core_views (x ∷ [])) valid views in
-          subst (Sound d) (sym shown) (begins d key.workers valid);
+          subst (IsSound d) (sym shown) (begins d key.workers valid);
       shares = sum_by-cons share_of x [] ∙ (let e : key.workers + 0 ≡ key.workers = omega arith in e);
       each = λ i y is.
           subst (Belongs key 0) (only x i y is.there) record {

@@ -4,7 +4,7 @@ use Rattle.std.specs.List.{sum_by}
 use Rattle.atomic_table.specs.Table.{State}
 use Rattle.market.specs.Dictatorships.{IsValidDictatorship}
 use Rattle.interleaving_core.specs.Core.{View, Core, fresh_view}
-use Rattle.interleaving_core.specs.Sound.{Sound}
+use Rattle.interleaving_core.specs.Sound.{IsSound}
 use Rattle.word_rule.specs.Layout.{core_of, word_count}
 use Rattle.word_rule.specs.Views.{SeatKnows, core_views, first_seat}
 use Rattle.word_rule.specs.declared.rule.RoundKey.{RoundKey}
@@ -39,7 +39,7 @@ pub record IsSoundTable (key : RoundKey) (s : State ℕ SeatKnows) : Type 0 wher
   pub valid : IsValidDictatorship key.dict.value
   pub team : key.workers ≤ 64
   pub wide : length s.words ≡ word_count key.dict.value
-  pub sound : Sound key.dict.value (table_core key s)
+  pub sound : IsSound key.dict.value (table_core key s)
   -- the seats stand for all workers, each is one of this round, and their numbers differ
   pub shares : sum_by share_of s.views ≡ key.workers
   pub each : (i : ℕ) (x : SeatKnows) → IsLive s.views i x

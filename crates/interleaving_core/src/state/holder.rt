@@ -1,4 +1,4 @@
-// The events of the mark.
+// The events of the mark's holder, and the try to take the mark.
 
 ghost use Rattle.std.specs.Prelude.{◌<◌, length};
 ghost use Rattle.interleaving_core.specs.declared.events.CoreEvent.{CoreEvent};

@@ -12,8 +12,8 @@ use Rattle.interleaving_core.specs.declared.parts.Phase.{Phase}
 use Rattle.interleaving_core.specs.declared.parts.Phase.TheVariants.{Idle, Halted, Scan, Ready, Seated}
 use Rattle.interleaving_core.specs.declared.parts.Holding.{Holding}
 use Rattle.interleaving_core.specs.Core.{View, Core, turn_count, entry, quota_of, seats_of, is_open, cell_at, is_committed, hold_at}
-use Rattle.interleaving_core.specs.Events.{Takes, Looks, Weighs, Seats, Seals, Releases, CanRelease, Allowed, with_hold, after_take, phase_after_look, phase_after_weigh, is_last_seat, after}
-use Rattle.interleaving_core.specs.Sound.{bit, some_bit, hold_bit, done_bit, claim_bit, empty_bit, phase_seat_bit, holder_seat_bit, seat_bit, PhaseFits, CellFrom, DoesOneThing, Sound}
+use Rattle.interleaving_core.specs.Events.{Takes, Looks, Weighs, Seats, Seals, Releases, CanRelease, IsAllowed, with_hold, after_take, phase_after_look, phase_after_weigh, is_last_seat, after}
+use Rattle.interleaving_core.specs.Sound.{bit, some_bit, hold_bit, done_bit, claim_bit, empty_bit, phase_seat_bit, holder_seat_bit, seat_bit, IsSoundPhase, IsCellFrom, DoesOneThing, IsSound}
 use Rattle.interleaving_core.proofs.Places.{sum_set}
 use Rattle.interleaving_core.proofs.OwnTurns.{own_stays}
 use Rattle.interleaving_core.proofs.Choices.{choice_is}
@@ -27,7 +27,7 @@ calm c e n seats cells =
     record {
       more = omega arith;
       seats = λ p. let same = ap (λ (l : List ℕ). get_or l p 0) seats in omega arith;
-      cells = λ k j p. subst (λ (l : List Cell). CellFrom (get_or l k Empty) j) (sym cells) p;
+      cells = λ k j p. subst (λ (l : List Cell). IsCellFrom (get_or l k Empty) j) (sym cells) p;
     }
 
 calm_stays : (c e : Core) (h : ℕ) → e.seats ≡ c.seats → e.cells ≡ c.cells → Stays c e h
@@ -46,8 +46,8 @@ tried_one v hold none f =
     record { holder = λ h is. none; debtor = λ is. absurd (cc (is)); leaver = λ is. (none, refl) }
 
 pub take_keeps : (d : Dictatorship) (c : Core) (i : ℕ) (v : View) (b : Bool) → c.mark_held ≡ b
-    → Sound d c → slice_get c.views i ≡ Some v → Allowed d v Takes
-    → Sound d record c { mark_held = true; views = set c.views i (after_take v b c.mark_number) }
+    → IsSound d c → slice_get c.views i ≡ Some v → IsAllowed d v Takes
+    → IsSound d record c { mark_held = true; views = set c.views i (after_take v b c.mark_number) }
 take_keeps d c i v true was s at ok =
     let w : View = after_take v true c.mark_number in
     let e : Core = record c { mark_held = true; views = set c.views i w } in
@@ -123,10 +123,10 @@ take_keeps d c i v false was s at ok =
 
 -- an event that changes the holder's phase alone, from one in which it has seated nobody to another
 phase_step : (d : Dictatorship) (c : Core) (i : ℕ) (v : View) (h : ℕ) (was now : Phase)
-    → (s : Sound d c)
+    → (s : IsSound d c)
     → slice_get c.views i ≡ Some v → v.hold ≡ hold_at h was
-    → ((p : ℕ) → phase_seat_bit d p h now ≡ phase_seat_bit d p h was) → PhaseFits d c h now
-    → Sound d record c { views = set c.views i (with_hold v (hold_at h now)) }
+    → ((p : ℕ) → phase_seat_bit d p h now ≡ phase_seat_bit d p h was) → IsSoundPhase d c h now
+    → IsSound d record c { views = set c.views i (with_hold v (hold_at h now)) }
 phase_step d c i v h was now s at hold same fits =
     let mine : Holding = record { committed = h; phase = was } in
     let f = s.views i v at in
@@ -135,8 +135,8 @@ phase_step d c i v h was now s at hold same fits =
     (holder_fits d c c s.count s.count v mine (hold_at h now) (calm c c refl refl refl) f hold
     (holding_at d c s.count h now (f.hold mine hold).committed fits))
 
-pub look_keeps : (d : Dictatorship) (c : Core) (i : ℕ) (v : View) (h : ℕ) → Sound d c
-    → slice_get c.views i ≡ Some v → Allowed d v (Looks h) → Sound d (after d c i v (Looks h))
+pub look_keeps : (d : Dictatorship) (c : Core) (i : ℕ) (v : View) (h : ℕ) → IsSound d c
+    → slice_get c.views i ≡ Some v → IsAllowed d v (Looks h) → IsSound d (after d c i v (Looks h))
 look_keeps d c i v h s at ok =
     phase_step d c i v h Idle (phase_after_look (cell_at c h)) s at ok.0 (λ p. none p (cell_at c h))
     (found (cell_at c h) refl)
@@ -146,24 +146,24 @@ look_keeps d c i v h s at ok =
     none p (Posted j) = refl
     none p (Committed j) = refl
 
-    found : (x : Cell) → cell_at c h ≡ x → PhaseFits d c h (phase_after_look x)
+    found : (x : Cell) → cell_at c h ≡ x → IsSoundPhase d c h (phase_after_look x)
     found Empty e = tt
     found (Committed j) e = tt
     found (Posted j) e = let post = s.posts h j e in ((ok.1, (j, e, omega arith)), post.0, post.1)
 
 pub weigh_keeps : (d : Dictatorship) (c : Core) (i : ℕ) (v : View) (h j : ℕ) → IsValidDictatorship d
-    → Sound d c → slice_get c.views i ≡ Some v → Allowed d v (Weighs h j)
-    → Sound d (after d c i v (Weighs h j))
+    → IsSound d c → slice_get c.views i ≡ Some v → IsAllowed d v (Weighs h j)
+    → IsSound d (after d c i v (Weighs h j))
 weigh_keeps d c i v h j valid s at ok = by (is_open d c (entry d h j)) refl
   where
     mine : Holding
     mine = record { committed = h; phase = Scan j }
 
-    was : PhaseFits d c h (Scan j)
+    was : IsSoundPhase d c h (Scan j)
     was = ((s.views i v at).hold mine ok.0).phase
 
     by : (b : Bool) → is_open d c (entry d h j) ≡ b
-        → Sound d record c {
+        → IsSound d record c {
           views =
               set c.views i (with_hold v (hold_at h (phase_after_weigh b j)));
         }
@@ -197,8 +197,8 @@ weigh_keeps d c i v h j valid s at ok = by (is_open d c (entry d h j)) refl
 -- ---- what the holder writes
 
 pub seat_keeps : (d : Dictatorship) (c : Core) (i : ℕ) (v : View) (h j : ℕ) → IsValidDictatorship d
-    → Sound d c → slice_get c.views i ≡ Some v → Allowed d v (Seats h j)
-    → Sound d (after d c i v (Seats h j))
+    → IsSound d c → slice_get c.views i ≡ Some v → IsAllowed d v (Seats h j)
+    → IsSound d (after d c i v (Seats h j))
 seat_keeps d c i v h j valid s at ok =
     let q : ℕ = entry d h j in
     let filled : Bool = is_last_seat d c q in
@@ -259,8 +259,8 @@ seat_keeps d c i v h j valid s at ok =
     }
 
 pub seal_keeps : (d : Dictatorship) (c : Core) (i : ℕ) (v : View) (h j : ℕ) (phase : Phase)
-    → IsValidDictatorship d → Sound d c → slice_get c.views i ≡ Some v
-    → Allowed d v (Seals h j phase) → Sound d (after d c i v (Seals h j phase))
+    → IsValidDictatorship d → IsSound d c → slice_get c.views i ≡ Some v
+    → IsAllowed d v (Seals h j phase) → IsSound d (after d c i v (Seals h j phase))
 seal_keeps d c i v h j phase valid s at ok =
     let w : View = with_hold v (hold_at (h + 1) Idle) in
     let e : Core = after d c i v (Seals h j phase) in
@@ -285,10 +285,10 @@ seal_keeps d c i v h j phase valid s at ok =
           dite (ℕ_discrete x h)
           (λ is.
           let same : turn.posted.1.0 ≡ y =
-          subst (λ (z : Cell). CellFrom z y) (ap (cell_at c) is ∙ was) p in
+          subst (λ (z : Cell). IsCellFrom z y) (ap (cell_at c) is ∙ was) p in
           let up = turn.posted.1.2 in
-          subst (λ (z : Cell). CellFrom z y) (sym (ap (cell_at e) is ∙ here)) (omega arith))
-          (λ n. subst (λ (z : Cell). CellFrom z y) (sym (else_ x n)) p);
+          subst (λ (z : Cell). IsCellFrom z y) (sym (ap (cell_at e) is ∙ here)) (omega arith))
+          (λ n. subst (λ (z : Cell). IsCellFrom z y) (sym (else_ x n)) p);
     } in
     record {
       count = suc h;
@@ -374,8 +374,8 @@ freed d p n h (Ready j) r = refl
 freed d p n h (Seated j b) r = absurd r
 
 pub release_keeps : (d : Dictatorship) (c : Core) (i : ℕ) (v : View) (h : ℕ) (phase : Phase)
-    → Sound d c → slice_get c.views i ≡ Some v → Allowed d v (Releases h phase)
-    → Sound d (after d c i v (Releases h phase))
+    → IsSound d c → slice_get c.views i ≡ Some v → IsAllowed d v (Releases h phase)
+    → IsSound d (after d c i v (Releases h phase))
 release_keeps d c i v h phase s at ok =
     let w : View = with_hold v None in
     let e : Core = after d c i v (Releases h phase) in
