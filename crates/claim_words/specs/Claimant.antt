@@ -3,7 +3,7 @@ use Rattle.std.specs.Prelude.{◌≡◌, ℕ, ◌<◌, ◌≤◌, Bool, false, n
 use Rattle.interleaving_core.specs.Core.{turn_count, entry, quota_of, claim_at}
 use Rattle.interleaving_core.specs.Events.{Claims, Reads, Posts, IsAllowed, after_claim, after_read, after_post}
 use Rattle.word_rule.specs.Views.{with_core}
-use Rattle.word_rule.specs.Steps.{AreEarlier}
+use Rattle.word_rule.specs.Claimant.{AreEarlier}
 use Rattle.word_rule.specs.Rounds.{knows}
 use Rattle.word_rule.specs.declared.seat.WorkSeat.{WorkSeat}
 

@@ -11,5 +11,5 @@ pub record IsReady (round : SharedRound) (me : WorkSeat) : Type 0 where
   pub paid : (knows me).core.owes ≡ false
 
 -- each of these seats is ready
-abbrev pub AllReady : SharedRound → List WorkSeat → Type 0
-AllReady round seats = (k : ℕ) (me : WorkSeat) → slice_get seats k ≡ Some me → IsReady round me
+abbrev pub AreReady : SharedRound → List WorkSeat → Type 0
+AreReady round seats = (k : ℕ) (me : WorkSeat) → slice_get seats k ≡ Some me → IsReady round me

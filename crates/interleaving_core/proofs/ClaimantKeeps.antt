@@ -1,6 +1,6 @@
 -- A claimant's events keep a sound state. A draw gives each turn to one worker; a reading sees a
 -- count that only rises; a post fills a cell that was empty, since the worker claimed it.
-use Rattle.std.proofs.Common.{◌≡◌, ℕ, ◌+◌, ◌<◌, ◌≤◌, ◌≢◌, Bool, true, false, List, length, set, Option, Some, None, nat_lt, eq-eqb, ne_eqb, sym, refl, ap, subst, ◌∙◌, arith, length-set, get_or-set_same, get_or-set_other}
+use Rattle.std.proofs.Common.{◌≡◌, ℕ, ◌+◌, ◌<◌, ◌≤◌, ◌≢◌, Bool, true, false, length, set, Option, Some, None, nat_lt, eq-eqb, ne_eqb, sym, refl, ap, subst, ◌∙◌, arith, length-set, get_or-set_same, get_or-set_other}
 use Rattle.std.specs.Prelude.{slice_get}
 use Rattle.std.specs.List.{sum_by}
 use Rattle.std.proofs.lemmas.Bool.{ltb-true, ltb-false}
@@ -16,7 +16,7 @@ use Rattle.interleaving_core.specs.Events.{Claims, Reads, Posts, IsAllowed, afte
 use Rattle.interleaving_core.specs.Sound.{bit, turn_bit, done_bit, claim_bit, empty_bit, IsFullBefore, IsCellFrom, AreSoundOwnTurns, IsSoundClaim, DoesOneThing, IsSound}
 use Rattle.interleaving_core.proofs.Places.{sum_set, term_le, sum_zero}
 use Rattle.interleaving_core.proofs.OwnTurns.{own_stays, own_moves, own_claimed, own_posted}
-use Rattle.interleaving_core.proofs.Views.{at_some, Grows, Stays, holding_stays, claimant_one, mark_stays, seats_stay, views_fit, view_step}
+use Rattle.interleaving_core.proofs.Views.{at_some, Grows, Stays, holding_stays, claimant_one, mark_stays, seats_stay, views_fit, calm_step, view_step}
 
 -- no view claims a turn that was not drawn
 unclaimed : (d : Dictatorship) (c : Core) (s : IsSound d c) (k : ℕ) → c.claim_number ≤ k
@@ -29,15 +29,6 @@ unclaimed d c s k far =
         → turn_bit k o ≡ 0
     not_at None h = refl
     not_at (Some x) h = let drawn = h x refl in ap bit (ne_eqb k x.turn (λ e. omega arith))
-
--- the state after a draw grows, and nothing that a holder weighs changes
-draw_grows : (c : Core) (views : List View)
-    → Grows c record c { claim_number = c.claim_number + 1; views = views }
-draw_grows c views = record { more = omega arith; seats = λ p. omega arith; cells = λ k j p. p }
-
-draw_stays : (c : Core) (views : List View) (h : ℕ)
-    → Stays c record c { claim_number = c.claim_number + 1; views = views } h
-draw_stays c views h = record { seats = λ p. refl; cell = λ j p. p }
 
 -- who may draw does nothing else
 free_one : (d : Dictatorship) (v : View) (k : ℕ) → IsAllowed d v Claims
@@ -70,95 +61,73 @@ claim_keeps d c i v true drawn s at ok =
     let inside : n < turn_count d = ltb-true n (turn_count d) drawn in
     let w : View = after_claim_if true v n in
     let e : Core = record c { claim_number = n + 1; views = set c.views i w } in
-    let g : Grows c e = draw_grows c (set c.views i w) in
-    let f = s.views i v at in
-    let own = subst (AreSoundOwnTurns d c v.own) ok.0 f.own in
+    let own = subst (AreSoundOwnTurns d c v.own) ok.0 (s.views i v at).own in
+    calm_step d c s i v w (n + 1) c.mark_held c.mark_number at (omega arith)
+    (mark_stays d c.mark_held c.mark_number c.views s.count i v w at refl s.mark)
     record {
-      count = s.count;
-      mark = mark_stays d c.mark_held c.mark_number c.views s.count i v w at refl s.mark;
-      cells = s.cells;
-      seats = seats_stay d c.seats c.views s.count i v w at (λ p. refl) s.seats;
-      posts = s.posts;
-      claims =
+      claimed = λ k l m.
+          let t = sum_set (claim_bit k) c.views i v w at in
+          let zero : turn_bit k v.claim ≡ 0 = ap (turn_bit k) ok.0 in
+          dite (ℕ_discrete k n)
+          (λ is.
+          let one : turn_bit k w.claim ≡ 1 = ap bit (eq-eqb k n is) in
+          let nobody = unclaimed d c s k (omega arith) in
+          let empty = ap empty_bit (s.claims.untouched k (omega arith)) in
+          omega arith)
+          (λ other.
+          let none : turn_bit k w.claim ≡ 0 = ap bit (ne_eqb k n other) in
+          let was = s.claims.claimed k l (omega arith) in
+          omega arith);
+      untouched = λ k l. s.claims.untouched k (omega arith);
+      few =
+          let t = sum_set done_bit c.views i v w at in
+          let few = s.claims.few in
+          let same : sum_by done_bit c.views ≡ sum_by done_bit (set c.views i w) = omega arith in
+          omega arith;
+    }
+    (λ p. refl)
+    record {
+      one = free_one d v n ok;
+      claim =
+          at_some (IsSoundClaim d e) (record { turn = n; passed = 0; met = false })
           record {
-            claimed = λ k l m.
-                let t = sum_set (claim_bit k) c.views i v w at in
-                let zero : turn_bit k v.claim ≡ 0 = ap (turn_bit k) ok.0 in
-                dite (ℕ_discrete k n)
-                (λ is.
-                let one : turn_bit k w.claim ≡ 1 = ap bit (eq-eqb k n is) in
-                let nobody = unclaimed d c s k (omega arith) in
-                let empty = ap empty_bit (s.claims.untouched k (omega arith)) in
-                omega arith)
-                (λ other.
-                let none : turn_bit k w.claim ≡ 0 = ap bit (ne_eqb k n other) in
-                let was = s.claims.claimed k l (omega arith) in
-                omega arith);
-            untouched = λ k l. s.claims.untouched k (omega arith);
-            few =
-                let t = sum_set done_bit c.views i v w at in
-                let few = s.claims.few in
-                let same : sum_by done_bit c.views ≡ sum_by done_bit (set c.views i w) =
-                omega arith in
-                omega arith;
+            turn = inside;
+            drawn = omega arith;
+            passed = omega arith;
+            full = λ k l. absurd (omega arith);
+            met = λ is. absurd (cc (is));
           };
-      views =
-          views_fit d c e s.count s.count i w g s.views
-          (λ j u other there h is. holding_stays d c e s.count h
-          (draw_stays c (set c.views i w) h.committed))
-          record {
-            one = free_one d v n ok;
-            claim =
-                at_some (IsSoundClaim d e) (record { turn = n; passed = 0; met = false })
-                record {
-                  turn = inside;
-                  drawn = omega arith;
-                  passed = omega arith;
-                  full = λ k l. absurd (omega arith);
-                  met = λ is. absurd (cc (is));
-                };
-            hold = λ h is. absurd (cc (ok.1, is));
-            own = own_claimed d c e v.own n (omega arith) (omega arith) inside (λ k j p. p) own;
-            past = λ is. absurd (cc (ok.2, is));
-          };
+      hold = λ h is. absurd (cc (ok.1, is));
+      own = own_claimed d c e v.own n (omega arith) (omega arith) inside (λ k j p. p) own;
+      past = λ is. absurd (cc (ok.2, is));
     }
 claim_keeps d c i v false drawn s at ok =
     let n : ℕ = c.claim_number in
     let beyond : turn_count d ≤ n = ltb-false n (turn_count d) drawn in
     let w : View = after_claim_if false v n in
     let e : Core = record c { claim_number = n + 1; views = set c.views i w } in
-    let g : Grows c e = draw_grows c (set c.views i w) in
     let f = s.views i v at in
+    calm_step d c s i v w (n + 1) c.mark_held c.mark_number at (omega arith)
+    (mark_stays d c.mark_held c.mark_number c.views s.count i v w at refl s.mark)
     record {
-      count = s.count;
-      mark = mark_stays d c.mark_held c.mark_number c.views s.count i v w at refl s.mark;
-      cells = s.cells;
-      seats = seats_stay d c.seats c.views s.count i v w at (λ p. refl) s.seats;
-      posts = s.posts;
-      claims =
-          record {
-            claimed = λ k l m.
-                let t = sum_set (claim_bit k) c.views i v w at in
-                let was = s.claims.claimed k l (omega arith) in
-                omega arith;
-            untouched = λ k l. s.claims.untouched k (omega arith);
-            few =
-                let t = sum_set done_bit c.views i v w at in
-                let few = s.claims.few in
-                let not_done : bit v.done ≡ 0 = ap bit ok.2 in
-                omega arith;
-          };
-      views =
-          views_fit d c e s.count s.count i w g s.views
-          (λ j u other there h is. holding_stays d c e s.count h
-          (draw_stays c (set c.views i w) h.committed))
-          record {
-            one = done_one d v n ok;
-            claim = λ x is. absurd (cc (ok.0, is));
-            hold = λ h is. absurd (cc (ok.1, is));
-            own = own_stays d c e v.own v.claim g.more g.cells f.own;
-            past = λ is. omega arith;
-          };
+      claimed = λ k l m.
+          let t = sum_set (claim_bit k) c.views i v w at in
+          let was = s.claims.claimed k l (omega arith) in
+          omega arith;
+      untouched = λ k l. s.claims.untouched k (omega arith);
+      few =
+          let t = sum_set done_bit c.views i v w at in
+          let few = s.claims.few in
+          let not_done : bit v.done ≡ 0 = ap bit ok.2 in
+          omega arith;
+    }
+    (λ p. refl)
+    record {
+      one = done_one d v n ok;
+      claim = λ x is. absurd (cc (ok.0, is));
+      hold = λ h is. absurd (cc (ok.1, is));
+      own = own_stays d c e v.own v.claim (omega arith) (λ k j p. p) f.own;
+      past = λ is. omega arith;
     }
 
 -- a reading: the entry is met, or it is full and passed

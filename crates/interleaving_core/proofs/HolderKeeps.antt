@@ -1,6 +1,6 @@
 -- The events of the mark keep a sound state. The holder weighs the first turn that is not committed
 -- against counts that nobody else raises, so the place where it finds a seat is the turn's choice.
-use Rattle.std.proofs.Common.{◌≡◌, ℕ, suc, ◌+◌, ◌≤◌, ◌≢◌, Bool, true, false, List, set, get_or, Option, Some, None, nat_le, eqb, eq-eqb, ne_eqb, sym, refl, ap, subst, ◌∙◌, arith, length-set, get_or-set_same, get_or-set_other}
+use Rattle.std.proofs.Common.{◌≡◌, ℕ, suc, ◌+◌, ◌≤◌, ◌≢◌, Bool, true, false, set, Option, Some, None, nat_le, eqb, eq-eqb, ne_eqb, sym, refl, ap, subst, ◌∙◌, arith, length-set, get_or-set_same, get_or-set_other}
 use Rattle.std.specs.Prelude.{slice_get}
 use Rattle.std.proofs.lemmas.Bool.{ltb-true, ltb-false}
 use mathlib.Core.Logic.{dite}
@@ -13,111 +13,73 @@ use Rattle.interleaving_core.specs.declared.parts.Phase.TheVariants.{Idle, Halte
 use Rattle.interleaving_core.specs.declared.parts.Holding.{Holding}
 use Rattle.interleaving_core.specs.Core.{View, Core, turn_count, entry, quota_of, seats_of, is_open, cell_at, is_committed, hold_at}
 use Rattle.interleaving_core.specs.Events.{Takes, Looks, Weighs, Seats, Seals, Releases, CanRelease, IsAllowed, with_hold, after_take, phase_after_look, phase_after_weigh, is_last_seat, after}
-use Rattle.interleaving_core.specs.Sound.{bit, some_bit, hold_bit, done_bit, claim_bit, empty_bit, phase_seat_bit, holder_seat_bit, seat_bit, IsSoundPhase, IsCellFrom, DoesOneThing, IsSound}
+use Rattle.interleaving_core.specs.Sound.{bit, some_bit, hold_bit, done_bit, claim_bit, empty_bit, phase_seat_bit, holder_seat_bit, seat_bit, IsSoundPhase, IsCellFrom, IsSoundHolding, IsSoundView, IsSoundMark, IsSound}
 use Rattle.interleaving_core.proofs.Places.{sum_set}
-use Rattle.interleaving_core.proofs.OwnTurns.{own_stays}
 use Rattle.interleaving_core.proofs.Choices.{choice_is}
-use Rattle.interleaving_core.proofs.Views.{Grows, Stays, claim_grows, holding_stays, holding_at, holder_fits, mark_stays, seats_stay, claims_stay, views_fit, view_step}
+use Rattle.interleaving_core.proofs.Views.{Grows, holding_at, holder_fits, mark_stays, claims_stay, views_fit, calm_grows, mark_step, view_step}
 use Rattle.interleaving_core.proofs.Holder.{lone, held_is, seated_is, seats_now, decided}
 
--- the state grows where only views and the mark change
-calm : (c e : Core) → e.claim_number ≡ c.claim_number → e.seats ≡ c.seats → e.cells ≡ c.cells
-    → Grows c e
-calm c e n seats cells =
-    record {
-      more = omega arith;
-      seats = λ p. let same = ap (λ (l : List ℕ). get_or l p 0) seats in omega arith;
-      cells = λ k j p. subst (λ (l : List Cell). IsCellFrom (get_or l k Empty) j) (sym cells) p;
-    }
-
-calm_stays : (c e : Core) (h : ℕ) → e.seats ≡ c.seats → e.cells ≡ c.cells → Stays c e h
-calm_stays c e h seats cells =
-    record {
-      seats = λ p. ap (λ (l : List ℕ). get_or l p 0) seats;
-      cell = λ j p. ap (λ (l : List Cell). get_or l h Empty) cells ∙ p;
-    }
+-- nothing but views changes
+grows_none : (c : Core) → Grows c c
+grows_none c = calm_grows c c.claim_number c.mark_held c.mark_number c.views (omega arith)
 
 -- ---- a try on the mark
 
--- who may try neither claims nor holds, and owes nothing once it has tried
-tried_one : (v : View) (hold : Option Holding) → v.claim ≡ None → DoesOneThing v
-    → DoesOneThing record v { owes = false; hold = hold }
-tried_one v hold none f =
-    record { holder = λ h is. none; debtor = λ is. absurd (cc (is)); leaver = λ is. (none, refl) }
+-- the view of who has tried: it neither claims nor owes, and knows this as holder
+tried_fits : (d : Dictatorship) (c : Core) (count : ℕ) (v : View) (hold : Option Holding)
+    → v.claim ≡ None → ((h : Holding) → hold ≡ Some h → IsSoundHolding d c count h)
+    → IsSoundView d c count v → IsSoundView d c count record v { owes = false; hold = hold }
+tried_fits d c count v hold none holds f =
+    record {
+      one =
+          record {
+            holder = λ h is. none;
+            debtor = λ is. absurd (cc (is));
+            leaver = λ is. (none, refl);
+          };
+      claim = f.claim;
+      hold = holds;
+      own = f.own;
+      past = f.past;
+    }
 
 pub take_keeps : (d : Dictatorship) (c : Core) (i : ℕ) (v : View) (b : Bool) → c.mark_held ≡ b
     → IsSound d c → slice_get c.views i ≡ Some v → IsAllowed d v Takes
     → IsSound d record c { mark_held = true; views = set c.views i (after_take v b c.mark_number) }
-take_keeps d c i v true was s at ok =
-    let w : View = after_take v true c.mark_number in
-    let e : Core = record c { mark_held = true; views = set c.views i w } in
-    let g : Grows c e = calm c e refl refl refl in
-    let f = s.views i v at in
-    record {
-      count = s.count;
-      mark =
-          record {
-            within = s.mark.within;
-            behind = s.mark.behind;
-            free = λ no. absurd (cc (no));
-            holders =
-                let t = sum_set hold_bit c.views i v w at in
-                let one = s.mark.holders in
-                let held : bit c.mark_held ≡ 1 = ap bit was in
-                omega arith;
-          };
-      cells = s.cells;
-      seats = seats_stay d c.seats c.views s.count i v w at (λ p. refl) s.seats;
-      posts = s.posts;
-      claims = claims_stay d c.claim_number c.cells c.views i v w at (λ k. refl) refl s.claims;
-      views =
-          views_fit d c e s.count s.count i w g s.views
-          (λ j u other there h is. holding_stays d c e s.count h
-          (calm_stays c e h.committed refl refl))
-          record {
-            one = tried_one v v.hold ok.0 f.one;
-            claim = λ x is. claim_grows d c e x g (f.claim x is);
-            hold = λ h is. absurd (cc (ok.1, is));
-            own = own_stays d c e v.own v.claim g.more g.cells f.own;
-            past = f.past;
-          };
+take_keeps d c i v b was s at ok = by b was
+  where
+    takes : (w : View) → some_bit w.hold + bit c.mark_held ≡ 1
+        → IsSoundMark d true c.mark_number (set c.views i w) s.count
+    takes w one =
+        record {
+          within = s.mark.within;
+          behind = s.mark.behind;
+          free = λ no. absurd (cc (no));
+          holders =
+              let t = sum_set hold_bit c.views i v w at in
+              let were = s.mark.holders in
+              let not_mine : some_bit v.hold ≡ 0 = ap some_bit ok.1 in
+              omega arith;
+        }
+
+    by : (b : Bool) → c.mark_held ≡ b → IsSound d record c {
+      mark_held = true;
+      views = set c.views i (after_take v b c.mark_number);
     }
-take_keeps d c i v false was s at ok =
-    let w : View = after_take v false c.mark_number in
-    let e : Core = record c { mark_held = true; views = set c.views i w } in
-    let g : Grows c e = calm c e refl refl refl in
-    let f = s.views i v at in
-    record {
-      count = s.count;
-      mark =
-          record {
-            within = s.mark.within;
-            behind = s.mark.behind;
-            free = λ no. absurd (cc (no));
-            holders =
-                let t = sum_set hold_bit c.views i v w at in
-                let none = s.mark.holders in
-                let free : bit c.mark_held ≡ 0 = ap bit was in
-                let not_mine : some_bit v.hold ≡ 0 = ap some_bit ok.1 in
-                omega arith;
-          };
-      cells = s.cells;
-      seats = seats_stay d c.seats c.views s.count i v w at
-          (λ p. sym (ap (holder_seat_bit d p) ok.1)) s.seats;
-      posts = s.posts;
-      claims = claims_stay d c.claim_number c.cells c.views i v w at (λ k. refl) refl s.claims;
-      views =
-          views_fit d c e s.count s.count i w g s.views
-          (λ j u other there h is. holding_stays d c e s.count h
-          (calm_stays c e h.committed refl refl))
-          record {
-            one = tried_one v w.hold ok.0 f.one;
-            claim = λ x is. claim_grows d c e x g (f.claim x is);
-            hold = holding_at d e s.count c.mark_number Idle (s.mark.free was) tt;
-            own = own_stays d c e v.own v.claim g.more g.cells f.own;
-            past = f.past;
-          };
-    }
+    by true was =
+        let w : View = after_take v true c.mark_number in
+        let held : bit c.mark_held ≡ 1 = ap bit was in
+        let not_mine : some_bit v.hold ≡ 0 = ap some_bit ok.1 in
+        let f = s.views i v at in
+        mark_step d c s i v w true c.mark_number at (takes w (omega arith)) (λ k. refl) refl
+        (λ p. refl) (tried_fits d c s.count v v.hold ok.0 f.hold f)
+    by false was =
+        let w : View = after_take v false c.mark_number in
+        let free : bit c.mark_held ≡ 0 = ap bit was in
+        mark_step d c s i v w true c.mark_number at (takes w (omega arith)) (λ k. refl) refl
+        (λ p. sym (ap (holder_seat_bit d p) ok.1))
+        (tried_fits d c s.count v w.hold ok.0
+        (holding_at d c s.count c.mark_number Idle (s.mark.free was) tt) (s.views i v at))
 
 -- ---- what the holder reads
 
@@ -132,7 +94,7 @@ phase_step d c i v h was now s at hold same fits =
     let f = s.views i v at in
     view_step d c s i v (with_hold v (hold_at h now)) at (sym (ap some_bit hold)) (λ k. refl) refl
     (λ p. same p ∙ sym (ap (holder_seat_bit d p) hold))
-    (holder_fits d c c s.count s.count v mine (hold_at h now) (calm c c refl refl refl) f hold
+    (holder_fits d c c s.count s.count v mine (hold_at h now) (grows_none c) f hold
     (holding_at d c s.count h now (f.hold mine hold).committed fits))
 
 pub look_keeps : (d : Dictatorship) (c : Core) (i : ℕ) (v : View) (h : ℕ) → IsSound d c
@@ -378,35 +340,21 @@ pub release_keeps : (d : Dictatorship) (c : Core) (i : ℕ) (v : View) (h : ℕ)
     → IsSound d (after d c i v (Releases h phase))
 release_keeps d c i v h phase s at ok =
     let w : View = with_hold v None in
-    let e : Core = after d c i v (Releases h phase) in
-    let f = s.views i v at in
     let mine : Holding = record { committed = h; phase = phase } in
+    let f = s.views i v at in
     let now = (f.hold mine ok.0).committed in
-    let g : Grows c e = calm c e refl refl refl in
+    mark_step d c s i v w false h at
     record {
-      count = s.count;
-      mark =
-          record {
-            within = s.mark.within;
-            behind = omega arith;
-            free = λ _. now;
-            holders =
-                let t = sum_set hold_bit c.views i v w at in
-                let one = s.mark.holders in
-                let was_mine : some_bit v.hold ≡ 1 = ap some_bit ok.0 in
-                let held : bit c.mark_held ≡ 1 = ap bit (held_is d c s i v at mine ok.0) in
-                omega arith;
-          };
-      cells = s.cells;
-      seats =
-          seats_stay d c.seats c.views s.count i v w at
-          (λ p. sym (ap (holder_seat_bit d p) ok.0
-          ∙ freed d p (turn_count d) h phase ok.1)) s.seats;
-      posts = s.posts;
-      claims = claims_stay d c.claim_number c.cells c.views i v w at (λ k. refl) refl s.claims;
-      views =
-          views_fit d c e s.count s.count i w g s.views
-          (λ x u other there k is. holding_stays d c e s.count k
-          (calm_stays c e k.committed refl refl))
-          (holder_fits d c e s.count s.count v mine None g f ok.0 (λ k is. absurd (cc (is))));
+      within = s.mark.within;
+      behind = omega arith;
+      free = λ _. now;
+      holders =
+          let t = sum_set hold_bit c.views i v w at in
+          let one = s.mark.holders in
+          let was_mine : some_bit v.hold ≡ 1 = ap some_bit ok.0 in
+          let held : bit c.mark_held ≡ 1 = ap bit (held_is d c s i v at mine ok.0) in
+          omega arith;
     }
+    (λ k. refl) refl
+    (λ p. sym (ap (holder_seat_bit d p) ok.0 ∙ freed d p (turn_count d) h phase ok.1))
+    (holder_fits d c c s.count s.count v mine None (grows_none c) f ok.0 (λ k is. absurd (cc (is))))

@@ -175,27 +175,68 @@ views_fit d c e count now i w g old others mine =
     each_set (IsSoundView d e now) c.views i w mine
     (λ j u other at. view_grows d c e count now u g (others j u other at) (old j u at))
 
--- an event that changes one view alone, and neither what it claims nor that it holds
-pub view_step : (d : Dictatorship) (c : Core) (s : IsSound d c) (i : ℕ) (v w : View)
-    → slice_get c.views i ≡ Some v → hold_bit w ≡ hold_bit v
-    → ((k : ℕ) → claim_bit k w ≡ claim_bit k v)
-    → done_bit w ≡ done_bit v → ((p : ℕ) → seat_bit d p w ≡ seat_bit d p v) → IsSoundView d c s.count w
-    → IsSound d record c { views = set c.views i w }
-view_step d c s i v w at same_hold same_claim same_end same_seat fits =
-    let e : Core = record c { views = set c.views i w } in
-    let g : Grows c e =
-    record { more = omega arith; seats = λ p. omega arith; cells = λ k j p. p } in
-    let stays : (h : ℕ) → Stays c e h = λ h. record { seats = λ p. refl; cell = λ j p. p } in
+-- the state with other views, another mark and another number of draws
+abbrev pub calm : Core → ℕ → Bool → ℕ → List View → Core
+calm c drawn held number views =
+    record c { claim_number = drawn; mark_held = held; mark_number = number; views = views }
+
+-- it grows with the draws, and nothing that a holder weighs changes
+pub calm_grows : (c : Core) (drawn : ℕ) (held : Bool) (number : ℕ) (views : List View)
+    → c.claim_number ≤ drawn → Grows c (calm c drawn held number views)
+calm_grows c drawn held number views more =
+    record { more = more; seats = λ p. omega arith; cells = λ k j p. p }
+
+pub calm_stays : (c : Core) (drawn : ℕ) (held : Bool) (number : ℕ) (views : List View) (h : ℕ)
+    → Stays c (calm c drawn held number views) h
+calm_stays c drawn held number views h = record { seats = λ p. refl; cell = λ j p. p }
+
+-- an event that writes neither a seat count nor a cell, and seats nobody
+pub calm_step : (d : Dictatorship) (c : Core) (s : IsSound d c) (i : ℕ) (v w : View) (drawn : ℕ)
+    (held : Bool) (number : ℕ) → slice_get c.views i ≡ Some v → c.claim_number ≤ drawn
+    → IsSoundMark d held number (set c.views i w) s.count
+    → AreSoundClaims d drawn c.cells (set c.views i w)
+    → ((p : ℕ) → seat_bit d p w ≡ seat_bit d p v)
+    → IsSoundView d (calm c drawn held number (set c.views i w)) s.count w
+    → IsSound d (calm c drawn held number (set c.views i w))
+calm_step d c s i v w drawn held number at more mark claims same_seat fits =
+    let views = set c.views i w in
+    let e = calm c drawn held number views in
     record {
       count = s.count;
-      mark = mark_stays d c.mark_held c.mark_number c.views s.count i v w at same_hold s.mark;
+      mark = mark;
       cells = s.cells;
       seats = seats_stay d c.seats c.views s.count i v w at same_seat s.seats;
       posts = s.posts;
-      claims = claims_stay d c.claim_number c.cells c.views i v w at same_claim same_end s.claims;
+      claims = claims;
       views =
-          views_fit d c e s.count s.count i w g s.views
-          (λ j u other there h is. holding_stays d c e s.count h (stays h.committed))
-          (view_grows d c e s.count s.count w g
-          (λ h is. holding_stays d c e s.count h (stays h.committed)) fits);
+          views_fit d c e s.count s.count i w (calm_grows c drawn held number views more) s.views
+          (λ j u other there h is.
+          holding_stays d c e s.count h (calm_stays c drawn held number views h.committed))
+          fits;
     }
+
+-- the same where nothing is drawn, and the view neither claims nor ends
+pub mark_step : (d : Dictatorship) (c : Core) (s : IsSound d c) (i : ℕ) (v w : View) (held : Bool)
+    (number : ℕ) → slice_get c.views i ≡ Some v
+    → IsSoundMark d held number (set c.views i w) s.count
+    → ((k : ℕ) → claim_bit k w ≡ claim_bit k v) → done_bit w ≡ done_bit v
+    → ((p : ℕ) → seat_bit d p w ≡ seat_bit d p v) → IsSoundView d c s.count w
+    → IsSound d (calm c c.claim_number held number (set c.views i w))
+mark_step d c s i v w held number at mark same_claim same_end same_seat fits =
+    let n = c.claim_number in
+    let views = set c.views i w in
+    calm_step d c s i v w n held number at (omega arith) mark
+    (claims_stay d n c.cells c.views i v w at same_claim same_end s.claims) same_seat
+    (view_grows d c (calm c n held number views) s.count s.count w
+    (calm_grows c n held number views (omega arith))
+    (λ h is. holding_stays d c _ s.count h (calm_stays c n held number views h.committed)) fits)
+
+-- the same where the mark stays
+pub view_step : (d : Dictatorship) (c : Core) (s : IsSound d c) (i : ℕ) (v w : View)
+    → slice_get c.views i ≡ Some v → hold_bit w ≡ hold_bit v
+    → ((k : ℕ) → claim_bit k w ≡ claim_bit k v) → done_bit w ≡ done_bit v
+    → ((p : ℕ) → seat_bit d p w ≡ seat_bit d p v) → IsSoundView d c s.count w
+    → IsSound d record c { views = set c.views i w }
+view_step d c s i v w at same_hold =
+    mark_step d c s i v w c.mark_held c.mark_number at
+    (mark_stays d c.mark_held c.mark_number c.views s.count i v w at same_hold s.mark)

@@ -1,4 +1,4 @@
-// The kinds of atomic step of the mark's holder.
+// The kinds of atomic step of the mark's holder, and of who tries to take it.
 
 use crate::rule::SeatView;
 use atomic_table::Play;
@@ -7,52 +7,52 @@ use atomic_table::Play;
 pub struct TakeStep;
 
 impl Play<u8, SeatView> for TakeStep {
-    ghost use Rattle.word_rule.specs.Holder.{take_tells};
+    ghost use Rattle.word_rule.specs.Holder.{TellsTake};
 
-    ghost then = { take_tells };
+    ghost then = { λ step. TellsTake };
 }
 
 /// The holder looks at the first uncommitted turn: a load of its cell.
 pub struct LookStep;
 
 impl Play<u8, SeatView> for LookStep {
-    ghost use Rattle.word_rule.specs.Holder.{look_tells};
+    ghost use Rattle.word_rule.specs.Holder.{TellsLook};
 
-    ghost then = { look_tells };
+    ghost then = { λ step. TellsLook };
 }
 
 /// The holder weighs the entry at its place: a load of the entry's seat word.
 pub struct WeighStep;
 
 impl Play<u8, SeatView> for WeighStep {
-    ghost use Rattle.word_rule.specs.Holder.{weigh_tells};
+    ghost use Rattle.word_rule.specs.Holder.{TellsWeigh};
 
-    ghost then = { weigh_tells };
+    ghost then = { λ step. TellsWeigh };
 }
 
 /// The holder takes a seat of the entry at its place: a fetch-and-add of 1 on the entry's seat word.
 pub struct SeatStep;
 
 impl Play<u8, SeatView> for SeatStep {
-    ghost use Rattle.word_rule.specs.Holder.{seat_tells};
+    ghost use Rattle.word_rule.specs.Holder.{TellsSeat};
 
-    ghost then = { seat_tells };
+    ghost then = { λ step. TellsSeat };
 }
 
 /// The holder commits its turn at its place: a store to the turn's cell.
 pub struct SealStep;
 
 impl Play<u8, SeatView> for SealStep {
-    ghost use Rattle.word_rule.specs.Holder.{seal_tells};
+    ghost use Rattle.word_rule.specs.Holder.{TellsSeal};
 
-    ghost then = { seal_tells };
+    ghost then = { λ step me stored after. TellsSeal me after };
 }
 
 /// The holder gives the mark back: a store to its word.
 pub struct ReleaseStep;
 
 impl Play<u8, SeatView> for ReleaseStep {
-    ghost use Rattle.word_rule.specs.Holder.{release_tells};
+    ghost use Rattle.word_rule.specs.Holder.{TellsRelease};
 
-    ghost then = { release_tells };
+    ghost then = { λ step. TellsRelease };
 }

@@ -1,6 +1,6 @@
 use Rattle.std.proofs.Common.{rules}
 use Rattle.word_rule.proofs.Holder.{take_allowed}
-use Rattle.commit_book.proofs.book.take.Goals as goal
+use Rattle.commit_book.proofs.holder.take.Goals as goal
 
 pub fetch_or-found-requires : goal.fetch_or-found-requires
 fetch_or-found-requires c =

@@ -1,26 +1,24 @@
 -- When the calls on the mark may be made, and the event that each of them is.
-use Rattle.std.specs.Prelude.{◌≡◌, ℕ, ◌+◌, ◌/◌, ◌<◌, ◌≤◌, Bool, true, not, nat_lt, nat_le, Option, None, MatchOption, IsSome}
+use Rattle.std.specs.Prelude.{◌≡◌, ℕ, ◌+◌, ◌<◌, ◌≤◌, Bool, true, not, nat_lt, nat_le, Option, None, MatchOption, IsSome}
 use Rattle.interleaving_core.specs.declared.parts.Cell.{Cell}
 use Rattle.interleaving_core.specs.declared.parts.Cell.TheVariants.{Empty, Posted}
 use Rattle.interleaving_core.specs.declared.parts.Phase.{Phase}
-use Rattle.interleaving_core.specs.declared.parts.Phase.TheVariants.{Idle, Scan, Ready, Seated}
+use Rattle.interleaving_core.specs.declared.parts.Phase.TheVariants.{Idle, Halted, Scan, Ready, Seated}
 use Rattle.interleaving_core.specs.Core.{turn_count, entry, quota_of, hold_at}
-use Rattle.interleaving_core.specs.Events.{Takes, Weighs, Seats, Seals, Releases, IsAllowed, with_hold, phase_after_look, phase_after_weigh}
-use Rattle.word_rule.specs.Views.{SeatKnows, with_core}
-use Rattle.word_rule.specs.Holder.{is_odd, tried, released_with}
+use Rattle.interleaving_core.specs.Events.{Takes, Weighs, Seats, Seals, Releases, IsAllowed, phase_after_look, phase_after_weigh}
+use Rattle.word_rule.specs.Views.{SeatKnows}
+use Rattle.word_rule.specs.Layout.{is_held, mark_number}
+use Rattle.word_rule.specs.Holder.{as_holder, tried, released_with}
 use Rattle.word_rule.specs.Rounds.{knows}
 use Rattle.word_rule.specs.declared.seat.WorkSeat.{WorkSeat}
 
--- the seat as holder of the mark, with so many turns committed and in this phase
-abbrev pub as_holder : SeatKnows → ℕ → Phase → SeatKnows
-as_holder x committed phase = with_core x (with_hold x.core (hold_at committed phase))
-
 -- the place of a phase, 0 where it has none
 abbrev pub place_of : Phase → ℕ
+place_of Idle = 0
+place_of Halted = 0
 place_of (Scan j) = j
 place_of (Ready j) = j
 place_of (Seated j filled) = j
-place_of _ = 0
 
 -- the seat may try to take the mark: it has no claim and does not hold the mark
 abbrev pub MayTake : WorkSeat → Type 0
@@ -60,8 +58,8 @@ pub record MayRelease (me : WorkSeat) : Type 0 where
 -- answer is whether the word was even. A seat with every share is answered true
 pub record IsTake (old new : WorkSeat) (answer : Bool) : Type 0 where
   pub found : ℕ
-  pub view : knows new ≡ tried (knows old) (is_odd found) (found / 2)
-  pub answered : answer ≡ not (is_odd found)
+  pub view : knows new ≡ tried (knows old) (is_held found) (mark_number found)
+  pub answered : answer ≡ not (is_held found)
   pub free : (knows old).share ≡ (knows old).workers → answer ≡ true
 
 -- a look at the first uncommitted turn: there is a cell found at this step; the seat's view is the core's

@@ -3,7 +3,7 @@ use Rattle.interleaving_core.specs.declared.parts.Phase.TheVariants.{Ready}
 use Rattle.market.specs.Dictatorships.{list_at}
 use Rattle.word_rule.proofs.Holder.{seat_allowed}
 use Rattle.commit_book.proofs.Holds.{next_seat}
-use Rattle.commit_book.proofs.book.seat.Goals as goal
+use Rattle.commit_book.proofs.holder.seat.Goals as goal
 
 pub fetch_add-found-requires : goal.fetch_add-found-requires
 fetch_add-found-requires c =
@@ -16,4 +16,5 @@ fetch_add-found-requires c =
     let programme = ap (λ l. slice_index_or l place 0) list in
     let inside = next.programme in
     let words = round.words_are in
+    let word = c.seat_word-word.ensures in
     (c.requires.seat.table, omega arith, seat_allowed round.table.shared.key _ _ _ _ _ _ me.live me.narrow next.may (omega arith))

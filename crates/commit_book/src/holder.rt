@@ -1,14 +1,16 @@
-// The six calls of the mark's holder.
+// The six calls of the mark's holder, and of who tries to take it.
 
 ghost use Rattle.std.specs.Prelude.{◌≡◌};
 ghost use Rattle.word_rule.specs.Rounds.{IsSeatOf, Stays, dict_of};
-ghost use Rattle.commit_book.specs.Book.{MayTake, MayLook, MayWeigh, MaySeat, MaySeal, MayRelease};
-ghost use Rattle.commit_book.specs.Book.{place_of, IsTake, IsLook, IsWeigh, IsSeat, IsSeal, IsRelease};
+ghost use Rattle.commit_book.specs.Holder.{MayTake, MayLook, MayWeigh, MaySeat, MaySeal, MayRelease};
+ghost use Rattle.commit_book.specs.Holder.{place_of, IsTake, IsLook, IsWeigh, IsSeat, IsSeal, IsRelease};
 
+use interleaving_core::Cell;
 use market::Dict;
 use word_rule::{
-    LookStep, PhaseCopy, ReleaseStep, SealStep, SeatStep, SharedRound, TakeStep, WeighStep,
-    WorkSeat,
+    LookStep, MARK_WORD, PhaseCopy, ReleaseStep, SealStep, SeatStep, SharedRound, TakeStep,
+    WeighStep, WorkSeat, cell_of, cell_word, committed_at, free_mark, is_held, mark_number,
+    seat_word,
 };
 
 /// Tries to take the mark, by one fetch-or. `false` comes exactly where the word found was odd: another
@@ -19,12 +21,15 @@ pub fn take(round: &SharedRound, me: &mut WorkSeat) -> bool
     ensures stays { Stays me.old me.new }
     ensures event { IsTake me.old me.new result }
 {
-    let found = round.table.shared.fetch_or::<TakeStep>(&mut me.seat, 1, 1);
-    if found % 2 == 1 {
+    let found = round
+        .table
+        .shared
+        .fetch_or::<TakeStep>(&mut me.seat, MARK_WORD, 1);
+    if is_held(found) {
         return false;
     }
     me.phase = Some(PhaseCopy::Idle);
-    me.committed = (found / 2) as u32;
+    me.committed = mark_number(found);
     true
 }
 
@@ -39,13 +44,12 @@ pub fn look(round: &SharedRound, me: &mut WorkSeat) -> Option<u32>
     if me.committed >= round.turns {
         return None;
     }
-    let word = 2 + round.programmes as usize + me.committed as usize;
+    let word = cell_word(round.programmes, me.committed);
     let found = round.table.shared.load::<LookStep>(&mut me.seat, word);
-    if found == 0 {
+    let Cell::Posted(place) = cell_of(found) else {
         me.phase = Some(PhaseCopy::Halted);
         return None;
-    }
-    let place = (found / 2) as u32;
+    };
     me.phase = Some(PhaseCopy::Scan(place));
     Some(place)
 }
@@ -63,7 +67,7 @@ pub fn weigh(round: &SharedRound, dict: &Dict, me: &mut WorkSeat) -> bool
         unreachable!()
     };
     let programme = dict.list(me.committed)[place as usize];
-    let word = 2 + programme as usize;
+    let word = seat_word(programme);
     let found = round.table.shared.load::<WeighStep>(&mut me.seat, word);
     let full = found >= dict.quota(programme) as u64;
     me.phase = Some(if full {
@@ -87,7 +91,7 @@ pub fn seat(round: &SharedRound, dict: &Dict, me: &mut WorkSeat) -> bool
         unreachable!()
     };
     let programme = dict.list(me.committed)[place as usize];
-    let word = 2 + programme as usize;
+    let word = seat_word(programme);
     let found = round
         .table
         .shared
@@ -110,8 +114,8 @@ pub fn seal(round: &SharedRound, dict: &Dict, me: &mut WorkSeat) -> u32
     };
     let place = place_in(phase);
     let turn = me.committed;
-    let word = 2 + dict.programmes() as usize + turn as usize;
-    let cell = 2 * place as u64 + 2;
+    let word = cell_word(dict.programmes(), turn);
+    let cell = committed_at(place);
     round
         .table
         .shared
@@ -139,10 +143,10 @@ pub fn release(round: &SharedRound, me: &mut WorkSeat)
     ensures stays { Stays me.old me.new }
     ensures event { IsRelease me.old me.new }
 {
-    let free_mark = 2 * me.committed as u64;
+    let freed = free_mark(me.committed);
     round
         .table
         .shared
-        .store::<ReleaseStep>(&mut me.seat, 1, free_mark);
+        .store::<ReleaseStep>(&mut me.seat, MARK_WORD, freed);
     me.phase = None;
 }
