@@ -7,7 +7,7 @@ use Rattle.std.proofs.lemmas.List.Sums.{sum_by-le}
 use Rattle.std.proofs.lemmas.Option.{slice_get_read, slice_get-map, get_or_from_slice_get}
 use Rattle.market.specs.Dictatorships.{Dictatorship, IsValidDictatorship, list_at}
 use Rattle.market.proofs.Turns.{taken-le-quota}
-use Rattle.interleaving_core.specs.declared.limits.TheConstants.{MOST_WORKERS}
+use Rattle.interleaving_core.specs.declared.limits.TheConstants.{MAX_WORKERS}
 use Rattle.interleaving_core.specs.declared.parts.Claiming.{Claiming}
 use Rattle.interleaving_core.specs.declared.parts.OwnTurn.{OwnTurn}
 use Rattle.interleaving_core.specs.declared.parts.Phase.{Phase}
@@ -313,7 +313,7 @@ team_more n turns ws w t fresh room = record {
 }
 
 -- the machine of the opening state and such workers is kept
-pub team_kept : (s : Inside) (workers : ℕ) → IsValidDictatorship s.dict → workers ≤ MOST_WORKERS
+pub team_kept : (s : Inside) (workers : ℕ) → IsValidDictatorship s.dict → workers ≤ MAX_WORKERS
     → (machine_of s).core ≡ opening s.dict workers
     → IsTeam workers (turn_count s.dict) s.workers.items → IsKept s
 team_kept s workers valid few is t =

@@ -1,7 +1,7 @@
 -- What the machine keeps in memory: the view of each worker, and room for its own turns.
 use Rattle.std.specs.Prelude.{◌≡◌, ℕ, ◌<◌, ◌≤◌, List, length, map, replicate, slice_get, Some, vec_capacity}
 use Rattle.market.specs.Dictatorships.{Dictatorship, IsValidDictatorship}
-use Rattle.interleaving_core.specs.declared.limits.TheConstants.{MOST_WORKERS}
+use Rattle.interleaving_core.specs.declared.limits.TheConstants.{MAX_WORKERS}
 use Rattle.interleaving_core.specs.declared.parts.Claiming.{Claiming}
 use Rattle.interleaving_core.specs.declared.parts.Phase.TheVariants.{Scan}
 use Rattle.interleaving_core.specs.declared.parts.Holding.{Holding}
@@ -47,7 +47,7 @@ machine_of s =
 pub record IsKept (s : Inside) : Type 0 where
   pub valid : IsValidDictatorship s.dict
   pub sound : IsSound s.dict (machine_of s).core
-  pub few : length s.workers.items ≤ MOST_WORKERS
+  pub few : length s.workers.items ≤ MAX_WORKERS
   pub room : (i : ℕ) (w : Worker) → slice_get s.workers.items i ≡ Some w
       → turn_count s.dict ≤ vec_capacity w.own
 

@@ -75,6 +75,6 @@ mod tests;
 
 pub use events::{CoreEvent, NotNow, Told};
 pub use law::any_run;
-pub use limits::MOST_WORKERS;
+pub use limits::MAX_WORKERS;
 pub use parts::{Cell, Claiming, Holding, OwnTurn, Phase};
 pub use state::CoreState;

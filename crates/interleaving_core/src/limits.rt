@@ -1,4 +1,4 @@
 // How many workers there may be.
 
 /// The most workers that run one dictatorship together.
-pub const MOST_WORKERS: u32 = 64;
+pub const MAX_WORKERS: u32 = 64;

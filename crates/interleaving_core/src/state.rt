@@ -12,7 +12,7 @@ mod claimant;
 mod holder;
 
 use crate::events::{CoreEvent, NotNow, Told};
-use crate::limits::MOST_WORKERS;
+use crate::limits::MAX_WORKERS;
 use crate::opening::fresh_workers;
 use crate::parts::Cell;
 use crate::team::Worker;
@@ -46,11 +46,11 @@ impl Model for CoreState {
 }
 
 impl CoreState {
-    /// The opening state of this dictatorship, for 1 to `MOST_WORKERS` workers. All memory that the machine
+    /// The opening state of this dictatorship, for 1 to `MAX_WORKERS` workers. All memory that the machine
     /// ever needs is taken here: for each worker as much as it needs to draw every turn.
     pub fn open(alloc: Global, dict: Dict, workers: u32) -> Result<CoreState, AllocError>
         requires some { 1 ≤ workers }
-        requires few { workers ≤ MOST_WORKERS }
+        requires few { workers ≤ MAX_WORKERS }
         ensures { IfOk result (λ s. (s.dict ≡ dict) × (s.core ≡ opening dict workers)) }
     {
         let turns = dict.turns();

@@ -9,7 +9,7 @@ use Rattle.std.proofs.lemmas.List.{take-replicate}
 use Rattle.std.proofs.lemmas.List.Sums.{sum_by-cons}
 use Rattle.atomic_table.specs.Table.{opening as table_opening}
 use Rattle.market.specs.Dictatorships.{Dictatorship, IsValidDictatorship}
-use Rattle.interleaving_core.specs.declared.limits.TheConstants.{MOST_WORKERS}
+use Rattle.interleaving_core.specs.declared.limits.TheConstants.{MAX_WORKERS}
 use Rattle.interleaving_core.specs.declared.parts.Cell.TheVariants.{Empty}
 use Rattle.interleaving_core.specs.Core.{View, fresh_view, opening, turn_count}
 use Rattle.interleaving_core.specs.Sound.{IsSound}
@@ -66,7 +66,7 @@ wide d valid =
 
 -- a table is made with a sound core state
 opens_with_first : (key : RoundKey) → IsValidDictatorship key.dict.value → 0 < key.workers
-    → key.workers ≤ MOST_WORKERS → IsSoundTable key (table_opening (first_words key.dict.value) [] (first_of key))
+    → key.workers ≤ MAX_WORKERS → IsSoundTable key (table_opening (first_words key.dict.value) [] (first_of key))
 opens_with_first key valid some few =
     let d = key.dict.value in
     let x = first_of key in
@@ -103,7 +103,7 @@ opens_with_first key valid some few =
 
 -- the same for words that are known to be the opening words
 pub table_opens : (key : RoundKey) (words : List ℕ) → words ≡ first_words key.dict.value
-    → IsValidDictatorship key.dict.value → 0 < key.workers → key.workers ≤ MOST_WORKERS
+    → IsValidDictatorship key.dict.value → 0 < key.workers → key.workers ≤ MAX_WORKERS
     → IsSoundTable key (table_opening words [] (first_of key))
 table_opens key words is valid some few =
     subst (λ (l : List ℕ). IsSoundTable key (table_opening l [] (first_of key))) (sym is)

@@ -3,7 +3,7 @@ use Rattle.std.specs.Prelude.{◌≡◌, ◌≢◌, ◌⊎◌, ℕ, ◌<◌, ◌
 use Rattle.std.specs.List.{sum_by}
 use Rattle.atomic_table.specs.Table.{State}
 use Rattle.market.specs.Dictatorships.{IsValidDictatorship}
-use Rattle.interleaving_core.specs.declared.limits.TheConstants.{MOST_WORKERS}
+use Rattle.interleaving_core.specs.declared.limits.TheConstants.{MAX_WORKERS}
 use Rattle.interleaving_core.specs.Core.{View, Core, fresh_view}
 use Rattle.interleaving_core.specs.Sound.{IsSound}
 use Rattle.word_rule.specs.declared.layout.TheConstants.{CLAIM_WORD, MARK_WORD}
@@ -39,7 +39,7 @@ HasNotDrawn v = (v.own ≡ []) × (v.done ≡ false)
 -- words and views together are one sound core state of the round's dictatorship
 pub record IsSoundTable (key : RoundKey) (s : State ℕ SeatKnows) : Type 0 where
   pub valid : IsValidDictatorship key.dict.value
-  pub team : key.workers ≤ MOST_WORKERS
+  pub team : key.workers ≤ MAX_WORKERS
   pub wide : length s.words ≡ word_count key.dict.value
   pub sound : IsSound key.dict.value (table_core key s)
   -- the seats stand for all workers, each is one of this round, and their numbers differ

@@ -9,12 +9,12 @@ ghost use Rattle.word_rule.specs.Rounds.{knows, key_of, dict_of, IsNew, AreNew, 
 use crate::layout::{FIRST_SEAT_WORD, cell_word, free_mark};
 use crate::rule::{RoundKey, RoundSeat, RoundTable, ShareMove};
 use crate::seat::{SharedRound, WorkSeat};
-use interleaving_core::MOST_WORKERS;
+use interleaving_core::MAX_WORKERS;
 use market::Dict;
 use std::alloc::{AllocError, Global};
 use std::snapshot::Snapshot;
 
-/// The words of a round, and one seat for each of its 1 to `MOST_WORKERS` workers, numbered from 0. Words and
+/// The words of a round, and one seat for each of its 1 to `MAX_WORKERS` workers, numbered from 0. Words and
 /// seats together are the opening state of the core: whatever the table is while every view is still
 /// that of the opening, it shows that state. All memory of the round is taken here.
 pub fn open_round(
@@ -22,7 +22,7 @@ pub fn open_round(
     dict: &Dict,
     workers: u32,
 ) -> Result<(SharedRound, Vec<WorkSeat>), AllocError>
-    requires { (0 < workers) × (workers ≤ MOST_WORKERS) }
+    requires { (0 < workers) × (workers ≤ MAX_WORKERS) }
     ensures dict { IfOk result (λ r. dict_of r.0 ≡ dict.now) }
     ensures workers { IfOk result (λ r. (key_of r.0).workers ≡ workers) }
     ensures seats { IfOk result (λ r. length r.1.items ≡ workers) }
