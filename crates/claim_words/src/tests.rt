@@ -3,7 +3,7 @@
 ghost use Rattle.std.specs.Prelude.{◌≡◌, ◌+◌, ◌<◌, ◌∷◌, [], length, IfOk, true, false};
 ghost use Rattle.market.specs.Examples.{two_turns};
 ghost use Rattle.interleaving_core.specs.Core.{turn_count, claim_at};
-ghost use Rattle.word_rule.specs.Rounds.{knows, dict_of, IsSeatOf, IsNew, AllNew, IsOver, AllOver, shares_of};
+ghost use Rattle.word_rule.specs.Rounds.{knows, dict_of, IsSeatOf, IsNew, AreNew, IsOver, AreOver, shares_of};
 ghost use Rattle.claim_words.specs.Claimant.{MayClaim};
 
 use crate::{claim, post, read_entry};
@@ -41,7 +41,7 @@ fn no_turns(alloc: Global) -> Dict
 
 // The seats of a round of two workers.
 fn two_seats(round: &SharedRound, mut seats: Vec<WorkSeat>) -> (WorkSeat, WorkSeat)
-    requires new { AllNew round.now seats.items }
+    requires new { AreNew round.now seats.items }
     requires two { length seats.items ≡ 2 }
     ensures first { IsNew round.now 0 result.0 }
     ensures second { IsNew round.now 1 result.1 }
@@ -114,9 +114,9 @@ fn finished(
     round: &SharedRound,
     mut seats: Vec<WorkSeat>,
 ) -> Result<Vec<WorkSeat>, AllocError>
-    requires new { AllNew round.now seats.items }
+    requires new { AreNew round.now seats.items }
     requires no_turns { turn_count (dict_of round.now) ≡ 0 }
-    ensures over { IfOk result (λ v. AllOver round.now v.items) }
+    ensures over { IfOk result (λ v. AreOver round.now v.items) }
     ensures shares { IfOk result (λ v. shares_of v.items ≡ shares_of seats.items) }
 {
     let mut over = Vec::with_capacity(alloc, seats.len())?;

@@ -5,11 +5,11 @@ use Rattle.word_rule.specs.declared.seat.SharedRound.{SharedRound}
 use Rattle.word_rule.specs.declared.seat.WorkSeat.{WorkSeat}
 
 -- it is a seat of this round that is not done and owes no try on the mark
-pub record IsReady (round : SharedRound) (me : WorkSeat) : Type 0 where
+pub record IsWorking (round : SharedRound) (me : WorkSeat) : Type 0 where
   pub of_round : IsSeatOf round me
   pub working : (knows me).core.done ≡ false
   pub paid : (knows me).core.owes ≡ false
 
 -- each of these seats is ready
-abbrev pub AllReady : SharedRound → List WorkSeat → Type 0
-AllReady round seats = (k : ℕ) (me : WorkSeat) → slice_get seats k ≡ Some me → IsReady round me
+abbrev pub AreWorking : SharedRound → List WorkSeat → Type 0
+AreWorking round seats = (k : ℕ) (me : WorkSeat) → slice_get seats k ≡ Some me → IsWorking round me

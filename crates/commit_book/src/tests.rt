@@ -2,7 +2,7 @@
 
 ghost use Rattle.std.specs.Prelude.{◌≡◌, ◌∷◌, [], length, IfOk, None, false};
 ghost use Rattle.market.specs.Examples.{two_turns};
-ghost use Rattle.word_rule.specs.Rounds.{knows, key_of, dict_of, IsSeatOf, IsNew, AllNew, IsOver};
+ghost use Rattle.word_rule.specs.Rounds.{knows, key_of, dict_of, IsSeatOf, IsNew, AreNew, IsOver};
 
 use crate::{commit_prefix, look, release, seal, seat, take, weigh};
 use claim_words::{claim, post, read_entry};
@@ -36,7 +36,7 @@ fn two_turns(alloc: Global) -> Result<Dict, AllocError>
 
 // The seats of a round of two workers.
 fn two_seats(round: &SharedRound, mut seats: Vec<WorkSeat>) -> (WorkSeat, WorkSeat)
-    requires new { AllNew round.now seats.items }
+    requires new { AreNew round.now seats.items }
     requires two { length seats.items ≡ 2 }
     ensures first { IsNew round.now 0 result.0 }
     ensures second { IsNew round.now 1 result.1 }

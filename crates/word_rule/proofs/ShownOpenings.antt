@@ -9,7 +9,7 @@ use Rattle.market.proofs.Turns.{taken-zero}
 use Rattle.interleaving_core.specs.declared.parts.Cell.{Cell}
 use Rattle.interleaving_core.specs.declared.parts.Cell.TheVariants.{Empty, Committed}
 use Rattle.interleaving_core.specs.Core.{View, Core, fresh_view, turn_count}
-use Rattle.interleaving_core.specs.Sound.{bit, hold_bit, seat_bit, Sound}
+use Rattle.interleaving_core.specs.Sound.{bit, hold_bit, seat_bit, IsSound}
 use Rattle.interleaving_core.proofs.Places.{sum_replicate}
 use Rattle.word_rule.specs.Views.{SeatKnows, shared_views, core_views}
 use Rattle.word_rule.specs.Rule.{IsLive, share_of, table_core}
@@ -55,7 +55,7 @@ pub shows_opening : (key : RoundKey) → ShowsOpening key
 shows_opening key s h fresh =
     let d : Dictatorship = key.dict.value in
     let c : Core = table_core key s in
-    let sound : Sound d c = h.sound in
+    let sound : IsSound d c = h.sound in
     let drawn : c.claim_number ≡ 0 =
     h.undrawn (λ i x is.
     let e = fresh i x is in (ap (λ (v : View). v.own) e, ap (λ (v : View). v.done) e)) in

@@ -1,8 +1,8 @@
 // A round of 128 turns and 64 seats: twice all seats draw, and then post in falling order.
 
 ghost use Rattle.std.specs.Prelude.{◌≡◌, ◌≤◌, IfOk, true, false};
-ghost use Rattle.word_rule.specs.Rounds.{knows, dict_of, shares_of, AllOver};
-ghost use Rattle.commit_book.specs.Seats.{IsReady, AllReady};
+ghost use Rattle.word_rule.specs.Rounds.{knows, dict_of, shares_of, AreOver};
+ghost use Rattle.commit_book.specs.Seats.{IsWorking, AreWorking};
 
 use super::{commits, draws, ends, posts, reads};
 use market::{Dict, List};
@@ -33,9 +33,9 @@ fn draw_all(
     mut seats: Vec<WorkSeat>,
     first: u32,
 ) -> Result<Vec<WorkSeat>, AllocError>
-    requires ready { AllReady round.now seats.items }
+    requires ready { AreWorking round.now seats.items }
     requires first { first ≤ 64 }
-    ensures ready { IfOk result (λ drawn. AllReady round.now drawn.items) }
+    ensures ready { IfOk result (λ drawn. AreWorking round.now drawn.items) }
     ensures shares { IfOk result (λ drawn. shares_of drawn.items ≡ shares_of seats.items) }
 {
     let mut drawn = Vec::with_capacity(alloc, seats.len())?;
@@ -50,9 +50,9 @@ fn draw_all(
 // The seat reads its turn's list up to the first entry with a seat left, posts the turn there, and
 // commits what it then can.
 fn works(rt: &impl Abort, round: &SharedRound, dict: &Dict, me: &mut WorkSeat) -> Option<u32>
-    requires ready { IsReady round.now me.old }
+    requires ready { IsWorking round.now me.old }
     requires dict { dict.now ≡ dict_of round.now }
-    ensures ready { IsReady round.now me.new }
+    ensures ready { IsWorking round.now me.new }
     ensures share { (knows me.new).share ≡ (knows me.old).share }
 {
     for _entry in 0..3 {
@@ -73,9 +73,9 @@ fn post_all(
     dict: &Dict,
     mut drawn: Vec<WorkSeat>,
 ) -> Result<Vec<WorkSeat>, AllocError>
-    requires ready { AllReady round.now drawn.items }
+    requires ready { AreWorking round.now drawn.items }
     requires dict { dict.now ≡ dict_of round.now }
-    ensures ready { IfOk result (λ seats. AllReady round.now seats.items) }
+    ensures ready { IfOk result (λ seats. AreWorking round.now seats.items) }
     ensures shares { IfOk result (λ seats. shares_of seats.items ≡ shares_of drawn.items) }
 {
     let mut seats = Vec::with_capacity(alloc, drawn.len())?;
@@ -94,8 +94,8 @@ fn end_all(
     round: &SharedRound,
     mut seats: Vec<WorkSeat>,
 ) -> Result<Vec<WorkSeat>, AllocError>
-    requires ready { AllReady round.now seats.items }
-    ensures over { IfOk result (λ over. AllOver round.now over.items) }
+    requires ready { AreWorking round.now seats.items }
+    ensures over { IfOk result (λ over. AreOver round.now over.items) }
     ensures shares { IfOk result (λ over. shares_of over.items ≡ shares_of seats.items) }
 {
     let mut over = Vec::with_capacity(alloc, seats.len())?;

@@ -10,9 +10,10 @@ store-requires c =
     let next = next_post round me c.in-Some.claim c.requires.seat c.in-Some.is c.requires.may in
     let programmes = c.programmes.ensures.count ∙ ap (λ d. length d.quota) c.requires.dict in
     let words = round.words_are in
+    let word = c.cell_word-word.ensures in
     let turn = next.turn in (
       c.requires.seat.table,
       omega arith,
       post_allowed round.table.shared.key _ _ _ _ _ _ _ _ me.live me.narrow next.may
-          (omega arith) refl,
+          (omega arith) c.posted_at-cell.ensures,
     )

@@ -1,11 +1,11 @@
 use Rattle.std.proofs.Common.{◌≡◌, ◌+◌, vec_len}
-use Rattle.word_rule.specs.Rounds.{AllNew, AllOver, shares_of}
+use Rattle.word_rule.specs.Rounds.{AreNew, AreOver, shares_of}
 use Rattle.claim_words.proofs.tests.finished.Given as goal
 
 abbrev pub invariant-loop-me : goal.invariant-loop-me
 invariant-loop-me l = record {
-  new : AllNew l.round l.seats.items;
-  over : AllOver l.round l.over.items;
+  new : AreNew l.round l.seats.items;
+  over : AreOver l.round l.over.items;
   shares : shares_of l.over.items + shares_of l.seats.items ≡ shares_of l.fn.seats.items;
 }
 

@@ -1,12 +1,12 @@
 use Rattle.std.proofs.Common.{◌≡◌, ◌+◌, vec_len}
 use Rattle.word_rule.specs.Rounds.{shares_of}
-use Rattle.commit_book.specs.Seats.{AllReady}
+use Rattle.commit_book.specs.Seats.{AreWorking}
 use Rattle.commit_book.proofs.tests.falling_posts.post_all.Given as goal
 
 abbrev pub invariant-loop-me : goal.invariant-loop-me
 invariant-loop-me g l = record {
-  left : AllReady l.round l.drawn.items;
-  moved : AllReady l.round l.seats.items;
+  left : AreWorking l.round l.drawn.items;
+  moved : AreWorking l.round l.seats.items;
   shares : shares_of l.seats.items + shares_of l.drawn.items ≡ shares_of l.fn.drawn.items;
 }
 
