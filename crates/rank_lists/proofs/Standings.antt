@@ -4,7 +4,8 @@ use Rattle.std.proofs.Common.{◌≡◌, ℕ, zero, suc, ◌+◌, ◌/◌, ◌%�
 use Rattle.std.specs.Prelude.{slice_index, slice_index_or, IsPermutation}
 use Rattle.std.proofs.lemmas.Bool.{cond_both}
 use Rattle.std.proofs.lemmas.Bool.Decides.{nat_tests}
-use Rattle.rank_lists.specs.RankTables.{Standing, key_of, is_before, put_in, by_rank}
+use Rattle.rank_lists.specs.declared.keys.TheConstants.{INDEXES}
+use Rattle.rank_lists.specs.Table.{Standing, key_of, is_before, put_in, by_rank}
 use Rattle.rank_lists.proofs.Counts.{copies, one_if, copies-permutation, Rises, Rises-unique}
 
 -- a fact of each standing
@@ -20,13 +21,13 @@ Each-at P (s ∷ ss) h (suc k) d lt = Each-at P ss h.1 k d (omega arith)
 
 -- the candidates of standings are small enough to stand behind a rank
 abbrev pub AreSmall : List Standing → Type 0
-AreSmall = Each (λ s. s.candidate < 4294967296)
+AreSmall = Each (λ s. s.candidate < INDEXES)
 
-before-key : (s t : Standing) → s.candidate < 4294967296 → t.candidate < 4294967296
+before-key : (s t : Standing) → s.candidate < INDEXES → t.candidate < INDEXES
     → is_before s t ≡ true → key_of s ≤ key_of t
 before-key s t a b e = grind (arith, nat_tests)
 
-behind-key : (s t : Standing) → s.candidate < 4294967296 → t.candidate < 4294967296
+behind-key : (s t : Standing) → s.candidate < INDEXES → t.candidate < INDEXES
     → is_before s t ≡ false → key_of t ≤ key_of s
 behind-key s t a b e = grind (arith, nat_tests)
 
@@ -65,7 +66,7 @@ AtLeast-put_in x s (t ∷ ts) le h =
     (λ yes. (le, h))
     (λ no. (h.0, AtLeast-put_in x s ts le h.1))
 
-put_in-Climbs : (s : Standing) (ts : List Standing) → s.candidate < 4294967296 → AreSmall ts
+put_in-Climbs : (s : Standing) (ts : List Standing) → s.candidate < INDEXES → AreSmall ts
     → Climbs (map key_of ts) → Climbs (map key_of (put_in s ts))
 put_in-Climbs s [] a b h = (tt, tt)
 put_in-Climbs s (t ∷ ts) a b h =
@@ -88,7 +89,7 @@ module _ (P : Standing → Type 0) where
   by_rank-Each (s ∷ ss) h = put_in-Each s (by_rank ss) h.0 (by_rank-Each ss h.1)
 
 pub by_rank-AreSmall : (ss : List Standing) → AreSmall ss → AreSmall (by_rank ss)
-by_rank-AreSmall = by_rank-Each (λ s. s.candidate < 4294967296)
+by_rank-AreSmall = by_rank-Each (λ s. s.candidate < INDEXES)
 
 -- sorted, the keys climb
 by_rank-Climbs : (ss : List Standing) → AreSmall ss → Climbs (map key_of (by_rank ss))
@@ -126,20 +127,20 @@ sorted-keys ss sorted small p up =
 
 -- the candidates of the sorted keys
 pub keys-candidates : (ss : List Standing) → AreSmall ss
-    → map (λ key. key % 4294967296) (map key_of ss) ≡ map (λ s. s.candidate) ss
+    → map (λ key. key % INDEXES) (map key_of ss) ≡ map (λ s. s.candidate) ss
 keys-candidates [] h = refl
 keys-candidates (s ∷ ss) h =
-    let small : s.candidate < 4294967296 = h.0 in
-    let head : key_of s % 4294967296 ≡ s.candidate = omega arith in
+    let small : s.candidate < INDEXES = h.0 in
+    let head : key_of s % INDEXES ≡ s.candidate = omega arith in
     let rest = keys-candidates ss h.1 in
     cc
 
 -- the ranks of the sorted keys
 pub keys-ranks : (ss : List Standing) → AreSmall ss
-    → map (λ key. key / 4294967296) (map key_of ss) ≡ map (λ s. s.rank) ss
+    → map (λ key. key / INDEXES) (map key_of ss) ≡ map (λ s. s.rank) ss
 keys-ranks [] h = refl
 keys-ranks (s ∷ ss) h =
-    let small : s.candidate < 4294967296 = h.0 in
-    let head : key_of s / 4294967296 ≡ s.rank = omega arith in
+    let small : s.candidate < INDEXES = h.0 in
+    let head : key_of s / INDEXES ≡ s.rank = omega arith in
     let rest = keys-ranks ss h.1 in
     cc

@@ -7,11 +7,13 @@ use Rattle.std.proofs.lemmas.List.{get_or-map, length-map, same_lists, get_or_de
 use Rattle.std.proofs.lemmas.List.FromFn.{get_or-map-range_with_len, length-map-range_with_len}
 use Rattle.market.specs.Problems.{IsDistinct}
 use Rattle.record_files.specs.Rows.{Row}
+use Rattle.rank_lists.specs.declared.keys.TheConstants.{INDEXES}
+use Rattle.place_base.specs.declared.limits.TheConstants.{LARGEST_RANK}
 use Rattle.rank_lists.specs.Groups.{candidate_group, rank_group}
-use Rattle.rank_lists.specs.RankTables.{Standing, key_of, standings, in_type, by_rank, turns_of, ranks_of, RankTable, table_of, order_at, ranks_at}
+use Rattle.rank_lists.specs.Table.{Standing, key_of, standings, in_type, by_rank, turns_of, ranks_of, RankTable, table_of, order_at, ranks_at}
 use Rattle.rank_lists.specs.Repeats.{NoRepeat}
-use Rattle.rank_lists.specs.RowsRead.{row_at}
-use Rattle.rank_lists.specs.Soundness.{IsSound}
+use Rattle.rank_lists.specs.Rows.{row_at}
+use Rattle.rank_lists.specs.Table.{IsSound}
 use Rattle.rank_lists.specs.Turns.{AreTurns, AreAllTurns, known_keys}
 use Rattle.rank_lists.proofs.Counts.{copies, copies-twice}
 use Rattle.rank_lists.proofs.Ranking.{Comes-candidate, candidates-once, ranks-once, standings-Each}
@@ -19,7 +21,7 @@ use Rattle.rank_lists.proofs.RowGroups.{HasFields}
 use Rattle.rank_lists.proofs.Standings.{Each, Each-at, AreSmall, by_rank-Each, by_rank-AreSmall, by_rank-Rises, copies-by_rank, sorted-keys, keys-candidates, keys-ranks}
 
 module _ (names : List (List ℕ)) (numbers : List ℕ) (rows : List Row)
-    (few : length numbers ≤ 4294967296) where
+    (few : length numbers ≤ INDEXES) where
   abbrev all : List Standing
   all = standings names numbers rows
 
@@ -30,7 +32,7 @@ module _ (names : List (List ℕ)) (numbers : List ℕ) (rows : List Row)
   sorted_in kind = by_rank (in_type kind all)
 
   small : (kind : ℕ) → AreSmall (in_type kind all)
-  small kind = standings-Each names numbers (λ s. s.candidate < 4294967296) kind rows
+  small kind = standings-Each names numbers (λ s. s.candidate < INDEXES) kind rows
       (λ k s lt c. let below : s.candidate < length numbers =
       Comes-candidate names numbers (row_at rows k) s c in omega arith)
 
@@ -57,9 +59,9 @@ module _ (names : List (List ℕ)) (numbers : List ℕ) (rows : List Row)
       let sorted : t.sorted ≡ map key_of (sorted_in kind) =
       sorted-keys (in_type kind all) t.sorted (small kind) perm t.rises in
       let fits = by_rank-AreSmall (in_type kind all) (small kind) in (
-        t.order_is ∙ ap (map (λ key. key % 4294967296)) sorted
+        t.order_is ∙ ap (map (λ key. key % INDEXES)) sorted
             ∙ keys-candidates (sorted_in kind) fits,
-        t.ranks_are ∙ ap (map (λ key. key / 4294967296)) sorted ∙ keys-ranks (sorted_in kind) fits,
+        t.ranks_are ∙ ap (map (λ key. key / INDEXES)) sorted ∙ keys-ranks (sorted_in kind) fits,
       )
 
   -- the turns of all types are the table
@@ -95,7 +97,7 @@ module _ (names : List (List ℕ)) (numbers : List ℕ) (rows : List Row)
     record IsGood (s : Standing) : Type 0 where
       candidate : s.candidate < length numbers
       low : 1 ≤ s.rank
-      high : s.rank ≤ 99999999
+      high : s.rank ≤ LARGEST_RANK
 
     good : (kind : ℕ) → Each IsGood (sorted_in kind)
     good kind = by_rank-Each IsGood (in_type kind all)
