@@ -5,7 +5,7 @@ use Rattle.std.specs.Prelude.{slice_index, slice_index_or, IsPermutation}
 use Rattle.std.proofs.lemmas.Bool.{cases_lt}
 use Rattle.std.proofs.lemmas.List.{get_or-map, length-map, same_lists, get_or_default}
 use Rattle.std.proofs.lemmas.List.FromFn.{get_or-map-range_with_len, length-map-range_with_len}
-use Rattle.market.specs.Problems.{IsDistinct}
+use Rattle.market.specs.Problems.{HasNoRepeats}
 use Rattle.record_files.specs.Rows.{Row}
 use Rattle.rank_lists.specs.declared.keys.TheConstants.{INDEXES}
 use Rattle.place_base.specs.declared.limits.TheConstants.{LARGEST_RANK}
@@ -132,7 +132,7 @@ module _ (names : List (List ℕ)) (numbers : List ℕ) (rows : List Row)
         ≡ key_of (slice_index_or (sorted_in kind) k first)
     key-at kind k lt = get_or-map key_of (sorted_in kind) k first 0 lt
 
-    distinct : (kind : ℕ) → IsDistinct (turns_of all kind)
+    distinct : (kind : ℕ) → HasNoRepeats (turns_of all kind)
     distinct kind i j below lt same =
         let x = slice_index (turns_of all kind) j in
         let twice : 2 ≤ copies x (turns_of all kind) =
@@ -144,7 +144,7 @@ module _ (names : List (List ℕ)) (numbers : List ℕ) (rows : List Row)
         candidates-once names numbers kind x rows one_candidate in
         omega arith
 
-    distinct-ranks : (kind : ℕ) → IsDistinct (ranks_of all kind)
+    distinct-ranks : (kind : ℕ) → HasNoRepeats (ranks_of all kind)
     distinct-ranks kind i j below lt same =
         let x = slice_index (ranks_of all kind) j in
         let twice : 2 ≤ copies x (ranks_of all kind) =

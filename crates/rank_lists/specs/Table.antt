@@ -1,7 +1,7 @@
 -- The turn orders and ranks that the rows of a ranks file give.
 use Rattle.std.specs.Prelude.{◌≡◌, ◌<◌, ◌≤◌, ℕ, ◌+◌, ◌*◌, List, [], ◌∷◌, Bool, ◌&&◌, ◌||◌, ◌==◌, nat_lt, nat_le, nat_eq, bytes_eq, length, map, filter, position, slice_get, slice_index, slice_index_or, if◌then◌else◌, Option, Some, None}
 use Rattle.std.specs.List.{filter_map, range_with_len, position_or_len}
-use Rattle.market.specs.Problems.{IsDistinct}
+use Rattle.market.specs.Problems.{HasNoRepeats}
 use Rattle.place_base.specs.declared.limits.TheConstants.{LARGEST_RANK}
 use Rattle.record_files.specs.Rows.{Row, data_rows}
 use Rattle.rank_lists.specs.Rows.{candidate_in, type_in, rank_in}
@@ -107,7 +107,7 @@ pub record IsSound (table : RankTable) : Type 0 where
       → length (ranks_at table kind) ≡ length (order_at table kind)
   pub entries : (kind k : ℕ) → kind < length table.orders → k < length (order_at table kind)
       → slice_index (order_at table kind) k < table.candidates
-  pub distinct : (kind : ℕ) → kind < length table.orders → IsDistinct (order_at table kind)
+  pub distinct : (kind : ℕ) → kind < length table.orders → HasNoRepeats (order_at table kind)
   pub rise : (kind j k : ℕ) → kind < length table.orders → j < k → k < length (ranks_at table kind)
       → slice_index (ranks_at table kind) j < slice_index (ranks_at table kind) k
   pub limits : (kind k : ℕ) → kind < length table.orders → k < length (ranks_at table kind)
