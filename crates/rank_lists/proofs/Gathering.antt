@@ -14,10 +14,11 @@ use Rattle.place_base.specs.declared.limits.TheConstants.{LARGEST_NUMBER}
 use Rattle.rank_lists.specs.Growth.{row_key, is_kind, in_kind, given_in, with_rank, HasRows}
 use Rattle.rank_lists.specs.Groups.{candidate_group, rank_group}
 use Rattle.rank_lists.specs.Rows.{candidate_in, type_in, rank_in, row_at}
-use Rattle.rank_lists.specs.Table.{Standing, key_of, standing_of, standings, in_type}
+use Rattle.rank_lists.specs.Table.{Standing, standing_of, standings, in_type}
 use Rattle.rank_lists.specs.Turns.{known_key, known_keys}
 use Rattle.rank_lists.specs.declared.rows.RankRows.{RankRows}
 use Rattle.rank_lists.proofs.RowGroups.{HasFields}
+use Rattle.rank_lists.proofs.Standings.{key_of}
 
 pub append-nothing : {X : Type 0} (xs : List X) → xs ++ [] ≡ xs
 append-nothing [] = refl

@@ -171,6 +171,16 @@ module _ (names : List (List ℕ)) (numbers : List ℕ) (bytes : List ℕ) (tabl
       fields : (k : ℕ) → k < length body → HasFields (row_at body k)
       fields k lt = let all = s.1 in read-fields bytes g.count g.within g.header g.none k (omega arith)
 
+      once-candidate : NoRepeat (map candidate_group body) (length body)
+      once-candidate = subst (λ rows. NoRepeat (map candidate_group rows) (length rows)) whole
+          (subst (λ n. NoRepeat (map candidate_group (take g.count body)) n)
+          (length-map (take g.count body) candidate_group) one-candidate)
+
+      once-rank : NoRepeat (map rank_group body) (length body)
+      once-rank = subst (λ rows. NoRepeat (map rank_group rows) (length rows)) whole
+          (subst (λ n. NoRepeat (map rank_group (take g.count body)) n)
+          (length-map (take g.count body) rank_group) one-rank)
+
       module _ (few : length numbers ≤ INDEXES) where
         -- the sorted ranks are the table
         pub table-is : (orders ranks : List (List ℕ))
@@ -178,23 +188,15 @@ module _ (names : List (List ℕ)) (numbers : List ℕ) (bytes : List ℕ) (tabl
             → (orders ≡ (ranks_table names numbers bytes).orders)
             × (ranks ≡ (ranks_table names numbers bytes).ranks)
         table-is orders ranks t =
-            all-turns names numbers body few table.given.items orders ranks g.rows_are.types
+            all-turns names numbers body few fields once-candidate once-rank table.given.items
+            orders ranks g.rows_are.types
             (λ kind lt. ap (known_keys numbers)
             (g.rows_are.given kind lt ∙ ap (given_in names kind) whole)
             ∙ known-given names numbers kind body fields) t
 
         -- and it is sound
         pub table-sound : IsSound (ranks_table names numbers bytes)
-        table-sound =
-            let all = s.1 in
-            table-is-sound names numbers body few
-            (λ k lt. read-fields bytes g.count g.within g.header g.none k (omega arith))
-            (subst (λ rows. NoRepeat (map candidate_group rows) (length rows)) whole
-            (subst (λ n. NoRepeat (map candidate_group (take g.count body)) n)
-            (length-map (take g.count body) candidate_group) one-candidate))
-            (subst (λ rows. NoRepeat (map rank_group rows) (length rows)) whole
-            (subst (λ n. NoRepeat (map rank_group (take g.count body)) n)
-            (length-map (take g.count body) rank_group) one-rank))
+        table-sound = table-is-sound names numbers body few fields once-candidate once-rank
 
 -- what is known where the rows were read and their duplicates looked for
 module _ (names : List (List ℕ)) (numbers : List ℕ) (bytes : List ℕ) (table : RankRows)

@@ -1,11 +1,10 @@
 -- The turn orders and ranks that the rows of a ranks file give.
-use Rattle.std.specs.Prelude.{◌≡◌, ◌<◌, ◌≤◌, ℕ, ◌+◌, ◌*◌, List, [], ◌∷◌, Bool, ◌&&◌, ◌||◌, ◌==◌, nat_lt, nat_le, nat_eq, bytes_eq, length, map, filter, position, slice_get, slice_index, slice_index_or, if◌then◌else◌, Option, Some, None}
+use Rattle.std.specs.Prelude.{◌≡◌, ◌<◌, ◌≤◌, ℕ, List, [], ◌∷◌, ◌==◌, count_by, find, nat_lt, nat_eq, bytes_eq, length, map, filter, position, slice_get, slice_index, slice_index_or, Option, Some, None}
 use Rattle.std.specs.List.{filter_map, range_with_len, position_or_len}
 use Rattle.market.specs.Problems.{HasNoRepeats}
 use Rattle.place_base.specs.declared.limits.TheConstants.{LARGEST_RANK}
 use Rattle.record_files.specs.Rows.{Row, data_rows}
 use Rattle.rank_lists.specs.Rows.{candidate_in, type_in, rank_in}
-use Rattle.rank_lists.specs.declared.keys.TheConstants.{INDEXES}
 
 -- the rank of a candidate in a type, both as indexes
 pub record Standing : Type 0 where
@@ -31,27 +30,21 @@ standing_in names numbers row =
 abbrev pub standings : List (List ℕ) → List ℕ → List Row → List Standing
 standings names numbers rows = filter_map (standing_in names numbers) rows
 
--- a rank with its candidate behind it
-abbrev pub key_of : Standing → ℕ
-key_of s = s.rank * INDEXES + s.candidate
-
 -- those of one type
 abbrev pub in_type : ℕ → List Standing → List Standing
 in_type kind all = filter (λ s. s.kind == kind) all
 
--- a better rank; of equal ranks, which no file without a fault has in a type, the lesser index
-abbrev pub is_before : Standing → Standing → Bool
-is_before s t = nat_lt s.rank t.rank || ((s.rank == t.rank) && nat_le s.candidate t.candidate)
+-- how many of some standings have a better rank than one
+abbrev pub better_count : List Standing → Standing → ℕ
+better_count all s = count_by (λ other. nat_lt other.rank s.rank) all
 
--- a standing put into its place
-abbrev pub put_in : Standing → List Standing → List Standing
-put_in s [] = s ∷ []
-put_in s (t ∷ ts) = if is_before s t then s ∷ t ∷ ts else t ∷ put_in s ts
+-- the standing of a turn: the one that has so many better ones
+abbrev pub turn_in : List Standing → ℕ → Option Standing
+turn_in all turn = find (λ s. better_count all s == turn) all
 
--- the standings by rising rank
+-- the standings by rising rank: those of all turns, one after the other
 abbrev pub by_rank : List Standing → List Standing
-by_rank [] = []
-by_rank (s ∷ ss) = put_in s (by_rank ss)
+by_rank all = filter_map (turn_in all) (range_with_len 0 (length all))
 
 -- the turn order of each type, best rank first, with the ranks beside it, and how many candidates
 -- there are
