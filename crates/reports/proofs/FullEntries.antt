@@ -20,7 +20,7 @@ use Rattle.reports.specs.declared.reasons.Reason.TheVariants.{NoRank, Full}
 use Rattle.reports.proofs.EntryTests.{IsFullEntry, reason-placed, reason-below, reason-above}
 
 -- the place of an entry in a list without repeats
-place-at : (xs : List ℕ) → IsDistinct xs → (place : ℕ) → place < length xs
+pub place-at : (xs : List ℕ) → IsDistinct xs → (place : ℕ) → place < length xs
     → place_of (slice_index xs place) xs ≡ place
 place-at xs distinct place l =
     position_or_len_is (λ y. y == slice_index xs place) xs place 0 (omega arith)
@@ -56,7 +56,7 @@ full-entry m held i place base full =
     (cases_Bool (is_programme p (held_by held i)))
 
 -- a listed programme that is not held, below no held one, is preferred to what is held
-prefers : (list : List ℕ) (holds : Option ℕ) (place : ℕ) → IsDistinct list → place < length list
+pub prefers : (list : List ℕ) (holds : Option ℕ) (place : ℕ) → IsDistinct list → place < length list
     → ((q : ℕ) → holds ≡ Some q → place_of q list < length list)
     → is_programme (slice_index list place) holds ≡ false
     → stands_before list holds place ≡ false → Prefers list (slice_index list place) holds

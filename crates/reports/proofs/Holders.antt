@@ -13,7 +13,7 @@ use Rattle.market.proofs.Turns.{is_programme-from}
 use Rattle.reports.specs.BaseTables.{BaseTable, base_of, held_of}
 
 -- of two ranks the worse is the greater number
-worse_of-max : (a b : ℕ) → worse_of (Some a) (Some b) ≡ Some (max a b)
+pub worse_of-max : (a b : ℕ) → worse_of (Some a) (Some b) ≡ Some (max a b)
 worse_of-max a b =
     ⊎_elim
     (λ less.
@@ -76,14 +76,14 @@ HasCounted-none m held table b h =
     }
 
 -- a candidate who does not hold p leaves its base rank and its number of holders as they were
-base-skip : (m : Problem) (held : List (Option ℕ)) (p n : ℕ)
+pub base-skip : (m : Problem) (held : List (Option ℕ)) (p n : ℕ)
     → is_programme p (held_by held n) ≡ false → base_upto m held p (n + 1) ≡ base_upto m held p n
 base-skip m held p n e =
     ap (λ (xs : List ℕ). worst_of (map (rank_of m (kind_of m p)) xs))
     (sym (dropped_more (λ i. is_programme p (held_by held i)) n (holders_upto held p n) refl e))
 
 -- a holder of p makes its base rank the worse of it and the holder's rank
-base-more : (m : Problem) (held : List (Option ℕ)) (p n : ℕ)
+pub base-more : (m : Problem) (held : List (Option ℕ)) (p n : ℕ)
     → is_programme p (held_by held n) ≡ true
     → base_upto m held p (n + 1) ≡ worse_of (base_upto m held p n) (rank_of m (kind_of m p) n)
 base-more m held p n e =

@@ -2,6 +2,8 @@
 pub mod Programmes
 -- base ranks of the first candidates
 pub mod Holders
+-- the base rank among the ranks of the holders
+pub mod WorstHolders
 -- which reason an entry has
 pub mod EntryTests
 -- full entries of a stable placement
