@@ -1,0 +1,31 @@
+-- Why a list entry is held or not.
+use Rattle.std.specs.Prelude.{ℕ, Bool, false, List, if◌then◌else◌, take, ◌==◌, Option, Some, None, slice_index}
+use Rattle.std.specs.List.{list_any}
+use Rattle.market.specs.Counting.{is_programme}
+use Rattle.market.specs.Problems.{Problem, admits, list_of}
+use Rattle.market.specs.Stability.{held_by, base_rank}
+use Rattle.reports.specs.declared.reasons.Reason.{Reason}
+use Rattle.reports.specs.declared.reasons.Reason.TheVariants.{Placed, Below, NoRank, Full}
+
+-- whether what is held stands before this place of the list
+abbrev pub stands_before : List ℕ → Option ℕ → ℕ → Bool
+stands_before list None place = false
+stands_before list (Some p) place = list_any (λ q. q == p) (take place list)
+
+-- the reason of programme p at a place of a candidate's list: it is held; else a programme before it
+-- is held; else the candidate has no rank in its type; else it is full, with this base rank
+abbrev pub reason_by : Problem → ℕ → Option ℕ → ℕ → ℕ → Option ℕ → Reason
+reason_by m i held place p base =
+    if is_programme p held then Placed
+    else (if stands_before (list_of m i) held place then Below
+    else (if admits m p i then Full base else NoRank))
+
+-- the programme at a place of a candidate's list
+abbrev pub entry_at : Problem → ℕ → ℕ → ℕ
+entry_at m i place = slice_index (list_of m i) place
+
+-- the reason of a list entry in a placement
+unfoldable pub reason_of : Problem → List (Option ℕ) → ℕ → ℕ → Reason
+reason_of m held i place =
+    reason_by m i (held_by held i) place (entry_at m i place)
+    (base_rank m held (entry_at m i place))

@@ -1,0 +1,14 @@
+// Why a list entry is held or not.
+
+/// Why a candidate holds a list entry, or does not.
+#[derive(Clone, Copy, Debug, PartialEq, Eq)]
+pub enum Reason {
+    /// The entry is held.
+    Placed,
+    /// A programme before it in the list is held.
+    Below,
+    /// Neither, and the candidate has no rank in its score type.
+    NoRank,
+    /// None of these: its seats went to others. The base rank, or none where nobody holds it.
+    Full(Option<u32>),
+}

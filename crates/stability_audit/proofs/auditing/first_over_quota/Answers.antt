@@ -1,0 +1,41 @@
+use Rattle.std.proofs.Common.{◌≡◌, ℕ, ◌<◌, length, ap, ◌∙◌, subst, arith, ⊎_elim}
+use Rattle.std.proofs.lemmas.Bool.{cases_lt}
+use Rattle.market.specs.Problems.{quota_of}
+use Rattle.market.specs.declared.programme.Prog.{Prog}
+use Rattle.market.proofs.Tallies.{count_none}
+use Rattle.stability_audit.specs.Verdicts.{IsOverQuota}
+use Rattle.stability_audit.proofs.auditing.first_over_quota.Goals as goal
+
+pub returns-then-quota-held : goal.returns-then-quota-held
+unfolding quota_of
+returns-then-quota-held c =
+    let p = c.loop-programme.programme in
+    let quota = ap (λ (q : Prog). q.quota) c.programme-quota.ensures in
+    let held = c.held.ensures ∙ c.requires.bases.holders p (subst (λ (n : ℕ). p < n) c.programme_count-programme-end.ensures c.loop-programme-test.true) in
+    record { over = omega arith; first = c.loop-programme.invariant }
+
+pub loop-programme-preserved : goal.loop-programme-preserved
+unfolding quota_of
+loop-programme-preserved c q l over =
+    let p = c.loop-programme.programme in
+    let quota = ap (λ (q : Prog). q.quota) c.programme-quota.ensures in
+    let held = c.held.ensures ∙ c.requires.bases.holders p (subst (λ (n : ℕ). p < n) c.programme_count-programme-end.ensures c.loop-programme-test.true) in
+    ⊎_elim
+    (λ less. c.loop-programme.invariant q less over)
+    (λ past.
+    let same : q ≡ p = omega arith in
+    let here = subst (λ (x : ℕ). IsOverQuota c.args.market.now c.args.placement.now x) same over in
+    absurd (omega arith))
+    (cases_lt q p)
+
+pub returns : goal.returns
+returns c q over =
+    let m = c.args.market.now in
+    let held = c.args.placement.now in
+    ⊎_elim
+    (λ less. c.loop-programme.invariant q (omega arith) over)
+    (λ past.
+    let none = count_none q held (λ i holds.
+    let is = c.requires.programmes i q holds in absurd (omega arith)) in
+    absurd (omega arith))
+    (cases_lt q (length m.programmes))
