@@ -3,8 +3,6 @@ pub mod Firsts
 pub mod Counts
 -- a valid problem
 pub mod Valid
--- base ranks
-pub mod BaseRanks
 -- one dictatorship
 pub mod Turns
 pub mod Seats

@@ -3,6 +3,8 @@
 pub mod Problems
 -- placements, preference, blocking pairs, stable placements
 pub mod Stability
+-- base ranks: the worst rank among a programme's holders
+pub mod BaseRanks
 -- one placement compared with another, candidate by candidate
 pub mod Comparisons
 -- one serial dictatorship

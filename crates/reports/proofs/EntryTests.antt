@@ -3,7 +3,8 @@ use Rattle.std.proofs.Common.{◌≡◌, ℕ, Bool, true, false, List, Option, a
 use Rattle.std.specs.Prelude.{if◌then◌else◌}
 use Rattle.market.specs.Counting.{is_programme}
 use Rattle.market.specs.Problems.{Problem, admits, list_of}
-use Rattle.market.specs.Stability.{held_by, base_rank}
+use Rattle.market.specs.BaseRanks.{base_rank}
+use Rattle.market.specs.Stability.{held_by}
 use Rattle.reports.specs.Reasons.{entry_at, reason_of, stands_before}
 use Rattle.reports.specs.declared.reasons.Reason.{Reason}
 use Rattle.reports.specs.declared.reasons.Reason.TheVariants.{Placed, Below, NoRank, Full}

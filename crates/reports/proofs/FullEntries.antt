@@ -9,8 +9,9 @@ use Rattle.std.proofs.lemmas.List.{get_or-take, length-take-le}
 use Rattle.std.proofs.lemmas.List.Folds.{list_any_at}
 use Rattle.std.proofs.lemmas.List.Sums.{position_or_len_is}
 use Rattle.market.specs.Counting.{is_programme, count_of}
-use Rattle.market.specs.Problems.{Problem, IsValid, IsAcceptable, IsDistinct, admits, kind_of, list_of, order_of, place_of, quota_of, rank_of, turn_of}
-use Rattle.market.specs.Stability.{IsBetter, IsBlocking, IsStable, Prefers, held_by, base_rank}
+use Rattle.market.specs.Problems.{Problem, IsValid, IsAcceptable, HasNoRepeats, admits, kind_of, list_of, order_of, place_of, quota_of, rank_of, turn_of}
+use Rattle.market.specs.BaseRanks.{base_rank}
+use Rattle.market.specs.Stability.{IsBetter, IsBlocking, IsStable, Prefers, held_by}
 use Rattle.market.proofs.Firsts.{place_get, place_same}
 use Rattle.market.proofs.Turns.{is_programme-from}
 use Rattle.market.proofs.Valid.{candidate_lt, listed_kind, admitted-turn, turn-better}
@@ -20,7 +21,7 @@ use Rattle.reports.specs.declared.reasons.Reason.TheVariants.{NoRank, Full}
 use Rattle.reports.proofs.EntryTests.{IsFullEntry, reason-placed, reason-below, reason-above}
 
 -- the place of an entry in a list without repeats
-pub place-at : (xs : List ℕ) → IsDistinct xs → (place : ℕ) → place < length xs
+pub place-at : (xs : List ℕ) → HasNoRepeats xs → (place : ℕ) → place < length xs
     → place_of (slice_index xs place) xs ≡ place
 place-at xs distinct place l =
     position_or_len_is (λ y. y == slice_index xs place) xs place 0 (omega arith)
@@ -56,7 +57,7 @@ full-entry m held i place base full =
     (cases_Bool (is_programme p (held_by held i)))
 
 -- a listed programme that is not held, below no held one, is preferred to what is held
-pub prefers : (list : List ℕ) (holds : Option ℕ) (place : ℕ) → IsDistinct list → place < length list
+pub prefers : (list : List ℕ) (holds : Option ℕ) (place : ℕ) → HasNoRepeats list → place < length list
     → ((q : ℕ) → holds ≡ Some q → place_of q list < length list)
     → is_programme (slice_index list place) holds ≡ false
     → stands_before list holds place ≡ false → Prefers list (slice_index list place) holds

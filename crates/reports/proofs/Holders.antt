@@ -7,7 +7,8 @@ use Rattle.std.proofs.lemmas.List.{map-append, length-set, get_or-set_same, get_
 use Rattle.std.proofs.lemmas.List.Sums.{count_by_more_no, count_by_more_yes}
 use Rattle.market.specs.Counting.{is_programme, count_of}
 use Rattle.market.specs.Problems.{Problem, kind_of, rank_of}
-use Rattle.market.specs.Stability.{held_by, worse_of, worst_of}
+use Rattle.market.specs.BaseRanks.{worse_of, worst_of}
+use Rattle.market.specs.Stability.{held_by}
 use Rattle.market.proofs.Members.{kept_more, dropped_more}
 use Rattle.market.proofs.Turns.{is_programme-from}
 use Rattle.reports.specs.BaseTables.{BaseTable, base_of, held_of}

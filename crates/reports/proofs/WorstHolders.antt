@@ -6,7 +6,8 @@ use Rattle.std.proofs.lemmas.List.{get_or_past}
 use Rattle.std.proofs.lemmas.Option.{none-some}
 use Rattle.market.specs.Counting.{is_programme}
 use Rattle.market.specs.Problems.{Problem, kind_of, rank_of}
-use Rattle.market.specs.Stability.{held_by, base_rank, worse_of}
+use Rattle.market.specs.BaseRanks.{base_rank, worse_of}
+use Rattle.market.specs.Stability.{held_by}
 use Rattle.market.proofs.Turns.{is_programme-from, is_programme-true}
 use Rattle.reports.proofs.Holders.{base_upto, base-skip, base-more, worse_of-max}
 

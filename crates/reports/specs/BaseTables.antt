@@ -2,7 +2,8 @@
 use Rattle.std.specs.Prelude.{◌≡◌, ℕ, ◌<◌, List, length, Option, Some, None, slice_index, slice_index_or}
 use Rattle.market.specs.Counting.{count_of}
 use Rattle.market.specs.Problems.{Problem}
-use Rattle.market.specs.Stability.{held_by, base_rank}
+use Rattle.market.specs.BaseRanks.{base_rank}
+use Rattle.market.specs.Stability.{held_by}
 
 -- for each programme its base rank or none, and its number of holders
 pub record BaseTable : Type 0 where

@@ -3,7 +3,8 @@ use Rattle.std.specs.Prelude.{ℕ, Bool, false, List, if◌then◌else◌, take,
 use Rattle.std.specs.List.{list_any}
 use Rattle.market.specs.Counting.{is_programme}
 use Rattle.market.specs.Problems.{Problem, admits, list_of}
-use Rattle.market.specs.Stability.{held_by, base_rank}
+use Rattle.market.specs.BaseRanks.{base_rank}
+use Rattle.market.specs.Stability.{held_by}
 use Rattle.reports.specs.declared.reasons.Reason.{Reason}
 use Rattle.reports.specs.declared.reasons.Reason.TheVariants.{Placed, Below, NoRank, Full}
 

@@ -1,7 +1,7 @@
 // For each programme its base rank and its number of holders.
 
 ghost use Rattle.std.specs.Prelude.{◌≡◌, ◌+◌, ◌<◌, ◌^◌, length, slice_set, IfOk};
-ghost use Rattle.market.specs.Stability.{worse_of};
+ghost use Rattle.market.specs.BaseRanks.{worse_of};
 ghost use Rattle.reports.specs.BaseTables.{HoldsProgrammes, IsBaseTable, base_of, held_of};
 
 use market::{Market, Placement};

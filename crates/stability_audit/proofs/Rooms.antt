@@ -4,7 +4,8 @@ use Rattle.std.specs.Prelude.{is_some}
 use Rattle.std.proofs.lemmas.Option.{none-some}
 use Rattle.std.proofs.lemmas.Bool.{false≢true}
 use Rattle.market.specs.Problems.{Problem, admits, kind_of, rank_of}
-use Rattle.market.specs.Stability.{HasWorseHolder, IsBetter, base_rank}
+use Rattle.market.specs.BaseRanks.{base_rank}
+use Rattle.market.specs.Stability.{HasWorseHolder, IsBetter}
 use Rattle.reports.proofs.WorstHolders.{base_rank-holder, base_rank-most}
 
 -- a rank, and it is worse than this one

@@ -4,7 +4,8 @@ use Rattle.std.proofs.lemmas.List.Sums.{count_by-le-length}
 use Rattle.std.proofs.Math.Seq.{take-length}
 use Rattle.market.specs.Counting.{is_programme, count_of}
 use Rattle.market.specs.Problems.{rank_of}
-use Rattle.market.specs.Stability.{held_by, base_rank, worse_of}
+use Rattle.market.specs.BaseRanks.{base_rank, worse_of}
+use Rattle.market.specs.Stability.{held_by}
 use Rattle.reports.specs.BaseTables.{BaseTable, base_of}
 use Rattle.reports.proofs.Holders.{HasCounted, HasCounted-none, HasCounted-skip, HasCounted-more}
 use Rattle.reports.proofs.Programmes.{read-kind}

@@ -9,7 +9,7 @@ rank-requires-clause-kind c =
     let m = c.args.market.now in
     let valid = c.candidate_count.ensures.valid in
     let p = entry_at m c.args.candidate c.args.place in
-    let entry = ap (λ (xs : List ℕ). get_or xs c.args.place 0) c.list-list.ensures in
+    let entry = ap (λ (xs : List ℕ). get_or xs c.args.place 0) c.list-list.ensures.list in
     let read = c.programme-kind.ensures ∙ ap (λ (q : ℕ). programme_at m q) entry in
     subst (λ (t : ℕ). t < m.types) (sym (read-kind m p c.programme-kind.result read))
     (valid.kinds p
@@ -19,7 +19,7 @@ pub returns-clause-rank : goal.returns-clause-rank
 returns-clause-rank c =
     let m = c.args.market.now in
     let p = entry_at m c.args.candidate c.args.place in
-    let entry = ap (λ (xs : List ℕ). get_or xs c.args.place 0) c.list-list.ensures in
+    let entry = ap (λ (xs : List ℕ). get_or xs c.args.place 0) c.list-list.ensures.list in
     let read = c.programme-kind.ensures ∙ ap (λ (q : ℕ). programme_at m q) entry in
     c.rank.ensures
     ∙ ap (λ (t : ℕ). rank_of m t c.args.candidate) (read-kind m p c.programme-kind.result read)

@@ -2,7 +2,8 @@ use Rattle.std.proofs.Common.{◌≡◌, ℕ, List, Option, Bool, true, false, s
 use Rattle.std.specs.Prelude.{is_some, if◌then◌else◌}
 use Rattle.market.specs.Counting.{is_programme}
 use Rattle.market.specs.Problems.{admits, list_of}
-use Rattle.market.specs.Stability.{held_by, base_rank}
+use Rattle.market.specs.BaseRanks.{base_rank}
+use Rattle.market.specs.Stability.{held_by}
 use Rattle.reports.specs.BaseTables.{base_of}
 use Rattle.reports.specs.Reasons.{entry_at, stands_before}
 use Rattle.reports.specs.declared.reasons.Reason.TheVariants.{Full, NoRank}
@@ -38,7 +39,7 @@ returns-in-Some c =
     c.args.place ≡ false = cc in
     let ranked : admits m p c.args.candidate ≡ true
     = ap (λ (o : Option ℕ). is_some o) (sym c.entry_rank.ensures.rank ∙ c.in-Some.is) in
-    let base = c.base.ensures ∙ ap (λ (xs : List ℕ). base_of c.args.bases.now (get_or xs c.args.place 0)) c.list-list.ensures
+    let base = c.base.ensures ∙ ap (λ (xs : List ℕ). base_of c.args.bases.now (get_or xs c.args.place 0)) c.list-list.ensures.list
     ∙ c.requires.bases.bases p c.entry_rank.ensures.programme in
     sym (reason-above m held c.args.candidate c.args.place is_held is_before
     ∙ ap (λ (b : Bool). if b then Full (base_rank m held p) else NoRank) ranked

@@ -16,7 +16,7 @@ returns-then-is_held c =
     let held = c.args.placement.now in
     let i = c.args.candidate in
     let k = c.loop-programme.programme-index in
-    let size = ap (λ (xs : List ℕ). length xs) c.list-programme-items.ensures in
+    let size = ap (λ (xs : List ℕ). length xs) c.list-programme-items.ensures.list in
     let is : is_programme (get_or (list_of m i) k 0) (held_by held i) ≡ true = cc in
     held-ends m c.candidate_count.ensures.valid held i k (omega arith) c.loop-programme.invariant is
 
@@ -24,8 +24,8 @@ pub would_take-requires-clause-programme : goal.would_take-requires-clause-progr
 would_take-requires-clause-programme c =
     let m = c.args.market.now in
     let k = c.loop-programme.programme-index in
-    let size = ap (λ (xs : List ℕ). length xs) c.list-programme-items.ensures in
-    let entry = ap (λ (xs : List ℕ). get_or xs k 0) c.list-programme-items.ensures in
+    let size = ap (λ (xs : List ℕ). length xs) c.list-programme-items.ensures.list in
+    let entry = ap (λ (xs : List ℕ). get_or xs k 0) c.list-programme-items.ensures.list in
     subst (λ (p : ℕ). p < length m.programmes) (sym entry)
     (c.candidate_count.ensures.valid.list_entries c.args.candidate k c.requires.candidate
     (omega arith))
@@ -36,8 +36,8 @@ returns-then-would_take c =
     let held = c.args.placement.now in
     let i = c.args.candidate in
     let k = c.loop-programme.programme-index in
-    let size = ap (λ (xs : List ℕ). length xs) c.list-programme-items.ensures in
-    let entry = ap (λ (xs : List ℕ). get_or xs k 0) c.list-programme-items.ensures in
+    let size = ap (λ (xs : List ℕ). length xs) c.list-programme-items.ensures.list in
+    let entry = ap (λ (xs : List ℕ). get_or xs k 0) c.list-programme-items.ensures.list in
     let other : is_programme (get_or (list_of m i) k 0) (held_by held i) ≡ false = cc in
     let takes = subst (λ (p : ℕ). WouldTake m held i p) entry
     (c.would_take.ensures.0 c.if-would_take.true) in
@@ -51,8 +51,8 @@ loop-programme-preserved c =
     let held = c.args.placement.now in
     let i = c.args.candidate in
     let k = c.loop-programme.programme-index in
-    let size = ap (λ (xs : List ℕ). length xs) c.list-programme-items.ensures in
-    let entry = ap (λ (xs : List ℕ). get_or xs k 0) c.list-programme-items.ensures in
+    let size = ap (λ (xs : List ℕ). length xs) c.list-programme-items.ensures.list in
+    let entry = ap (λ (xs : List ℕ). get_or xs k 0) c.list-programme-items.ensures.list in
     let other : is_programme (get_or (list_of m i) k 0) (held_by held i) ≡ false = cc in
     HasPassed-more m held i k (omega arith) c.loop-programme.invariant other
     (λ takes. false≢true (sym c.if-would_take.false ∙ c.would_take.ensures.1
@@ -61,6 +61,6 @@ loop-programme-preserved c =
 pub returns : goal.returns
 returns c =
     let m = c.args.market.now in
-    let size = ap (λ (xs : List ℕ). length xs) c.list-programme-items.ensures in
+    let size = ap (λ (xs : List ℕ). length xs) c.list-programme-items.ensures.list in
     HasPassed-all m c.args.placement.now c.args.candidate c.loop-programme.programme-index
     (omega arith) c.loop-programme.invariant

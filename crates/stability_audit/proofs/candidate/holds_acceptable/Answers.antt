@@ -14,7 +14,7 @@ returns-then-not-contains c =
     let p = c.in-Some.programme in
     let holds = sym c.holds.ensures ∙ c.in-Some.is in
     let found = c.contains.ensures.value
-    ∙ ap (λ (xs : List ℕ). list_any (λ q. q == p) xs) c.list.ensures in (
+    ∙ ap (λ (xs : List ℕ). list_any (λ q. q == p) xs) c.list.ensures.list in (
       λ none. absurd (false≢true none),
       λ all.
           absurd (false≢true (sym c.if-not-contains.true ∙ found
@@ -38,7 +38,7 @@ returns c =
     let p = c.in-Some.programme in
     let holds = sym c.holds.ensures ∙ c.in-Some.is in
     let found = sym (c.contains.ensures.value
-    ∙ ap (λ (xs : List ℕ). list_any (λ q. q == p) xs) c.list.ensures)
+    ∙ ap (λ (xs : List ℕ). list_any (λ q. q == p) xs) c.list.ensures.list)
     ∙ c.if-not-contains.false in
     let kind = read-kind m p c.programme-kind.result c.programme-kind.ensures in
     let test : c.is_some.result ≡ admits m p i = c.is_some.ensures

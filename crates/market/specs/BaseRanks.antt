@@ -1,6 +1,5 @@
--- The base rank of a programme. No contract cites it yet; the one that does takes it to specs/.
-use Rattle.std.proofs.Common.{ℕ, List, [], ◌∷◌, length, map, Option, Some, None}
-use Rattle.std.specs.Prelude.{if◌then◌else◌, nat_lt, filter}
+-- The base rank of a programme: the worst rank among its holders.
+use Rattle.std.specs.Prelude.{ℕ, if◌then◌else◌, nat_lt, List, [], ◌∷◌, length, map, filter, Option, Some, None}
 use Rattle.std.specs.List.{range_with_len}
 use Rattle.market.specs.Counting.{is_programme}
 use Rattle.market.specs.Problems.{Problem, kind_of, rank_of}
