@@ -9,6 +9,8 @@ mod reasons;
 mod explaining;
 // What a full entry says, as a law over the mechanism's placement.
 mod law;
+#[cfg(test)]
+mod tests;
 
 pub use bases::{BaseRanks, base_ranks};
 pub use explaining::reason;

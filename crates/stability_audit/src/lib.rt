@@ -7,6 +7,8 @@ mod verdict;
 mod auditing;
 // Whether one candidate holds what is acceptable, and blocks with an entry of the list.
 mod candidate;
+#[cfg(test)]
+mod tests;
 
 pub use auditing::audit;
 pub use verdict::Verdict;
