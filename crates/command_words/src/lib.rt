@@ -2,9 +2,8 @@
 #![tactic(auto)]
 
 // The table of commands, and the reading of a list of words against it.
-mod words;
-
-pub use words::{Command, WordsFault, read_words};
-
 #[cfg(test)]
 mod tests;
+mod words;
+
+pub use words::{Command, MOST_WORKERS, WORKERS, WordsFault, read_words};

@@ -13,7 +13,7 @@ fn words(alloc: Global, texts: &[&str]) -> Result<Vec<String>, AllocError> {
 
 #[test]
 fn a_command_is_its_word_and_as_many_words_as_it_wants(rt: HostRuntime) -> Result<(), Fail> {
-    let rows: [(&[&str], Result<Command, WordsFault>); 12] = [
+    let rows: [(&[&str], Result<Command, WordsFault>); 23] = [
         (&["place", "P", "C", "R"], Ok(Command::Place(4))),
         // Any word is a name where a name stands.
         (&["place", "-P", "", "--workers"], Ok(Command::Place(4))),
@@ -36,7 +36,51 @@ fn a_command_is_its_word_and_as_many_words_as_it_wants(rt: HostRuntime) -> Resul
             Err(WordsFault::WordCount(5)),
         ),
         (
-            &["place", "P", "C", "R", "--workers", "2"],
+            &["place", "P", "C", "R", "--workers=2"],
+            Err(WordsFault::WordCount(5)),
+        ),
+        (
+            &["place", "P", "C", "R", "--workers"],
+            Err(WordsFault::WordCount(6)),
+        ),
+        (
+            &["place", "P", "C", "R", "--workers", "2", "x"],
+            Err(WordsFault::WordCount(7)),
+        ),
+        (
+            &["place", "P", "C", "R", "--workers", "1"],
+            Ok(Command::Place(1)),
+        ),
+        (
+            &["place", "P", "C", "R", "--workers", "064"],
+            Ok(Command::Place(64)),
+        ),
+        (
+            &["place", "P", "C", "R", "--workers", "0"],
+            Err(WordsFault::BadNumber(6)),
+        ),
+        (
+            &["place", "P", "C", "R", "--workers", "65"],
+            Err(WordsFault::BadNumber(6)),
+        ),
+        (
+            &["place", "P", "C", "R", "--workers", ""],
+            Err(WordsFault::BadNumber(6)),
+        ),
+        (
+            &["place", "P", "C", "R", "--workers", "+2"],
+            Err(WordsFault::BadNumber(6)),
+        ),
+        (
+            &["place", "P", "C", "R", "--workers", "18446744073709551618"],
+            Err(WordsFault::BadNumber(6)),
+        ),
+        (
+            &["place", "--workers", "2", "P", "C", "R"],
+            Err(WordsFault::WordCount(5)),
+        ),
+        (
+            &["place", "P", "C", "--workers", "2"],
             Err(WordsFault::WordCount(5)),
         ),
     ];
