@@ -16,6 +16,7 @@ pub record IsRestAt (order rest : List ℕ) (from k : ℕ) : Type 0 where
   pub inside : from + k < length order
   pub same : slice_index rest k ≡ slice_index order (from + k)
 
+-- an entry of the rest of an order
 pub rest_at : (order part : List ℕ) (from k : ℕ) → part ≡ order
     → k < length (take (length part - from) (drop from part))
     → IsRestAt order (take (length part - from) (drop from part)) from k

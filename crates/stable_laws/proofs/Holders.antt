@@ -1,8 +1,8 @@
 -- Who holds a programme in the placement of a round, and which turn took it.
 --
 -- What a candidate holds is the best of the tentative programmes, and the turn that took it is the
--- candidate's. Different holders have different turns, so a programme has at most as many holders as
--- seats were taken. Where nobody has several, each seat taken has its holder.
+-- candidate's. Different holders have different turns, so a programme has at most as many holders
+-- as seats were taken. Where nobody has several, each seat taken has its holder.
 use Rattle.std.proofs.Common.{◌≡◌, ℕ, ◌+◌, ◌<◌, ◌≤◌, true, List, length, Some, None, sym, ap, ◌∙◌, arith, map, ⊎_elim}
 use Rattle.std.specs.Prelude.{slice_index}
 use Rattle.std.specs.List.{range_with_len}
@@ -39,6 +39,7 @@ best_programme-past m cuts i l =
     let e = length-map-range_with_len (best_programme m cuts) 0 (length m.lists) in
     get_or_past (map (best_programme m cuts) (range_with_len 0 (length m.lists))) i None (omega arith)
 
+-- an entry for each candidate
 length-placed : (m : Problem) (cuts : List ℕ) → length (best_programmes m cuts) ≡ length m.lists
 unfolding best_programmes
 length-placed m cuts = length-map-range_with_len (best_programme m cuts) 0 (length m.lists)

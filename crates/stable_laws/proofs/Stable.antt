@@ -1,10 +1,10 @@
 -- The placement of the mechanism is stable.
 --
--- Let a programme be acceptable to a candidate and preferred to what the candidate holds. It was full at
--- the candidate's turn in the last round: else the turn would have taken it or one listed before it,
--- since it stands within the cut (a candidate who was cut holds a programme, and the cut lies behind
--- that one). The seats taken before the turn are held by candidates with earlier turns, so the programme
--- has neither a free seat nor a holder of worse rank.
+-- Let a programme be acceptable to a candidate and preferred to what the candidate holds. It was
+-- full at the candidate's turn in the last round: else the turn would have taken it or one listed
+-- before it, since it stands within the cut (a candidate who was cut holds a programme, and the cut
+-- lies behind that one). The seats taken before the turn are held by candidates with earlier turns,
+-- so the programme has neither a free seat nor a holder of worse rank.
 use Rattle.std.proofs.Common.{◌≡◌, ℕ, ◌<◌, ◌≤◌, true, List, length, Option, Some, None, refl, sym, ◌∙◌, subst, arith, ⊎_elim}
 use Rattle.std.specs.Prelude.{slice_index}
 use Rattle.std.proofs.lemmas.Bool.{cases_lt}
@@ -105,6 +105,7 @@ module _ (m : Problem) (v : IsValid m) (cuts : List ℕ) (cut : CutTakes m cuts)
   settled-stable settled =
       record { placement = is_placement m v cuts; unblocked = unblocked settled }
 
+-- the mechanism's placement is stable
 pub stable : (m : Problem) → IsValid m → IsStable m (mechanism_placement m)
 unfolding mechanism_placement
 stable m v =

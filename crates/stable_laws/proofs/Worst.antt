@@ -1,13 +1,13 @@
--- In every stable placement, of the same market or of one with more seats, each candidate holds what
--- the mechanism gives or a programme listed higher.
+-- In every stable placement, of the same market or of one with more seats, each candidate holds
+-- what the mechanism gives or a programme listed higher.
 --
--- No turn of any round takes a programme that its candidate prefers to what the candidate holds in the
--- other placement. By induction on rounds, and on turns within a round. So far no cut has removed what
--- the other placement gives, since each cut lies behind a tentative programme. Let a turn be the first to
--- take a programme p that its candidate prefers. As the pair does not block the other placement, all
--- seats of p are held there by candidates of better rank, whose turns come before. One of these did not
--- take p, although it had a seat left and stood in the list: so it took one that it prefers to p, at an
--- earlier turn.
+-- No turn of any round takes a programme that its candidate prefers to what the candidate holds in
+-- the other placement. By induction on rounds, and on turns within a round. So far no cut has
+-- removed what the other placement gives, since each cut lies behind a tentative programme. Let a
+-- turn be the first to take a programme p that its candidate prefers. As the pair does not block
+-- the other placement, all seats of p are held there by candidates of better rank, whose turns come
+-- before. One of these did not take p, although it had a seat left and stood in the list: so it
+-- took one that it prefers to p, at an earlier turn.
 use Rattle.std.proofs.Common.{◌≡◌, ℕ, zero, suc, ◌<◌, ◌≤◌, Bool, cond, List, length, Option, Some, None, refl, sym, ap, ◌∙◌, subst, arith, ⊎_elim, inl, inr}
 use Rattle.std.specs.Prelude.{slice_index, ◌⊎◌}
 use Rattle.std.proofs.lemmas.Bool.{cases_lt, cases_eq, cases_Bool, false≢true}
@@ -40,6 +40,7 @@ record HasFrom (h : ℕ → Option ℕ) (k n p : ℕ) : Type 0 where
   below : turn < n
   has : h turn ≡ Some p
 
+-- where more are tallied, a later turn takes it
 has_from : (h : ℕ → Option ℕ) (k n p : ℕ) → tally h k p < tally h n p → HasFrom h k n p
 has_from h k zero p l = absurd (omega arith)
 has_from h k (suc n) p l =
@@ -140,7 +141,8 @@ module _ (m w : Problem) (v : IsValid m) (vw : IsValid w) (wide : Widens m w)
 
   -- ---- one round
 
-  -- who holds p in the other placement takes p, where it has a seat left and the turn takes nothing better
+  -- who holds p in the other placement takes p, where it has a seat left and the turn takes nothing
+  -- better
   takes_too : (cuts : List ℕ) → KeepsOther cuts → (c p : ℕ) → TakesLeast cuts (kind_of m p) c
       → held_by other c ≡ Some p → seats_before m cuts (kind_of m p) c p < quota_of m p
       → tentative m cuts (kind_of m p) c ≡ Some p
@@ -264,6 +266,7 @@ module _ (m w : Problem) (v : IsValid m) (vw : IsValid w) (wide : Widens m w)
 
 -- ---- the same market
 
+-- a market is as wide as itself
 same_width : (m : Problem) → Widens m m
 same_width m =
     record {
@@ -275,6 +278,7 @@ same_width m =
       quotas = λ p. omega arith;
     }
 
+-- the mechanism's placement is stable, and no stable one gives a candidate less
 pub worst_of_stable : (m : Problem) → IsValid m → IsWorstStable m (mechanism_placement m)
 worst_of_stable m v =
     record { stable = stable m v; worst = λ other s. worst m m v v (same_width m) other s }
