@@ -26,7 +26,8 @@ cond_append false s xs ys = refl
 -- the places of a list with one entry more
 places-push : (f : ℕ → Bool) (s n : ℕ) (xs : List ℕ) (x : ℕ) → n ≡ s + length xs
     → places_from f s (xs ++ x ∷ []) ≡ places_from f s xs ++ cond (f x) (n ∷ []) []
-places-push f s n [] x e = let same : s ≡ n = omega arith in ap (λ (k : ℕ). cond (f x) (k ∷ []) []) same
+places-push f s n [] x e = let same : s ≡ n = omega arith in ap (λ (k : ℕ). cond (f x) (k ∷ []) [])
+    same
 places-push f s n (y ∷ ys) x e =
     let ih = places-push f (suc s) n ys x (omega arith) in
     ap (λ (ps : List ℕ). cond (f y) (s ∷ ps) ps) ih
@@ -34,7 +35,8 @@ places-push f s n (y ∷ ys) x e =
 
 -- the items below a cut, with one item more
 items_below-push : (cut x p : ℕ) (xs ps : List ℕ) → length ps ≡ length xs
-    → items_below cut (xs ++ x ∷ []) (ps ++ p ∷ []) ≡ items_below cut xs ps ++ cond (nat_lt p cut) (x ∷ []) []
+    → items_below cut (xs ++ x ∷ []) (ps ++ p ∷ []) ≡ items_below cut xs ps ++ cond (nat_lt p cut)
+    (x ∷ []) []
 items_below-push cut x p [] [] e = refl
 items_below-push cut x p [] (q ∷ qs) e = absurd (omega arith)
 items_below-push cut x p (y ∷ ys) [] e = absurd (omega arith)
@@ -100,8 +102,10 @@ items_below-take cut k xs ps b l n t =
     let lp = length-take k ps in
     ap (λ (ys : List ℕ). items_below cut ys (take (k + 1) ps)) (take_more xs k 0 l)
     ∙ ap (items_below cut (take k xs ++ slice_index xs k ∷ [])) (take_more ps k 0 (omega arith))
-    ∙ items_below-push cut (slice_index xs k) (slice_index ps k) (take k xs) (take k ps) (omega arith)
-    ∙ ap (λ (c : Bool). items_below cut (take k xs) (take k ps) ++ cond c (slice_index xs k ∷ []) []) t
+    ∙ items_below-push cut (slice_index xs k) (slice_index ps k) (take k xs) (take k ps) (omega
+    arith)
+    ∙ ap (λ (c : Bool). items_below cut (take k xs) (take k ps) ++ cond c (slice_index xs k ∷ [])
+    []) t
 
 -- one place more below the cut: its item is added
 pub below_more : (cut k : ℕ) (xs ps first old more : List ℕ) → k < length xs → length ps ≡ length xs
@@ -139,10 +143,12 @@ flat_next F order items bounds items' bounds' xs k n l f ex ei eb en =
 -- the first entry of a list, by whether it passes the test
 front_head : (b : Bool) (cut s y : ℕ) (g : ℕ → ℕ) (x : ℕ) (xs ps : List ℕ) → y ≡ g x
     → items_below cut (map g (cond b (x ∷ xs) xs)) (cond b (s ∷ ps) ps)
-    ≡ cond b (cond (nat_lt s cut) (y ∷ items_below cut (map g xs) ps) (items_below cut (map g xs) ps))
+    ≡ cond b (cond (nat_lt s cut) (y ∷ items_below cut (map g xs) ps) (items_below cut (map g xs)
+    ps))
     (items_below cut (map g xs) ps)
 front_head true cut s y g x xs ps e =
-    ap (λ (z : ℕ). cond (nat_lt s cut) (z ∷ items_below cut (map g xs) ps) (items_below cut (map g xs) ps))
+    ap (λ (z : ℕ). cond (nat_lt s cut) (z ∷ items_below cut (map g xs) ps) (items_below cut (map g
+    xs) ps))
     (sym e)
 front_head false cut s y g x xs ps e = refl
 
@@ -160,7 +166,8 @@ cond_same false xs = refl
 -- those whose places are below the cut are those of the list's front
 pub items_below-front : (cut s n : ℕ) (g : ℕ → ℕ) (f : ℕ → Bool) (xs : List ℕ) → n ≡ cut - s
     → items_below cut (map g (filter f xs)) (places_from f s xs) ≡ map g (filter f (take n xs))
-items_below-front cut s n g f [] e = ap (λ (ys : List ℕ). map g (filter f ys)) (sym (take-nil {A = ℕ} n))
+items_below-front cut s n g f [] e = ap (λ (ys : List ℕ). map g (filter f ys)) (sym (take-nil {A =
+    ℕ} n))
 items_below-front cut s n g f (x ∷ xs) e =
     let rest = items_below cut (map g (filter f xs)) (places_from f (suc s) xs) in
     let head = front_head (f x) cut s (g x) g x (filter f xs) (places_from f (suc s) xs) refl in
@@ -216,7 +223,8 @@ length-type_places m t i =
 
 -- the entries below the cut are the turn's list
 pub front_local : (m : Problem) (cuts : List ℕ) (t i : ℕ)
-    → items_below (slice_index cuts i) (type_items m t i) (type_places m t i) ≡ local_list m cuts t i
+    → items_below (slice_index cuts i) (type_items m t i) (type_places m t i) ≡ local_list m cuts t
+    i
 unfolding type_items type_places local_list turn_list
 front_local m cuts t i =
     items_below-front (slice_index cuts i) 0 (slice_index cuts i) (local_of m) (is_offered m t i)

@@ -58,7 +58,8 @@ flat-more items bounds items' bounds' xs lists n f ei eb en =
     let lb = ap (λ (ys : List ℕ). length ys) eb ∙ length_push bounds n in
     let ll = length_push lists xs in
     let old : (k : ℕ) → k ≤ length lists → slice_index bounds' k ≡ slice_index bounds k = λ k l.
-    ap (λ (ys : List ℕ). slice_index ys k) eb ∙ get_or_append_left bounds (n ∷ []) 0 k (omega arith) in
+    ap (λ (ys : List ℕ). slice_index ys k) eb ∙ get_or_append_left bounds (n ∷ []) 0 k (omega
+    arith) in
     let new' : slice_index bounds' (length lists + 1) ≡ n =
     ap (λ (ys : List ℕ). slice_index ys (length lists + 1)) eb
     ∙ get_or_push bounds n 0 (length lists + 1) (omega arith) in

@@ -6,8 +6,8 @@ use Rattle.std.specs.Prelude.{slice_index}
 use Rattle.std.proofs.lemmas.Bool.{and_parts, cases_lt, ltb-true, leb-true, eqb-true, eq-eqb, false≢true, not-true}
 use Rattle.market.specs.declared.programme.Prog.{Prog}
 use Rattle.market.specs.declared.limits.TheConstants.{MAX_TYPES, MAX_PROGRAMMES, MAX_CANDIDATES, MAX_ENTRIES, MAX_QUOTA, MAX_RANK}
-use Rattle.market.specs.Problems.{Problem, IsValid, HasNoRepeats, kind_of, quota_of, list_of, order_of, ranks_of}
-use Rattle.market.specs.Dictatorships.{Dictatorship, IsValidDictatorship, list_at}
+use Rattle.market.specs.Problems.{Problem, problem, IsValid, HasNoRepeats, kind_of, quota_of, list_of, order_of, ranks_of}
+use Rattle.market.specs.Dictatorships.{Dictatorship, dictatorship, IsValidDictatorship, list_at}
 use Rattle.market.specs.Examples.{exchange, freed_seat, three_rounds, two_turns}
 use Rattle.market.proofs.Computes.{computes}
 
@@ -42,7 +42,8 @@ distinct_from xs e i j l lj same =
 
 -- whether each entry is more than those before it
 abbrev pub all_rise : List ℕ → Bool
-all_rise xs = all_below (λ k. all_below (λ j. ltb (slice_index xs j) (slice_index xs k)) k) (length xs)
+all_rise xs = all_below (λ k. all_below (λ j. ltb (slice_index xs j) (slice_index xs k)) k) (length
+    xs)
 
 -- whether each programme's type and quota are in range
 unfoldable pub programmes_fit : Problem → Bool
@@ -131,10 +132,10 @@ three_rounds_valid = valid_from three_rounds refl refl refl refl refl
 -- a market that is built of these parts is valid where they are those of a valid problem
 pub parts_valid : (m : Problem) (programmes : List Prog) (lists orders ranks : List (List ℕ))
     → IsValid m → programmes ≡ m.programmes → lists ≡ m.lists → orders ≡ m.orders → ranks ≡ m.ranks
-    → IsValid (record { types = m.types; programmes = programmes; lists = lists; orders = orders; ranks = ranks })
+    → IsValid (problem m.types programmes lists orders ranks)
 parts_valid m programmes lists orders ranks v p l o r =
-    let same : m ≡ record { types = m.types; programmes = programmes; lists = lists; orders = orders; ranks = ranks }
-    = λ i. record { types = m.types; programmes = sym p i; lists = sym l i; orders = sym o i; ranks = sym r i } in
+    let same : m ≡ problem m.types programmes lists orders ranks
+    = λ i. problem m.types (sym p i) (sym l i) (sym o i) (sym r i) in
     subst IsValid same v
 
 -- lists made of equal lists are equal
@@ -194,8 +195,8 @@ two_turns_valid = dictatorship_valid_from two_turns refl refl
 -- a dictatorship of these parts is valid where they are those of a valid one
 pub dictatorship_parts_valid : (d : Dictatorship) (quota fill : List ℕ) (lists : List (List ℕ))
     → IsValidDictatorship d → quota ≡ d.quota → fill ≡ d.fill → lists ≡ d.lists
-    → IsValidDictatorship (record { quota = quota; fill = fill; lists = lists })
+    → IsValidDictatorship (dictatorship quota fill lists)
 dictatorship_parts_valid d quota fill lists v q f l =
-    let same : d ≡ record { quota = quota; fill = fill; lists = lists }
-    = λ i. record { quota = sym q i; fill = sym f i; lists = sym l i } in
+    let same : d ≡ dictatorship quota fill lists
+    = λ i. dictatorship (sym q i) (sym f i) (sym l i) in
     subst IsValidDictatorship same v

@@ -18,7 +18,8 @@ count_one f zero i l t = absurd (omega arith)
 count_one f (suc n) i l t =
     ⊎_elim
     (λ less. let ih = count_one f n i less t in omega arith)
-    (λ more. let e : i ≡ n = omega arith in let one = one_more (f n) (ap f (sym e) ∙ t) in omega arith)
+    (λ more. let e : i ≡ n = omega arith in let one = one_more (f n) (ap f (sym e)
+    ∙ t) in omega arith)
     (cases_lt i n)
 
 -- two numbers that pass are counted

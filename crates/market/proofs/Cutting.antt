@@ -138,7 +138,8 @@ pub IsCutUpto-all : (m : Problem) (c : ℕ → ℕ → Option ℕ) (old new : Li
     → (new ≡ cuts_in m c old) × (n ≡ several_in m c)
 unfolding cuts_in several_in
 IsCutUpto-all m c old new k n e f = (
-  fill_by_all (cut_in m c old) new (length m.lists) 0 f.candidates (λ i l. f.done i (omega arith) l),
+  fill_by_all (cut_in m c old) new (length m.lists) 0 f.candidates (λ i l. f.done i (omega arith)
+      l),
   f.counted ∙ ap (count_below (has_several_in m c)) e,
 )
 
@@ -249,7 +250,8 @@ some_away list cut (Some p) e = (p, refl)
 
 -- a choice that is cut away is a programme
 away_some : (m : Problem) (table : List (List (Option ℕ))) (old : List ℕ) (t k : ℕ)
-    → is_cut_away m (programme_in table) old t k ≡ true → (p : ℕ) × (programme_in table t k ≡ Some p)
+    → is_cut_away m (programme_in table) old t k ≡ true → (p : ℕ) × (programme_in table t k ≡ Some
+    p)
 unfolding is_cut_away
 away_some m table old t k h =
     some_away (list_of m k) (cut_in m (programme_in table) old k) (programme_in table t k) h
@@ -259,7 +261,8 @@ pub IsFirstUpto-cut : (m : Problem) (table : List (List (Option ℕ))) (old : Li
     (o new : Option ℕ)
     → IsWithinCuts m table old
     → new ≡ noted (is_cut_away m (programme_in table) old t k) o (turn_of m t k)
-    → IsFirstUpto m (programme_in table) old t k o → IsFirstUpto m (programme_in table) old t (k + 1) new
+    → IsFirstUpto m (programme_in table) old t k o → IsFirstUpto m (programme_in table) old t (k +
+    1) new
 IsFirstUpto-cut m table old t k o new w e f =
     ⊎_elim
     (λ yes'.

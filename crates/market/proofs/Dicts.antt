@@ -236,7 +236,8 @@ pub local_member : (m : Problem) (t j : ℕ) → j < length (programmes_of m t)
     → local_of m (slice_index (programmes_of m t) j) ≡ j
 unfolding local_of programmes_of
 local_member m t j l =
-    let p = slice_index (filter (λ q. kind_of m q == t) (range_with_len 0 (length m.programmes))) j in
+    let p = slice_index (filter (λ q. kind_of m q == t) (range_with_len 0 (length m.programmes))) j
+    in
     ap (λ (u : ℕ). count_below (λ q. kind_of m q == u) p) (member_kind m t j l)
     ∙ numbers_back (λ q. kind_of m q == t) (length m.programmes) j l
 

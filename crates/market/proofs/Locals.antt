@@ -167,7 +167,8 @@ module _ (m : Problem) (v : IsValid m) (cuts fill : List ℕ) (t from : ℕ) (lt
       let i = slice_index (order_of m t) (from + k) in
       pick-find e k
       ∙ ap (find (is_open e k)) (local-list_at m cuts fill t from k l)
-      ∙ find-map (is_open e k) (is_open d (from + k)) (local_of m) (turn_list m cuts t i) (agree k s l)
+      ∙ find-map (is_open e k) (is_open d (from + k)) (local_of m) (turn_list m cuts t i) (agree k
+      s l)
       ∙ ap (λ (xs : List ℕ). option_map (local_of m) (find (is_open d (from + k)) xs))
       (sym (type-list m cuts t (from + k) l))
       ∙ ap (option_map (local_of m)) (sym (pick-find d (from + k)))
@@ -189,7 +190,8 @@ module _ (m : Problem) (v : IsValid m) (cuts fill : List ℕ) (t from : ℕ) (lt
   pick_entry k q l e =
       let d = type_dictatorship m cuts t in
       let i = slice_index (order_of m t) k in
-      let found = ap (find (is_open d k)) (sym (type-list m cuts t k l)) ∙ sym (pick-find d k) ∙ e in
+      let found = ap (find (is_open d k)) (sym (type-list m cuts t k l)) ∙ sym (pick-find d k)
+      ∙ e in
       let li = find_listed (is_open d k) (turn_list m cuts t i) q found in
       let x = turn_entry m cuts t i (place_of q (turn_list m cuts t i)) v (v.order_entries t k lt l)
       li in
@@ -209,7 +211,8 @@ module _ (m : Problem) (v : IsValid m) (cuts fill : List ℕ) (t from : ℕ) (lt
       by_picked None e = refl
       by_picked (Some q) e = let x = pick_entry (from + k) q l e in same_number p q lp x.0 kp x.1
 
-  same_seats : IsFillBefore m cuts t from fill → (k : ℕ) → from + k ≤ length (order_of m t) → SameSeats k
+  same_seats : IsFillBefore m cuts t from fill → (k : ℕ) → from + k ≤ length (order_of m t)
+      → SameSeats k
   unfolding SameSeats
   same_seats fills zero l p lp kp =
       let e = local_dictatorship m cuts t from fill in
@@ -251,9 +254,11 @@ back_step f g (Some q) h = ap Some (h q refl)
 -- from the first turn on with no seats taken
 no_fills : (m : Problem) (cuts fill : List ℕ) (t : ℕ) → ((j : ℕ) → slice_index fill j ≡ 0) → (j : ℕ)
     → j < length (programmes_of m t)
-    → slice_index fill j ≡ seats_taken (type_dictatorship m cuts t) 0 (slice_index (programmes_of m t) j)
+    → slice_index fill j ≡ seats_taken (type_dictatorship m cuts t) 0 (slice_index (programmes_of m
+    t) j)
 no_fills m cuts fill t z j l = let e =
-    seats_taken-zero (type_dictatorship m cuts t) (slice_index (programmes_of m t) j) in let h = z j in
+    seats_taken-zero (type_dictatorship m cuts t) (slice_index (programmes_of m t) j) in let h = z
+    j in
     omega arith
 
 -- the entry that a turn chooses, in the market's own numbers

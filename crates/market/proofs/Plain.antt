@@ -53,7 +53,8 @@ cut_total m cuts =
     let at = next_cuts-at m cuts i l in
     let le = next_cuts-le m cuts i in
     ⊎_elim
-    (λ t. let one = one_more (has_several m cuts i) t in let h = next_cut-lt m cuts i t in omega arith)
+    (λ t. let one = one_more (has_several m cuts i) t in let h = next_cut-lt m cuts i t in omega
+    arith)
     (λ f. let none = no_more (has_several m cuts i) f in omega arith)
     (cases_Bool (has_several m cuts i)))
 
@@ -181,7 +182,8 @@ rounds-fall m count cuts next e c nz =
 
 -- a sum with one number more
 pub sum_next : (f : ℕ → ℕ) (k s x : ℕ) → s ≡ sum_below f k → x ≡ f k → s + x ≡ sum_below f (k + 1)
-sum_next f k s x e h = let n : k + 1 ≡ suc k = omega arith in let q = ap (sum_below f) n in omega arith
+sum_next f k s x e h = let n : k + 1 ≡ suc k = omega arith in let q = ap (sum_below f) n in omega
+    arith
 
 -- there are few rounds
 pub rounds_small : (m : Problem) → IsValid m → (r total : ℕ) (cuts : List ℕ)
@@ -194,7 +196,8 @@ rounds_small m v r total cuts u =
 
 -- there are few cuts
 pub total_small : (m : Problem) → IsValid m → (r total count : ℕ) (cuts : List ℕ)
-    → IsRoundsUpto m r cuts total → count ≡ several_count m cuts → total + count ≤ MAX_CANDIDATES * MAX_ENTRIES
+    → IsRoundsUpto m r cuts total → count ≡ several_count m cuts
+    → total + count ≤ MAX_CANDIDATES * MAX_ENTRIES
 total_small m v r total count cuts u c =
     let a = total-cuts m r in
     let b = cut_total m (cuts_after m r) in
@@ -212,7 +215,8 @@ same_outcome a placement rounds cuts turns p r c t =
 
 -- what the last round gives is what the mechanism gives
 pub outcome_is : (m : Problem) (r total wide turns : ℕ) (cuts : List ℕ) (held : List (Option ℕ))
-    → IsRoundsUpto m r cuts total → several_count m cuts ≡ 0 → held ≡ best_programmes m cuts → wide ≡ r + 1
+    → IsRoundsUpto m r cuts total → several_count m cuts ≡ 0 → held ≡ best_programmes m cuts
+    → wide ≡ r + 1
     → turns ≡ turns_of_round m
     → record { placement = held; rounds = r + 1; cuts = total; turns = wide * turns } ≡ mechanism m
 unfolding mechanism mechanism_placement mechanism_rounds mechanism_cuts

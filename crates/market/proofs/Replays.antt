@@ -72,7 +72,8 @@ round-cuts m v cuts table r =
     (map (cut_in m (programme_in table) cuts) (range_with_len 0 (length m.lists))) (length m.lists)
     0
     (length-map-range_with_len (cut_in m (programme_in table) cuts) 0 (length m.lists))
-    (λ i l. get_or-map-range_with_len (cut_in m (programme_in table) cuts) 0 (length m.lists) i i 0 l
+    (λ i l. get_or-map-range_with_len (cut_in m (programme_in table) cuts) 0 (length m.lists) i i 0
+    l
     (omega arith) ∙ round-cut m v cuts table i r l)
 
 -- how many have several, read from the table
@@ -84,7 +85,8 @@ round-count m cuts table r =
     (λ i l. round-several m cuts table i r l)
 
 -- what each gets, read from the table
-pub round-best_programmes : (m : Problem) → IsValid m → (cuts : List ℕ) (table : List (List (Option ℕ)))
+pub round-best_programmes : (m : Problem) → IsValid m → (cuts : List ℕ) (table : List (List (Option
+    ℕ)))
     → IsRound m cuts table → best_programmes_in m (programme_in table) ≡ best_programmes m cuts
 unfolding best_programmes_in best_programmes best_programme
 round-best_programmes m v cuts table r =
@@ -133,7 +135,8 @@ away-agree : (m : Problem) → IsValid m → (cuts : List ℕ) (table : List (Li
     → is_cut_away m (programme_in table) cuts t i ≡ is_cut_away m (tentative m cuts) cuts t i
 unfolding is_cut_away cut_in has_several_in best_in next_cut has_several best_place is_taken
 away-agree m v cuts table t i r lt l =
-    ap (λ (n : ℕ). is_beyond (list_of m i) n (programme_in table t i)) (round-cut m v cuts table i r l)
+    ap (λ (n : ℕ). is_beyond (list_of m i) n (programme_in table t i)) (round-cut m v cuts table i
+    r l)
     ∙ ap (is_beyond (list_of m i) (next_cut m cuts i)) (r.each t i lt l)
 
 -- the first changed turn, read from the table
@@ -150,7 +153,8 @@ round-changed m v cuts table t r lt =
     position_agree f g (order_of m t)
     (λ j lj. away-agree m v cuts table t (slice_index (order_of m t) j) r lt
     (v.order_entries t j lt lj)) in
-    let le = Rattle.std.proofs.lemmas.List.Sums.prefix_len-le-length (λ i. not (f i)) (order_of m t) in
+    let le = Rattle.std.proofs.lemmas.List.Sums.prefix_len-le-length (λ i. not (f i)) (order_of m
+    t) in
     ⊎_elim
     (λ l. ap (λ (b : Bool). unwrap_or (cond b (Some (position_or_len f (order_of m t))) None) n)
     (lt-ltb (position_or_len f (order_of m t)) n l) ∙ same)
@@ -174,7 +178,8 @@ run-none m cuts t table e lt =
           ap (λ (xs : List (Option ℕ)). length xs) row
           ∙ length-replicate {A = Option ℕ} (length m.lists) None;
       run = λ i l h. absurd (omega arith);
-      idle = λ i l h. ap (λ (xs : List (Option ℕ)). get_or xs i None) row ∙ none_at (length m.lists) i;
+      idle = λ i l h. ap (λ (xs : List (Option ℕ)). get_or xs i None) row
+          ∙ none_at (length m.lists) i;
     }
 
 -- an empty table has a row for each type
@@ -237,7 +242,8 @@ run-more m v cuts t k row x lt l f e =
 -- rows in which all turns are run are the table of the round
 pub round-rows : (m : Problem) (cuts : List ℕ) (table : List (List (Option ℕ)))
     → length table ≡ m.types
-    → ((t : ℕ) → t < m.types → IsRunUpto m cuts t (length (order_of m t)) (slice_index_or table t []))
+    → ((t : ℕ) → t < m.types → IsRunUpto m cuts t (length (order_of m t)) (slice_index_or table t
+    []))
     → IsRound m cuts table
 round-rows m cuts table n f = record {
   types = n;
@@ -324,8 +330,10 @@ kept_kind m v cuts table t k j p lt le l f e =
     let at = turn_at m v t j lt (omega arith) in
     let li = v.order_entries t j lt (omega arith) in
     let took = tentative-takes m cuts t i p (sym (f.run i li (omega arith)) ∙ e) in
-    let b = v.list_entries i (place_of p (list_of m i)) li took.listed in
-    (subst (λ (q : ℕ). q < length m.programmes) (place_get p (list_of m i) 0 took.listed) b, took.kind)
+    let b = v.list_entries i (place_of p (list_of m i)) li took.listed in (
+      subst (λ (q : ℕ). q < length m.programmes) (place_get p (list_of m i) 0 took.listed) b,
+      took.kind,
+    )
 
 -- ---- counting the kept choices
 
@@ -378,7 +386,8 @@ IsKeptFill-take m c t k p fill l kp e f =
           omega arith)
           (λ ne.
           let w = get_or-set_other fill q j (slice_index fill q + 1) 0 ne in
-          let other : p ≢ slice_index (programmes_of m t) j = λ z. ne (member-number m t j p lj z) in
+          let other : p ≢ slice_index (programmes_of m t) j = λ z. ne (member-number m t j p lj z)
+          in
           let none = no_more (is_programme (slice_index (programmes_of m t) j)
           (c t (slice_index (order_of m t) k)))
           (ap (is_programme (slice_index (programmes_of m t) j)) e

@@ -96,7 +96,8 @@ kept_pick m v older newer t k shorter l within e =
     let took = tentative-pick m older t i own ∙ ap (pick (type_dictatorship m older t)) at
     ∙ pick-after m older t k l in
     pick-after m newer t k l
-    ∙ ap (λ (xs : List (Option ℕ)). find (offers m t i xs) (take (slice_index newer i) (list_of m i))) e
+    ∙ ap (λ (xs : List (Option ℕ)). find (offers m t i xs) (take (slice_index newer i) (list_of m
+    i))) e
     ∙ find_shorter f (list_of m i) (slice_index newer i) (slice_index older i) (shorter i)
     (λ p h. within p (took ∙ h))
     ∙ sym (pick-after m older t k l)
@@ -111,7 +112,8 @@ kept_picks m v older newer t zero shorter l within =
 kept_picks m v older newer t (suc k) shorter l within =
     let new = type_dictatorship m newer t in
     let old = type_dictatorship m older t in
-    let ih = kept_picks m v older newer t k shorter (omega arith) (λ j lj. within j (omega arith)) in
+    let ih = kept_picks m v older newer t k shorter (omega arith) (λ j lj. within j (omega arith))
+    in
     let p = kept_pick m v older newer t k shorter (omega arith) (within k (omega arith)) ih in
     picks-suc new k ∙ ap (λ (xs : List (Option ℕ)). xs ++ pick new k ∷ []) ih
     ∙ ap (λ (o : Option ℕ). picks old k ++ o ∷ []) p ∙ sym (picks-suc old k)

@@ -95,7 +95,8 @@ unfolding best_programme best_place best_in is_taken
 best_programme-find m cuts i = sym (find_at (is_taken m cuts i) (list_of m i))
 
 -- what is placed is taken in its type
-pub best_programme-takes : (m : Problem) (cuts : List ℕ) (i p : ℕ) → best_programme m cuts i ≡ Some p
+pub best_programme-takes : (m : Problem) (cuts : List ℕ) (i p : ℕ)
+    → best_programme m cuts i ≡ Some p
     → tentative m cuts (kind_of m p) i ≡ Some p
 best_programme-takes m cuts i p e =
     is_taken-true m cuts i p
@@ -144,7 +145,8 @@ best_by m cuts t i p e =
 pub next_cuts-at : (m : Problem) (cuts : List ℕ) (i : ℕ) → i < length m.lists
     → slice_index (next_cuts m cuts) i ≡ next_cut m cuts i
 unfolding next_cuts cuts_in next_cut cut_in
-next_cuts-at m cuts i l = get_or-map-range_with_len (next_cut m cuts) 0 (length m.lists) i i 0 l refl'
+next_cuts-at m cuts i l = get_or-map-range_with_len (next_cut m cuts) 0 (length m.lists) i i 0 l
+    refl'
   where
     refl' : 0 + i ≡ i
     refl' = omega arith
@@ -161,13 +163,15 @@ next_cuts-past m cuts i l =
 pub next_cut-several : (m : Problem) (cuts : List ℕ) (i : ℕ) → has_several m cuts i ≡ true
     → next_cut m cuts i ≡ best_place m cuts i + 1
 unfolding next_cut cut_in has_several has_several_in best_place best_in
-next_cut-several m cuts i e = ap (λ (b : Bool). cond b (best_place m cuts i + 1) (slice_index cuts i)) e
+next_cut-several m cuts i e = ap (λ (b : Bool). cond b (best_place m cuts i + 1) (slice_index cuts
+    i)) e
 
 -- who has not keeps the cut
 pub next_cut-same : (m : Problem) (cuts : List ℕ) (i : ℕ) → has_several m cuts i ≡ false
     → next_cut m cuts i ≡ slice_index cuts i
 unfolding next_cut cut_in has_several has_several_in best_place best_in
-next_cut-same m cuts i e = ap (λ (b : Bool). cond b (best_place m cuts i + 1) (slice_index cuts i)) e
+next_cut-same m cuts i e = ap (λ (b : Bool). cond b (best_place m cuts i + 1) (slice_index cuts i))
+    e
 
 -- who takes several loses an entry
 pub next_cut-lt : (m : Problem) (cuts : List ℕ) (i : ℕ) → has_several m cuts i ≡ true
@@ -261,7 +265,8 @@ cuts_after-zero m i = get_or-map_past (λ (list : List ℕ). length list) m.list
 
 -- the first settled round, one round on
 settled_step : (m : Problem) (n r : ℕ)
-    → settled_from m (suc n) r ≡ (if is_settled m (cuts_after m r) then r else settled_from m n (suc r))
+    → settled_from m (suc n) r ≡ (if is_settled m (cuts_after m r) then r else settled_from m n
+    (suc r))
 unfolding settled_from
 settled_step m n r = refl
 

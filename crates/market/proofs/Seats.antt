@@ -24,7 +24,8 @@ pub IsSeatsAt-start : (d : Dictatorship) (seats : List ℕ) → IsValidDictators
 IsSeatsAt-start d seats v e =
     record {
       count = ap (λ (xs : List ℕ). length xs) e ∙ v.fills;
-      each = λ p l. let z = seats_taken-zero d p in let f = ap (λ (xs : List ℕ). slice_index xs p) e in
+      each = λ p l. let z = seats_taken-zero d p in let f = ap (λ (xs : List ℕ). slice_index xs p)
+          e in
           omega arith;
     }
 

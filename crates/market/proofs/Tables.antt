@@ -20,7 +20,8 @@ pub IsFilled-none : (count n : ℕ) (order table : List ℕ) → n ≡ length or
 IsFilled-none count n order table h e = record {
   candidates = ap (λ (xs : List ℕ). length xs) e ∙ length-replicate count n;
   written = λ i l p. absurd (omega arith);
-  unwritten = λ i l p. ap (λ (xs : List ℕ). slice_index xs i) e ∙ get_or-replicate count i n 0 l ∙ h;
+  unwritten = λ i l p. ap (λ (xs : List ℕ). slice_index xs i) e ∙ get_or-replicate count i n 0 l
+      ∙ h;
 }
 
 -- in a list without two equal entries an entry stands at its place
@@ -32,7 +33,8 @@ place_at xs k d l =
     (λ lk. eq-eqb (slice_index xs k) (slice_index xs k) refl)
 
 -- one turn more is written for its candidate
-pub IsFilled-more : (count : ℕ) (order table : List ℕ) (k : ℕ) → HasNoRepeats order → k < length order
+pub IsFilled-more : (count : ℕ) (order table : List ℕ) (k : ℕ) → HasNoRepeats order
+    → k < length order
     → slice_index order k < count → IsFilled count order table k
     → IsFilled count order (set table (slice_index order k) k) (k + 1)
 IsFilled-more count order table k d l b f =

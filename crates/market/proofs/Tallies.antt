@@ -20,7 +20,8 @@ tally h (suc n) p = tally h n p + cond (is_programme p (h n)) 1 0
 pub seats_taken-tally : (d : Dictatorship) (k p : ℕ) → seats_taken d k p ≡ tally (pick d) k p
 seats_taken-tally d zero p = seats_taken-zero d p
 seats_taken-tally d (suc k) p =
-    seats_taken-suc d k p ∙ ap (λ (n : ℕ). n + cond (is_programme p (pick d k)) 1 0) (seats_taken-tally d k p)
+    seats_taken-suc d k p ∙ ap (λ (n : ℕ). n + cond (is_programme p (pick d k)) 1 0)
+    (seats_taken-tally d k p)
 
 -- more turns take no fewer
 pub tally-mono : (h : ℕ → Option ℕ) (j n p : ℕ) → j ≤ n → tally h j p ≤ tally h n p

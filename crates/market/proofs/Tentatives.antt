@@ -109,7 +109,8 @@ seats_before m cuts t i p = seats_taken (type_dictatorship m cuts t) (turn_of m 
 
 -- the test by which the turn of i picks
 unfoldable pub would_pick : Problem → List ℕ → ℕ → ℕ → ℕ → Bool
-would_pick m cuts t i p = is_offered m t i p && is_open (type_dictatorship m cuts t) (turn_of m t i) p
+would_pick m cuts t i p = is_offered m t i p && is_open (type_dictatorship m cuts t) (turn_of m t
+    i) p
 
 -- a candidate's tentative programme is the pick of the turn
 pub tentative-pick : (m : Problem) (cuts : List ℕ) (t i : ℕ)
@@ -142,7 +143,8 @@ tentative-find m cuts t i l =
     let k = turn_of m t i in
     tentative-pick m cuts t i l
     ∙ pick-find d k
-    ∙ ap (find (is_open d k)) (type-list m cuts t k l ∙ ap (turn_list m cuts t) (candidate_at m t i l))
+    ∙ ap (find (is_open d k)) (type-list m cuts t k l ∙ ap (turn_list m cuts t) (candidate_at m t i
+    l))
     ∙ find-filter (is_open d k) (is_offered m t i) (take (slice_index cuts i) (list_of m i))
 
 pub record Takes (m : Problem) (cuts : List ℕ) (t i p : ℕ) : Type 0 where

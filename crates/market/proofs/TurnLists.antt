@@ -52,7 +52,8 @@ turn_below m cuts t k i cut f h l ei ec =
 
 -- a turn's list adds no more items than a list may have entries
 pub few_more : (m : Problem) (cuts : List ℕ) (t i k : ℕ) (items items' xs : List ℕ) → IsValid m
-    → i < length m.lists → xs ≡ local_list m cuts t i → items' ≡ items ++ xs → length items ≤ MAX_ENTRIES * k
+    → i < length m.lists → xs ≡ local_list m cuts t i → items' ≡ items ++ xs
+    → length items ≤ MAX_ENTRIES * k
     → length items' ≤ MAX_ENTRIES * (k + 1)
 few_more m cuts t i k items items' xs v li e ei few =
     let a = ap (λ (ys : List ℕ). length ys) ei ∙ length-append items xs in
