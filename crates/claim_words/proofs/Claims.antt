@@ -4,7 +4,7 @@ use Rattle.std.proofs.Common.{◌≡◌, ℕ, ◌<◌, Bool, length, Some, subst
 use Rattle.market.specs.Dictatorships.{Dictatorship}
 use Rattle.interleaving_core.specs.declared.parts.Claiming.{Claiming}
 use Rattle.interleaving_core.specs.Core.{turn_count, entry, claim_at}
-use Rattle.interleaving_core.specs.Events.{Reads, Posts, Allowed}
+use Rattle.interleaving_core.specs.Events.{Reads, Posts, IsAllowed}
 use Rattle.word_rule.specs.Rounds.{knows, dict_of, IsSeatOf}
 use Rattle.word_rule.specs.declared.seat.SharedRound.{SharedRound}
 use Rattle.word_rule.specs.declared.seat.WorkSeat.{WorkSeat}
@@ -16,7 +16,7 @@ is_claim me x k j met shown is = let copy = me.claim_is in cc (shown, copy, is)
 
 -- the seat may read the next entry of the claim shown, whose programme is one of the round
 pub record NextEntry (round : SharedRound) (me : WorkSeat) (x : Claiming) : Type 0 where
-  pub may : Allowed (dict_of round) (knows me).core (Reads x.turn x.passed)
+  pub may : IsAllowed (dict_of round) (knows me).core (Reads x.turn x.passed)
   pub programme : entry (dict_of round) x.turn x.passed < length (dict_of round).quota
   pub short : x.passed < 48
 
@@ -25,7 +25,7 @@ pub next_entry : (round : SharedRound) (me : WorkSeat) (x : Claiming) → IsSeat
 next_entry round me x of_round shown m =
     let is = is_claim me x m.turn m.place _ shown m.allowed.0 in
     let may = subst
-    (λ (z : Dictatorship × Claiming). Allowed z.0 (knows me).core (Reads z.1.turn z.1.passed))
+    (λ (z : Dictatorship × Claiming). IsAllowed z.0 (knows me).core (Reads z.1.turn z.1.passed))
     (λ i. (of_round.dict i, is i)) m.allowed in
     let drawn = me.in_range.claimed _ _ _ may.0 in
     let turns = ap (λ (d : Dictatorship). turn_count d) of_round.dict in
@@ -39,7 +39,7 @@ next_entry round me x of_round shown m =
 
 -- the seat may post the claim shown, whose turn is one of the round
 pub record NextPost (round : SharedRound) (me : WorkSeat) (x : Claiming) : Type 0 where
-  pub may : Allowed (dict_of round) (knows me).core (Posts x.turn x.passed x.met)
+  pub may : IsAllowed (dict_of round) (knows me).core (Posts x.turn x.passed x.met)
   pub turn : x.turn < turn_count (dict_of round)
 
 pub next_post : (round : SharedRound) (me : WorkSeat) (x : Claiming) → IsSeatOf round me
@@ -47,7 +47,7 @@ pub next_post : (round : SharedRound) (me : WorkSeat) (x : Claiming) → IsSeatO
 next_post round me x of_round shown m =
     let is = is_claim me x m.turn m.place m.met shown m.allowed.0 in
     let may = subst
-    (λ (z : Dictatorship × Claiming). Allowed z.0 (knows me).core (Posts z.1.turn z.1.passed z.1.met))
+    (λ (z : Dictatorship × Claiming). IsAllowed z.0 (knows me).core (Posts z.1.turn z.1.passed z.1.met))
     (λ i. (of_round.dict i, is i)) m.allowed in
     let drawn = me.in_range.claimed _ _ _ may.0 in
     let turns = ap (λ (d : Dictatorship). turn_count d) of_round.dict in

@@ -1,13 +1,13 @@
 -- Lists of seats at the opening, or over: one taken from the end, or put there.
 use Rattle.std.proofs.Common.{◌≡◌, ℕ, List, [], ◌∷◌, ◌++◌, length, subst}
-use Rattle.word_rule.specs.Rounds.{IsNew, AllNew, IsOver, AllOver}
+use Rattle.word_rule.specs.Rounds.{IsNew, AreNew, IsOver, AreOver}
 use Rattle.word_rule.specs.declared.seat.SharedRound.{SharedRound}
 use Rattle.word_rule.specs.declared.seat.WorkSeat.{WorkSeat}
 use Rattle.word_rule.proofs.Seats.{each_last, each_snoc}
 
 -- the last of seats at the opening, and the others
 pub new_last : (round : SharedRound) (l xs : List WorkSeat) (m : WorkSeat) → l ≡ xs ++ m ∷ []
-    → AllNew round l → IsNew round (length xs) m × AllNew round xs
+    → AreNew round l → IsNew round (length xs) m × AreNew round xs
 new_last round = each_last (IsNew round)
 
 -- by another form of its number
@@ -17,5 +17,5 @@ new_at round k n m new is = subst (λ (z : ℕ). IsNew round z m) is new
 
 -- one more seat that is over
 pub over_snoc : (round : SharedRound) (l xs : List WorkSeat) (m : WorkSeat) → l ≡ xs ++ m ∷ []
-    → AllOver round xs → IsOver round m → AllOver round l
+    → AreOver round xs → IsOver round m → AreOver round l
 over_snoc round = each_snoc (λ _ me. IsOver round me)

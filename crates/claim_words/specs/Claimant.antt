@@ -1,29 +1,29 @@
 -- When a claimant's calls may be made, and the event that each of them is.
 use Rattle.std.specs.Prelude.{◌≡◌, ℕ, ◌<◌, ◌≤◌, Bool, false, nat_lt, nat_le, Option, MatchOption}
 use Rattle.interleaving_core.specs.Core.{turn_count, entry, quota_of, claim_at}
-use Rattle.interleaving_core.specs.Events.{Claims, Reads, Posts, Allowed, after_claim, after_read, after_post}
+use Rattle.interleaving_core.specs.Events.{Claims, Reads, Posts, IsAllowed, after_claim, after_read, after_post}
 use Rattle.word_rule.specs.Views.{with_core}
-use Rattle.word_rule.specs.Steps.{AreEarlier}
+use Rattle.word_rule.specs.Claimant.{AreEarlier}
 use Rattle.word_rule.specs.Rounds.{knows}
 use Rattle.word_rule.specs.declared.seat.WorkSeat.{WorkSeat}
 
 -- the seat may draw a turn: it has no claim, does not hold the mark, is not done and owes nothing
 abbrev pub MayClaim : WorkSeat → Type 0
-MayClaim me = Allowed (knows me).dict (knows me).core Claims
+MayClaim me = IsAllowed (knows me).dict (knows me).core Claims
 
 -- the seat may read an entry: it has passed the entries before this place of its turn's list, and
 -- met none
 pub record MayRead (me : WorkSeat) : Type 0 where
   pub turn : ℕ
   pub place : ℕ
-  pub allowed : Allowed (knows me).dict (knows me).core (Reads turn place)
+  pub allowed : IsAllowed (knows me).dict (knows me).core (Reads turn place)
 
 -- the seat may post its turn: it has met the entry at this place, or passed the whole list
 pub record MayPost (me : WorkSeat) : Type 0 where
   pub turn : ℕ
   pub place : ℕ
   pub met : Bool
-  pub allowed : Allowed (knows me).dict (knows me).core (Posts turn place met)
+  pub allowed : IsAllowed (knows me).dict (knows me).core (Posts turn place met)
 
 -- a draw: there is a number found at this step; the seat's view is the core's for it, and the
 -- answer is that turn, or none where it lies past all turns

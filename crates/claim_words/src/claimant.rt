@@ -5,7 +5,10 @@ ghost use Rattle.word_rule.specs.Rounds.{IsSeatOf, Stays, dict_of};
 ghost use Rattle.claim_words.specs.Claimant.{MayClaim, MayRead, MayPost, IsClaim, IsRead, IsPost};
 
 use market::Dict;
-use word_rule::{ClaimCopy, ClaimStep, PostStep, ReadStep, SharedRound, WorkSeat};
+use word_rule::{
+    CLAIM_WORD, ClaimCopy, ClaimStep, PostStep, ReadStep, SharedRound, WorkSeat, cell_word,
+    posted_at, seat_word,
+};
 
 /// Draws the next turn. `None` comes exactly where the number drawn is at least the number of turns;
 /// the seat is then done.
@@ -16,7 +19,7 @@ pub fn claim(round: &SharedRound, me: &mut WorkSeat) -> Option<u32>
     ensures event { IsClaim me.old me.new result }
 {
     let words = &round.table.shared;
-    let found = words.fetch_add::<ClaimStep>(&mut me.seat, 0, 1);
+    let found = words.fetch_add::<ClaimStep>(&mut me.seat, CLAIM_WORD, 1);
     if found >= round.turns as u64 {
         return None;
     }
@@ -43,7 +46,7 @@ pub fn read_entry(round: &SharedRound, dict: &Dict, me: &mut WorkSeat) -> bool
     };
     let programme = dict.list(claim.turn)[claim.passed as usize];
     let words = &round.table.shared;
-    let found = words.load::<ReadStep>(&mut me.seat, 2 + programme as usize);
+    let found = words.load::<ReadStep>(&mut me.seat, seat_word(programme));
     let full = found >= dict.quota(programme) as u64;
     me.claim = Some(if full {
         ClaimCopy {
@@ -68,8 +71,8 @@ pub fn post(round: &SharedRound, dict: &Dict, me: &mut WorkSeat) -> u32
         unreachable!()
     };
     let words = &round.table.shared;
-    let word = 2 + dict.programmes() as usize + claim.turn as usize;
-    let cell = 2 * claim.passed as u64 + 1;
+    let word = cell_word(dict.programmes(), claim.turn);
+    let cell = posted_at(claim.passed);
     words.store::<PostStep>(&mut me.seat, word, cell);
     me.claim = None;
     claim.passed

@@ -1,21 +1,23 @@
 -- The phase and the count that a seat's copies show are those that its condition speaks of. So what the
 -- condition says, and the ranges that every seat keeps, hold of the copies.
-use Rattle.std.proofs.Common.{◌≡◌, ℕ, ◌-◌, ◌/◌, ◌%◌, ◌<◌, ◌≤◌, ◌≢◌, Bool, true, false, length, Option, Some, None, eqb, ne_eqb, sym, refl, subst, ap, ◌∙◌, arith}
+use Rattle.std.proofs.Common.{◌≡◌, ℕ, ◌<◌, ◌≤◌, false, length, Option, Some, None, sym, refl, subst, ap, ◌∙◌, arith}
 use Rattle.market.specs.Dictatorships.{Dictatorship, IsValidDictatorship, list_at}
-use Rattle.interleaving_core.specs.declared.parts.Cell.TheVariants.{Posted, Committed}
+use Rattle.interleaving_core.specs.declared.parts.Cell.{Cell}
+use Rattle.interleaving_core.specs.declared.parts.Cell.TheVariants.{Empty, Posted, Committed}
 use Rattle.interleaving_core.specs.declared.parts.Phase.{Phase}
 use Rattle.interleaving_core.specs.declared.parts.Phase.TheVariants.{Idle, Halted, Scan, Ready, Seated}
 use Rattle.interleaving_core.specs.declared.parts.Holding.{Holding}
 use Rattle.interleaving_core.specs.Core.{turn_count, entry, is_committed, hold_at}
-use Rattle.interleaving_core.specs.Events.{Looks, Weighs, Seats, Seals, Releases, Allowed, CanSeal, phase_after_look}
-use Rattle.word_rule.specs.Layout.{cell_of, cell_by}
+use Rattle.interleaving_core.specs.Events.{Looks, Weighs, Seats, Seals, Releases, IsAllowed, CanSeal, phase_after_look}
+use Rattle.word_rule.specs.Layout.{cell_of}
 use Rattle.word_rule.specs.Copies.{holding_of}
-use Rattle.word_rule.specs.Steps.{SeatMe}
-use Rattle.word_rule.specs.Holder.{look_by, LookTold}
+use Rattle.word_rule.specs.Views.{SeatMe}
+use Rattle.word_rule.specs.Holder.{look_by, TellsLook}
+use Rattle.word_rule.proofs.Layouts.{place_in, shows_small}
 use Rattle.word_rule.specs.Rounds.{knows, dict_of, IsSeatOf}
 use Rattle.word_rule.specs.declared.seat.SharedRound.{SharedRound}
 use Rattle.word_rule.specs.declared.seat.WorkSeat.{WorkSeat}
-use Rattle.commit_book.specs.Book.{place_of, MayLook, MayWeigh, MaySeat, MaySeal, MayRelease}
+use Rattle.commit_book.specs.Holder.{place_of, MayLook, MayWeigh, MaySeat, MaySeal, MayRelease}
 
 abbrev pub phase_in : Option Holding → Phase
 phase_in None = Idle
@@ -39,44 +41,44 @@ pub held : (me : WorkSeat) (c : ℕ) (x : Phase) → (knows me).core.hold ≡ ho
     → (me.phase ≡ Some x) × (me.committed ≡ c)
 held me c x is = shown me.phase me.committed c x (me.hold_is ∙ is)
 
--- a word that is not 0 and shows no committed cell shows a posted one
-pub posted_word : (found : ℕ) → found ≢ 0 → is_committed (cell_of found) ≡ false
-    → cell_of found ≡ Posted (found / 2)
-posted_word found some left = by (eqb (found % 2) 1) (ne_eqb found 0 some) refl
-  where
-    by : (b : Bool) → eqb found 0 ≡ false → eqb (found % 2) 1 ≡ b → cell_of found ≡ Posted (found / 2)
-    by true z e = λ k. cell_by (z k) (e k) (found / 2)
-    by false z e =
-        absurd
-        (let is : cell_of found ≡ Committed (found / 2 - 1) = (λ k. cell_by (z k) (e k) (found / 2)) in
-        let q = ap is_committed is in
-        cc (q, left))
+-- a cell that is neither posted nor committed is empty
+pub is_empty : (c : Cell) → is_committed c ≡ false → ((j : ℕ) → c ≡ Posted j → ⊥) → c ≡ Empty
+is_empty Empty left apart = refl
+is_empty (Posted j) left apart = absurd (apart j refl)
+is_empty (Committed j) left apart = absurd (cc (left))
 
--- the place found is one of the turn's list, or its length
-pub found_place : (d : Dictatorship) (m n : SeatMe) (found k : ℕ) → IsValidDictatorship d
-    → m.0.dict ≡ d → m.0.core.hold ≡ hold_at k Idle → LookTold m found n → found ≢ 0 → found / 2 ≤ 48
-found_place d m n found k valid dict hold told some =
-    let posted = posted_word found some told.uncommitted in
-    let scan : n.0.core.hold ≡ hold_at k (Scan (found / 2)) =
-    ap (λ (q : SeatMe). q.0.core.hold) told.seat
-    ∙ (ap (λ o. (look_by m.0.core o found).hold) hold ∙ ap (λ c. hold_at k (phase_after_look c)) posted) in
-    let same : n.0.dict ≡ d = ap (λ (q : SeatMe). q.0.dict) told.seat ∙ dict in
-    let turn = told.range.scanned k (found / 2) scan in
-    let place = told.range.scanned_place k (found / 2) scan in
-    let turns = ap (λ (z : Dictatorship). turn_count z) same in
-    let places = ap (λ (z : Dictatorship). length (list_at z k)) same in
-    let most = valid.list_lengths k (omega arith) in
+-- the word found is small, since the place found is one of the turn's list, or its length
+pub found_small : (d : Dictatorship) (m n : SeatMe) (found k : ℕ) → IsValidDictatorship d
+    → m.0.dict ≡ d → m.0.core.hold ≡ hold_at k Idle → TellsLook m found n → found ≤ 98
+found_small d m n found k valid dict hold told =
+    let small = shows_small found in
+    let place = by (cell_of found) refl in
     omega arith
+  where
+    by : (c : Cell) → cell_of found ≡ c → place_in c ≤ 48
+    by Empty is = omega arith
+    by (Committed j) is = absurd (let left = told.uncommitted in let q = ap is_committed is in cc (q, left))
+    by (Posted j) is =
+        let scan : n.0.core.hold ≡ hold_at k (Scan j) =
+        ap (λ (q : SeatMe). q.0.core.hold) told.seat
+        ∙ (ap (λ o. (look_by m.0.core o found).hold) hold ∙ ap (λ c. hold_at k (phase_after_look c)) is) in
+        let same : n.0.dict ≡ d = ap (λ (q : SeatMe). q.0.dict) told.seat ∙ dict in
+        let turn = told.range.scanned k j scan in
+        let place = told.range.scanned_place k j scan in
+        let turns = ap (λ (z : Dictatorship). turn_count z) same in
+        let places = ap (λ (z : Dictatorship). length (list_at z k)) same in
+        let most = valid.list_lengths k (omega arith) in
+        omega arith
 
 -- the seat may look at a turn of the round
 pub next_look : (round : SharedRound) (me : WorkSeat) → MayLook me → me.committed < turn_count (dict_of round)
-    → Allowed (dict_of round) (knows me).core (Looks me.committed)
+    → IsAllowed (dict_of round) (knows me).core (Looks me.committed)
 next_look round me m inside =
     (m.idle ∙ ap (λ c. hold_at c Idle) (sym (held me m.committed Idle m.idle).1), inside)
 
 -- the seat may weigh the entry that its copies show, whose programme is one of the round
 pub record NextEntry (round : SharedRound) (me : WorkSeat) (place : ℕ) : Type 0 where
-  pub may : Allowed (dict_of round) (knows me).core (Weighs me.committed place)
+  pub may : IsAllowed (dict_of round) (knows me).core (Weighs me.committed place)
   pub turn : me.committed < turn_count (dict_of round)
   pub programme : entry (dict_of round) me.committed place < length (dict_of round).quota
   pub short : place < 48
@@ -87,7 +89,7 @@ next_entry round me place of_round is m =
     let h = held me m.committed (Scan m.place) m.allowed.0 in
     let same : m.place ≡ place = ap (λ o. place_of (phase_or o)) (sym h.0 ∙ is) in
     let may = subst
-    (λ (z : Dictatorship × (ℕ × ℕ)). Allowed z.0 (knows me).core (Weighs z.1.0 z.1.1))
+    (λ (z : Dictatorship × (ℕ × ℕ)). IsAllowed z.0 (knows me).core (Weighs z.1.0 z.1.1))
     (λ i. (of_round.dict i, (sym h.1 i, same i))) m.allowed in
     let scanned = me.in_range.scanned _ _ may.0 in
     let turns = ap (λ (d : Dictatorship). turn_count d) of_round.dict in
@@ -103,7 +105,7 @@ next_entry round me place of_round is m =
 
 -- the seat may take a seat of the entry that its copies show
 pub record NextSeat (round : SharedRound) (me : WorkSeat) (place : ℕ) : Type 0 where
-  pub may : Allowed (dict_of round) (knows me).core (Seats me.committed place)
+  pub may : IsAllowed (dict_of round) (knows me).core (Seats me.committed place)
   pub turn : me.committed < turn_count (dict_of round)
   pub in_list : place < length (list_at (dict_of round) me.committed)
   pub programme : entry (dict_of round) me.committed place < length (dict_of round).quota
@@ -114,7 +116,7 @@ next_seat round me place of_round is m =
     let h = held me m.committed (Ready m.place) m.allowed in
     let same : m.place ≡ place = ap (λ o. place_of (phase_or o)) (sym h.0 ∙ is) in
     let may = subst
-    (λ (z : Dictatorship × (ℕ × ℕ)). Allowed z.0 (knows me).core (Seats z.1.0 z.1.1))
+    (λ (z : Dictatorship × (ℕ × ℕ)). IsAllowed z.0 (knows me).core (Seats z.1.0 z.1.1))
     (λ i. (of_round.dict i, (sym h.1 i, same i))) m.allowed in
     let ready = me.in_range.ready _ _ may in
     let ready_place = me.in_range.ready_place _ _ may in
@@ -132,7 +134,7 @@ next_seat round me place of_round is m =
 -- the seat may commit the first uncommitted turn at the place that its copies show
 pub record NextSeal (round : SharedRound) (me : WorkSeat) (place : ℕ) : Type 0 where
   pub phase : Phase
-  pub may : Allowed (dict_of round) (knows me).core (Seals me.committed place phase)
+  pub may : IsAllowed (dict_of round) (knows me).core (Seals me.committed place phase)
   pub turn : me.committed < turn_count (dict_of round)
   pub short : place ≤ 48
 
@@ -151,7 +153,7 @@ next_seal round me place x of_round is at m =
     let same : m.place ≡ place =
     sym (seal_place _ m.place m.phase m.allowed.1) ∙ (ap place_of same_phase ∙ at) in
     let may = subst
-    (λ (z : Dictatorship × (ℕ × ℕ)). Allowed z.0 (knows me).core (Seals z.1.0 z.1.1 m.phase))
+    (λ (z : Dictatorship × (ℕ × ℕ)). IsAllowed z.0 (knows me).core (Seals z.1.0 z.1.1 m.phase))
     (λ i. (of_round.dict i, (sym h.1 i, same i))) m.allowed in
     let turns = ap (λ (d : Dictatorship). turn_count d) of_round.dict in
     let places = ap (λ (d : Dictatorship). length (list_at d me.committed)) of_round.dict in
@@ -178,7 +180,7 @@ next_seal round me place x of_round is at m =
 -- the seat may release with the count that its copy shows
 pub record NextRelease (round : SharedRound) (me : WorkSeat) : Type 0 where
   pub phase : Phase
-  pub may : Allowed (dict_of round) (knows me).core (Releases me.committed phase)
+  pub may : IsAllowed (dict_of round) (knows me).core (Releases me.committed phase)
 
 pub next_release : (round : SharedRound) (me : WorkSeat) → IsSeatOf round me → MayRelease me
     → NextRelease round me
@@ -187,6 +189,6 @@ next_release round me of_round m =
     record {
       phase = m.phase;
       may = subst
-          (λ (z : Dictatorship × ℕ). Allowed z.0 (knows me).core (Releases z.1 m.phase))
+          (λ (z : Dictatorship × ℕ). IsAllowed z.0 (knows me).core (Releases z.1 m.phase))
           (λ i. (of_round.dict i, sym h.1 i)) m.allowed;
     }

@@ -1,7 +1,7 @@
 -- The definitions: when each call may be made, and what it does.
 -- the six calls of the mark's holder
-pub mod Book
+pub mod Holder
 -- the call that takes, commits and releases
 pub mod Prefix
--- seats that may draw
+-- seats and their steps, as the tests speak of them
 pub mod Seats

@@ -5,13 +5,12 @@
 //! answers is told by the word that it finds at that step, whatever other workers do before and after.
 #![tactic(auto)]
 
-// The six calls of the mark's holder.
-mod book;
+// The six calls of the mark's holder, and of who tries to take it.
+mod holder;
 // The call that takes the mark, commits posted turns and gives the mark back.
 mod prefix;
-
-pub use book::{look, release, seal, seat, take, weigh};
-pub use prefix::commit_prefix;
-
 #[cfg(test)]
 mod tests;
+
+pub use holder::{look, release, seal, seat, take, weigh};
+pub use prefix::{commit_prefix, commit_turn};

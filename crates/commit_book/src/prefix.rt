@@ -4,10 +4,11 @@ ghost use Rattle.std.specs.Prelude.{◌≡◌, ◌+◌};
 ghost use Rattle.interleaving_core.specs.declared.parts.Phase.TheVariants.{Idle, Scan};
 ghost use Rattle.interleaving_core.specs.Core.{hold_at};
 ghost use Rattle.word_rule.specs.Rounds.{IsSeatOf, Stays, dict_of, knows};
-ghost use Rattle.commit_book.specs.Book.{MayTake, as_holder};
-ghost use Rattle.commit_book.specs.Prefix.{IsSettled, IsPrefixCommit};
+ghost use Rattle.word_rule.specs.Holder.{as_holder};
+ghost use Rattle.commit_book.specs.Holder.{MayTake};
+ghost use Rattle.commit_book.specs.Prefix.{IsSettled, HasSwept, IsPrefixCommit};
 
-use crate::book::{look, release, seal, seat, take, weigh};
+use crate::holder::{look, release, seal, seat, take, weigh};
 use market::Dict;
 use word_rule::{SharedRound, WorkSeat};
 
@@ -25,25 +26,38 @@ pub fn commit_prefix(round: &SharedRound, dict: &Dict, me: &mut WorkSeat) -> Opt
     if !take(round, me) {
         return None;
     }
+    Some(sweep(round, dict, me))
+}
+
+// Commits turns in their order until a look gives `None`, gives the mark back, and answers how many turns
+// it committed.
+fn sweep(round: &SharedRound, dict: &Dict, me: &mut WorkSeat) -> u32
+    requires seat { IsSeatOf round.now me.old }
+    requires dict { dict.now ≡ dict_of round.now }
+    requires idle { (knows me.old).core.hold ≡ hold_at me.old.committed Idle }
+    ensures stays { Stays me.old me.new }
+    ensures swept { HasSwept me.old me.new result }
+{
     let mut count = 0;
     while let Some(place) = look(round, me) {
         commit_turn(round, dict, me, place);
         count += 1;
     }
     release(round, me);
-    Some(count)
+    count
 }
 
-// Commits the first uncommitted turn, which was found posted at this place.
-fn commit_turn(round: &SharedRound, dict: &Dict, me: &mut WorkSeat, place: u32)
+/// Commits the first uncommitted turn, which was found posted at this place, and answers the turn.
+pub fn commit_turn(round: &SharedRound, dict: &Dict, me: &mut WorkSeat, place: u32) -> u32
     requires seat { IsSeatOf round.now me.old }
     requires dict { dict.now ≡ dict_of round.now }
     requires scan { (knows me.old).core.hold ≡ hold_at me.old.committed (Scan place) }
     ensures stays { Stays me.old me.new }
+    ensures turn { result ≡ me.old.committed }
     ensures view { knows me.new ≡ as_holder (knows me.old) (me.old.committed + 1) Idle }
 {
     settle(round, dict, me, place);
-    seal(round, dict, me);
+    seal(round, dict, me)
 }
 
 // Weighs the entries from this place on, and takes a seat of the first that has one left.

@@ -1,6 +1,6 @@
 -- A claimant's events keep a sound state. A draw gives each turn to one worker; a reading sees a
 -- count that only rises; a post fills a cell that was empty, since the worker claimed it.
-use Rattle.std.proofs.Common.{◌≡◌, ℕ, ◌+◌, ◌<◌, ◌≤◌, ◌≢◌, Bool, true, false, List, length, set, Option, Some, None, nat_lt, eq-eqb, ne_eqb, sym, refl, ap, subst, ◌∙◌, arith, length-set, get_or-set_same, get_or-set_other}
+use Rattle.std.proofs.Common.{◌≡◌, ℕ, ◌+◌, ◌<◌, ◌≤◌, ◌≢◌, Bool, true, false, length, set, Option, Some, None, nat_lt, eq-eqb, ne_eqb, sym, refl, ap, subst, ◌∙◌, arith, length-set, get_or-set_same, get_or-set_other}
 use Rattle.std.specs.Prelude.{slice_get}
 use Rattle.std.specs.List.{sum_by}
 use Rattle.std.proofs.lemmas.Bool.{ltb-true, ltb-false}
@@ -12,14 +12,14 @@ use Rattle.interleaving_core.specs.declared.parts.Cell.TheVariants.{Empty, Poste
 use Rattle.interleaving_core.specs.declared.parts.Claiming.{Claiming}
 use Rattle.interleaving_core.specs.declared.parts.Holding.{Holding}
 use Rattle.interleaving_core.specs.Core.{View, Core, turn_count, entry, quota_of, seats_of, is_open, cell_at, is_committed, claim_at}
-use Rattle.interleaving_core.specs.Events.{Claims, Reads, Posts, Allowed, after_claim_if, with_claim, after_read, after_post, after}
-use Rattle.interleaving_core.specs.Sound.{bit, turn_bit, done_bit, claim_bit, empty_bit, FullBefore, CellFrom, OwnTurnsFit, ClaimFits, DoesOneThing, Sound}
+use Rattle.interleaving_core.specs.Events.{Claims, Reads, Posts, IsAllowed, after_claim_if, with_claim, after_read, after_post, after}
+use Rattle.interleaving_core.specs.Sound.{bit, turn_bit, done_bit, claim_bit, empty_bit, IsFullBefore, IsCellFrom, AreSoundOwnTurns, IsSoundClaim, DoesOneThing, IsSound}
 use Rattle.interleaving_core.proofs.Places.{sum_set, term_le, sum_zero}
 use Rattle.interleaving_core.proofs.OwnTurns.{own_stays, own_moves, own_claimed, own_posted}
-use Rattle.interleaving_core.proofs.Views.{at_some, Grows, Stays, holding_stays, claimant_one, mark_stays, seats_stay, views_fit, view_step}
+use Rattle.interleaving_core.proofs.Views.{at_some, Grows, Stays, holding_stays, claimant_one, mark_stays, seats_stay, views_fit, calm_step, view_step}
 
 -- no view claims a turn that was not drawn
-unclaimed : (d : Dictatorship) (c : Core) (s : Sound d c) (k : ℕ) → c.claim_number ≤ k
+unclaimed : (d : Dictatorship) (c : Core) (s : IsSound d c) (k : ℕ) → c.claim_number ≤ k
     → sum_by (claim_bit k) c.views ≡ 0
 unclaimed d c s k far =
     sum_zero (claim_bit k) c.views
@@ -30,17 +30,8 @@ unclaimed d c s k far =
     not_at None h = refl
     not_at (Some x) h = let drawn = h x refl in ap bit (ne_eqb k x.turn (λ e. omega arith))
 
--- the state after a draw grows, and nothing that a holder weighs changes
-draw_grows : (c : Core) (views : List View)
-    → Grows c record c { claim_number = c.claim_number + 1; views = views }
-draw_grows c views = record { more = omega arith; seats = λ p. omega arith; cells = λ k j p. p }
-
-draw_stays : (c : Core) (views : List View) (h : ℕ)
-    → Stays c record c { claim_number = c.claim_number + 1; views = views } h
-draw_stays c views h = record { seats = λ p. refl; cell = λ j p. p }
-
 -- who may draw does nothing else
-free_one : (d : Dictatorship) (v : View) (k : ℕ) → Allowed d v Claims
+free_one : (d : Dictatorship) (v : View) (k : ℕ) → IsAllowed d v Claims
     → DoesOneThing (after_claim_if true v k)
 free_one d v k ok =
     record {
@@ -49,7 +40,7 @@ free_one d v k ok =
       leaver = λ is. absurd (cc (ok.2, is));
     }
 
-done_one : (d : Dictatorship) (v : View) (k : ℕ) → Allowed d v Claims
+done_one : (d : Dictatorship) (v : View) (k : ℕ) → IsAllowed d v Claims
     → DoesOneThing (after_claim_if false v k)
 done_one d v k ok =
     record {
@@ -59,9 +50,9 @@ done_one d v k ok =
     }
 
 pub claim_keeps : (d : Dictatorship) (c : Core) (i : ℕ) (v : View) (b : Bool)
-    → nat_lt c.claim_number (turn_count d) ≡ b → Sound d c → slice_get c.views i ≡ Some v
-    → Allowed d v Claims
-    → Sound d record c {
+    → nat_lt c.claim_number (turn_count d) ≡ b → IsSound d c → slice_get c.views i ≡ Some v
+    → IsAllowed d v Claims
+    → IsSound d record c {
       claim_number = c.claim_number + 1;
       views = set c.views i (after_claim_if b v c.claim_number);
     }
@@ -70,112 +61,90 @@ claim_keeps d c i v true drawn s at ok =
     let inside : n < turn_count d = ltb-true n (turn_count d) drawn in
     let w : View = after_claim_if true v n in
     let e : Core = record c { claim_number = n + 1; views = set c.views i w } in
-    let g : Grows c e = draw_grows c (set c.views i w) in
-    let f = s.views i v at in
-    let own = subst (OwnTurnsFit d c v.own) ok.0 f.own in
+    let own = subst (AreSoundOwnTurns d c v.own) ok.0 (s.views i v at).own in
+    calm_step d c s i v w (n + 1) c.mark_held c.mark_number at (omega arith)
+    (mark_stays d c.mark_held c.mark_number c.views s.count i v w at refl s.mark)
     record {
-      count = s.count;
-      mark = mark_stays d c.mark_held c.mark_number c.views s.count i v w at refl s.mark;
-      cells = s.cells;
-      seats = seats_stay d c.seats c.views s.count i v w at (λ p. refl) s.seats;
-      posts = s.posts;
-      claims =
+      claimed = λ k l m.
+          let t = sum_set (claim_bit k) c.views i v w at in
+          let zero : turn_bit k v.claim ≡ 0 = ap (turn_bit k) ok.0 in
+          dite (ℕ_discrete k n)
+          (λ is.
+          let one : turn_bit k w.claim ≡ 1 = ap bit (eq-eqb k n is) in
+          let nobody = unclaimed d c s k (omega arith) in
+          let empty = ap empty_bit (s.claims.untouched k (omega arith)) in
+          omega arith)
+          (λ other.
+          let none : turn_bit k w.claim ≡ 0 = ap bit (ne_eqb k n other) in
+          let was = s.claims.claimed k l (omega arith) in
+          omega arith);
+      untouched = λ k l. s.claims.untouched k (omega arith);
+      few =
+          let t = sum_set done_bit c.views i v w at in
+          let few = s.claims.few in
+          let same : sum_by done_bit c.views ≡ sum_by done_bit (set c.views i w) = omega arith in
+          omega arith;
+    }
+    (λ p. refl)
+    record {
+      one = free_one d v n ok;
+      claim =
+          at_some (IsSoundClaim d e) (record { turn = n; passed = 0; met = false })
           record {
-            claimed = λ k l m.
-                let t = sum_set (claim_bit k) c.views i v w at in
-                let zero : turn_bit k v.claim ≡ 0 = ap (turn_bit k) ok.0 in
-                dite (ℕ_discrete k n)
-                (λ is.
-                let one : turn_bit k w.claim ≡ 1 = ap bit (eq-eqb k n is) in
-                let nobody = unclaimed d c s k (omega arith) in
-                let empty = ap empty_bit (s.claims.untouched k (omega arith)) in
-                omega arith)
-                (λ other.
-                let none : turn_bit k w.claim ≡ 0 = ap bit (ne_eqb k n other) in
-                let was = s.claims.claimed k l (omega arith) in
-                omega arith);
-            untouched = λ k l. s.claims.untouched k (omega arith);
-            few =
-                let t = sum_set done_bit c.views i v w at in
-                let few = s.claims.few in
-                let same : sum_by done_bit c.views ≡ sum_by done_bit (set c.views i w) =
-                omega arith in
-                omega arith;
+            turn = inside;
+            drawn = omega arith;
+            passed = omega arith;
+            full = λ k l. absurd (omega arith);
+            met = λ is. absurd (cc (is));
           };
-      views =
-          views_fit d c e s.count s.count i w g s.views
-          (λ j u other there h is. holding_stays d c e s.count h
-          (draw_stays c (set c.views i w) h.committed))
-          record {
-            one = free_one d v n ok;
-            claim =
-                at_some (ClaimFits d e) (record { turn = n; passed = 0; met = false })
-                record {
-                  turn = inside;
-                  drawn = omega arith;
-                  passed = omega arith;
-                  full = λ k l. absurd (omega arith);
-                  met = λ is. absurd (cc (is));
-                };
-            hold = λ h is. absurd (cc (ok.1, is));
-            own = own_claimed d c e v.own n (omega arith) (omega arith) inside (λ k j p. p) own;
-            past = λ is. absurd (cc (ok.2, is));
-          };
+      hold = λ h is. absurd (cc (ok.1, is));
+      own = own_claimed d c e v.own n (omega arith) (omega arith) inside (λ k j p. p) own;
+      past = λ is. absurd (cc (ok.2, is));
     }
 claim_keeps d c i v false drawn s at ok =
     let n : ℕ = c.claim_number in
     let beyond : turn_count d ≤ n = ltb-false n (turn_count d) drawn in
     let w : View = after_claim_if false v n in
     let e : Core = record c { claim_number = n + 1; views = set c.views i w } in
-    let g : Grows c e = draw_grows c (set c.views i w) in
     let f = s.views i v at in
+    calm_step d c s i v w (n + 1) c.mark_held c.mark_number at (omega arith)
+    (mark_stays d c.mark_held c.mark_number c.views s.count i v w at refl s.mark)
     record {
-      count = s.count;
-      mark = mark_stays d c.mark_held c.mark_number c.views s.count i v w at refl s.mark;
-      cells = s.cells;
-      seats = seats_stay d c.seats c.views s.count i v w at (λ p. refl) s.seats;
-      posts = s.posts;
-      claims =
-          record {
-            claimed = λ k l m.
-                let t = sum_set (claim_bit k) c.views i v w at in
-                let was = s.claims.claimed k l (omega arith) in
-                omega arith;
-            untouched = λ k l. s.claims.untouched k (omega arith);
-            few =
-                let t = sum_set done_bit c.views i v w at in
-                let few = s.claims.few in
-                let not_done : bit v.done ≡ 0 = ap bit ok.2 in
-                omega arith;
-          };
-      views =
-          views_fit d c e s.count s.count i w g s.views
-          (λ j u other there h is. holding_stays d c e s.count h
-          (draw_stays c (set c.views i w) h.committed))
-          record {
-            one = done_one d v n ok;
-            claim = λ x is. absurd (cc (ok.0, is));
-            hold = λ h is. absurd (cc (ok.1, is));
-            own = own_stays d c e v.own v.claim g.more g.cells f.own;
-            past = λ is. omega arith;
-          };
+      claimed = λ k l m.
+          let t = sum_set (claim_bit k) c.views i v w at in
+          let was = s.claims.claimed k l (omega arith) in
+          omega arith;
+      untouched = λ k l. s.claims.untouched k (omega arith);
+      few =
+          let t = sum_set done_bit c.views i v w at in
+          let few = s.claims.few in
+          let not_done : bit v.done ≡ 0 = ap bit ok.2 in
+          omega arith;
+    }
+    (λ p. refl)
+    record {
+      one = done_one d v n ok;
+      claim = λ x is. absurd (cc (ok.0, is));
+      hold = λ h is. absurd (cc (ok.1, is));
+      own = own_stays d c e v.own v.claim (omega arith) (λ k j p. p) f.own;
+      past = λ is. omega arith;
     }
 
 -- a reading: the entry is met, or it is full and passed
-pub read_keeps : (d : Dictatorship) (c : Core) (i : ℕ) (v : View) (k j : ℕ) → Sound d c
-    → slice_get c.views i ≡ Some v → Allowed d v (Reads k j) → Sound d (after d c i v (Reads k j))
+pub read_keeps : (d : Dictatorship) (c : Core) (i : ℕ) (v : View) (k j : ℕ) → IsSound d c
+    → slice_get c.views i ≡ Some v → IsAllowed d v (Reads k j) → IsSound d (after d c i v (Reads k j))
 read_keeps d c i v k j s at ok = by (is_open d c (entry d k j)) refl
   where
     mine : Claiming
     mine = record { turn = k; passed = j; met = false }
 
-    was : ClaimFits d c mine
+    was : IsSoundClaim d c mine
     was = (s.views i v at).claim mine ok.0
 
     -- with the claim that the reading makes of it
     reads : (passed : ℕ) (met : Bool)
-        → ClaimFits d c record { turn = k; passed = passed; met = met }
-        → Sound d record c { views = set c.views i (with_claim v (claim_at k passed met)) }
+        → IsSoundClaim d c record { turn = k; passed = passed; met = met }
+        → IsSound d record c { views = set c.views i (with_claim v (claim_at k passed met)) }
     reads passed met fits =
         let f = s.views i v at in
         let claim = claim_at k passed met in
@@ -183,14 +152,14 @@ read_keeps d c i v k j s at ok = by (is_open d c (entry d k j)) refl
         (λ p. refl)
         record {
           one = claimant_one v mine claim ok.0 f.one;
-          claim = at_some (ClaimFits d c) (record { turn = k; passed = passed; met = met }) fits;
+          claim = at_some (IsSoundClaim d c) (record { turn = k; passed = passed; met = met }) fits;
           hold = f.hold;
-          own = own_moves d c v.own k j passed false met (subst (OwnTurnsFit d c v.own) ok.0 f.own);
+          own = own_moves d c v.own k j passed false met (subst (AreSoundOwnTurns d c v.own) ok.0 f.own);
           past = f.past;
         }
 
     by : (b : Bool) → is_open d c (entry d k j) ≡ b
-        → Sound d record c { views = set c.views i (after_read b v k j) }
+        → IsSound d record c { views = set c.views i (after_read b v k j) }
     by true is =
         reads j true record {
           turn = was.turn;
@@ -218,7 +187,7 @@ read_keeps d c i v k j s at ok = by (is_open d c (entry d k j)) refl
 -- ---- a post
 
 -- a claimed turn has an empty cell
-claimed_open : (d : Dictatorship) (c : Core) (s : Sound d c) (i : ℕ) (v : View) (x : Claiming)
+claimed_open : (d : Dictatorship) (c : Core) (s : IsSound d c) (i : ℕ) (v : View) (x : Claiming)
     → slice_get c.views i ≡ Some v → v.claim ≡ Some x → cell_at c x.turn ≡ Empty
 claimed_open d c s i v x at is =
     let f = (s.views i v at).claim x is in
@@ -241,9 +210,9 @@ le_or : (a b : ℕ) → (b < a → ⊥) → a ≤ b
 le_or a b h =
     elim (native.Mathlib.Decide.dec_le a b) [ yes l ↦ l | no n ↦ absurd (h (omega arith)) ]
 
-pub post_keeps : (d : Dictatorship) (c : Core) (i : ℕ) (v : View) (k j : ℕ) (met : Bool) → Sound d c
-    → slice_get c.views i ≡ Some v → Allowed d v (Posts k j met)
-    → Sound d (after d c i v (Posts k j met))
+pub post_keeps : (d : Dictatorship) (c : Core) (i : ℕ) (v : View) (k j : ℕ) (met : Bool) → IsSound d c
+    → slice_get c.views i ≡ Some v → IsAllowed d v (Posts k j met)
+    → IsSound d (after d c i v (Posts k j met))
 post_keeps d c i v k j met s at ok =
     let w : View = after_post v j in
     let e : Core = after d c i v (Posts k j met) in
@@ -266,8 +235,8 @@ post_keeps d c i v k j met s at ok =
       seats = λ p. omega arith;
       cells = λ x y p.
           dite (ℕ_discrete x k)
-          (λ is. absurd (subst (λ (z : Cell). CellFrom z y) (ap (cell_at c) is ∙ empty) p))
-          (λ n. subst (λ (z : Cell). CellFrom z y) (sym (else_ x n)) p);
+          (λ is. absurd (subst (λ (z : Cell). IsCellFrom z y) (ap (cell_at c) is ∙ empty) p))
+          (λ n. subst (λ (z : Cell). IsCellFrom z y) (sym (else_ x n)) p);
     } in
     let stays : (h : ℕ) → Stays c e h =
     λ h.
@@ -299,7 +268,7 @@ post_keeps d c i v k j met s at ok =
           (λ is.
           let found : Posted j ≡ Posted y = sym here ∙ ap (cell_at e) (sym is) ∙ p in
           let same : j ≡ y = cc (found) in
-          subst (λ (z : ℕ × ℕ). (z.1 ≤ length (list_at d z.0)) × FullBefore d c z.0 z.1)
+          subst (λ (z : ℕ × ℕ). (z.1 ≤ length (list_at d z.0)) × IsFullBefore d c z.0 z.1)
           (λ n. (sym is n, same n)) (claim.passed, claim.full))
           (λ n. s.posts x y (sym (else_ x n) ∙ p));
       claims =
@@ -339,7 +308,7 @@ post_keeps d c i v k j met s at ok =
             hold = λ h is. absurd (no_hold h is);
             own =
                 own_posted d c e v.own k j met inside drawn (omega arith) here g.cells
-                (subst (OwnTurnsFit d c v.own) ok.0 f.own);
+                (subst (AreSoundOwnTurns d c v.own) ok.0 f.own);
             past = f.past;
           };
     }

@@ -9,12 +9,12 @@ use Rattle.interleaving_core.specs.declared.parts.Phase.TheVariants.{Idle, Halte
 use Rattle.interleaving_core.specs.declared.parts.Holding.{Holding}
 use Rattle.interleaving_core.specs.Core.{View, Core, fresh_view, entry, seats_of, hold_at}
 use Rattle.interleaving_core.specs.Events.{CanSeal}
-use Rattle.interleaving_core.specs.Sound.{bit, some_bit, hold_bit, phase_seat_bit, holder_seat_bit, seat_bit, seats_after, PostedUpTo, PhaseFits, Sound}
+use Rattle.interleaving_core.specs.Sound.{bit, some_bit, hold_bit, phase_seat_bit, holder_seat_bit, seat_bit, seats_after, IsPostedUpTo, IsSoundPhase, IsSound}
 use Rattle.interleaving_core.proofs.Places.{each_set, sum_set, terms_le, term_le, sum_zero}
 use Rattle.interleaving_core.proofs.Choices.{choice_is, takes_seat, takes_none}
 
 -- nobody else holds
-pub lone : (d : Dictatorship) (c : Core) (s : Sound d c) (i : ℕ) (v : View)
+pub lone : (d : Dictatorship) (c : Core) (s : IsSound d c) (i : ℕ) (v : View)
     → slice_get c.views i ≡ Some v → (h : Holding) → v.hold ≡ Some h → (j : ℕ) (u : View) → j ≢ i
     → slice_get c.views j ≡ Some u → (g : Holding) → u.hold ≡ Some g → ⊥
 lone d c s i v at h is j u other there g its =
@@ -30,7 +30,7 @@ lone d c s i v at h is j u other there g its =
     bit_le false = omega arith
 
 -- the mark is held where a view holds it
-pub held_is : (d : Dictatorship) (c : Core) (s : Sound d c) (i : ℕ) (v : View)
+pub held_is : (d : Dictatorship) (c : Core) (s : IsSound d c) (i : ℕ) (v : View)
     → slice_get c.views i ≡ Some v → (h : Holding) → v.hold ≡ Some h → c.mark_held ≡ true
 held_is d c s i v at h is =
     let a : some_bit v.hold ≡ 1 = ap some_bit is in
@@ -43,7 +43,7 @@ held_is d c s i v at h is =
     up false l = absurd (omega arith)
 
 -- what is seated is what the holder seated
-pub seated_is : (d : Dictatorship) (c : Core) (s : Sound d c) (i : ℕ) (v : View)
+pub seated_is : (d : Dictatorship) (c : Core) (s : IsSound d c) (i : ℕ) (v : View)
     → slice_get c.views i ≡ Some v → (h : Holding) → v.hold ≡ Some h → (p : ℕ)
     → sum_by (seat_bit d p) c.views ≡ phase_seat_bit d p h.committed h.phase
 seated_is d c s i v at h is p =
@@ -62,7 +62,7 @@ seated_is d c s i v at h is p =
     nobody (Some g) n = absurd (n g refl)
 
 -- where the holder has seated nobody, the seats are those of the committed turns
-pub seats_now : (d : Dictatorship) (c : Core) (s : Sound d c) (i : ℕ) (v : View)
+pub seats_now : (d : Dictatorship) (c : Core) (s : IsSound d c) (i : ℕ) (v : View)
     → slice_get c.views i ≡ Some v → (h : Holding) → v.hold ≡ Some h
     → ((p : ℕ) → phase_seat_bit d p h.committed h.phase ≡ 0) → (p : ℕ) → p < length d.quota
     → seats_of c p ≡ seats_after d h.committed p
@@ -76,18 +76,18 @@ seats_now d c s i v at h is none p l =
 -- a turn that may be committed: it is posted, the place is its choice, and the seats are those
 -- after it
 pub record IsDecided (d : Dictatorship) (c : Core) (h j : ℕ) : Type 0 where
-  pub posted : PostedUpTo d c h j
+  pub posted : IsPostedUpTo d c h j
   pub place : choice d h ≡ j
   pub seats : (p : ℕ) → p < length d.quota → seats_of c p ≡ seats_after d (suc h) p
 
 pub decided : (d : Dictatorship) (c : Core) (i : ℕ) (v : View) (h j : ℕ) (phase : Phase)
-    → IsValidDictatorship d → (s : Sound d c) → slice_get c.views i ≡ Some v
+    → IsValidDictatorship d → (s : IsSound d c) → slice_get c.views i ≡ Some v
     → v.hold ≡ hold_at h phase
-    → CanSeal (length (list_at d h)) j phase → PhaseFits d c h phase → IsDecided d c h j
+    → CanSeal (length (list_at d h)) j phase → IsSoundPhase d c h phase → IsDecided d c h j
 decided d c i v h j (Seated k filled) valid s at hold is fits =
     let mine : Holding = record { committed = h; phase = Seated k filled } in
     record {
-      posted = subst (PostedUpTo d c h) is fits.0;
+      posted = subst (IsPostedUpTo d c h) is fits.0;
       place = fits.2 ∙ is;
       seats = λ p l.
           let n = s.seats.counts p l in
@@ -109,7 +109,7 @@ decided d c i v h j (Scan k) valid s at hold is fits =
     omega arith)
     (λ l. absurd (omega arith)) in
     record {
-      posted = subst (PostedUpTo d c h) is.0 fits.0;
+      posted = subst (IsPostedUpTo d c h) is.0 fits.0;
       place = none ∙ sym is.1;
       seats = λ p l. let now = same p l in let next = takes_none d h p none in omega arith;
     }

@@ -3,22 +3,22 @@ use Rattle.std.proofs.Common.{◌≡◌, ℕ, List, [], ◌∷◌, length, Some,
 use Rattle.std.specs.Prelude.{slice_get}
 use Rattle.std.proofs.Math.ListN.{length-replicate}
 use Rattle.market.specs.Dictatorships.{Dictatorship, IsValidDictatorship}
-use Rattle.market.proofs.Turns.{taken-zero}
+use Rattle.market.proofs.Turns.{seats_taken-zero}
 use Rattle.interleaving_core.specs.declared.parts.Cell.TheVariants.{Empty, Posted}
 use Rattle.interleaving_core.specs.declared.events.CoreEvent.{CoreEvent}
 use Rattle.interleaving_core.specs.declared.events.Told.{Told}
 use Rattle.interleaving_core.specs.Core.{View, Core, fresh_view, opening, turn_count, is_committed}
-use Rattle.interleaving_core.specs.Events.{Action, Claims, Reads, Posts, Takes, Looks, Weighs, Seats, Seals, Releases, Allowed, after}
+use Rattle.interleaving_core.specs.Events.{Action, Claims, Reads, Posts, Takes, Looks, Weighs, Seats, Seals, Releases, IsAllowed, after}
 use Rattle.interleaving_core.specs.Runs.{IsStep, IsRun}
-use Rattle.interleaving_core.specs.Sound.{hold_bit, seat_bit, ViewFits, Sound}
+use Rattle.interleaving_core.specs.Sound.{hold_bit, seat_bit, IsSoundView, IsSound}
 use Rattle.interleaving_core.proofs.Places.{sum_replicate, at_replicate, get_replicate}
 use Rattle.interleaving_core.proofs.OwnTurns.{own_nil}
 use Rattle.interleaving_core.proofs.ClaimantKeeps.{read_keeps, claim_keeps, post_keeps}
-use Rattle.interleaving_core.proofs.MarkKeeps.{take_keeps, look_keeps, weigh_keeps, seat_keeps, seal_keeps, release_keeps}
+use Rattle.interleaving_core.proofs.HolderKeeps.{take_keeps, look_keeps, weigh_keeps, seat_keeps, seal_keeps, release_keeps}
 
 -- an allowed event keeps a sound state
 pub keeps : (d : Dictatorship) (c : Core) (i : ℕ) (v : View) (e : Action) → IsValidDictatorship d
-    → Sound d c → slice_get c.views i ≡ Some v → Allowed d v e → Sound d (after d c i v e)
+    → IsSound d c → slice_get c.views i ≡ Some v → IsAllowed d v e → IsSound d (after d c i v e)
 keeps d c i v Claims valid = claim_keeps d c i v (nat_lt c.claim_number (turn_count d)) refl
 keeps d c i v (Reads k j) valid = read_keeps d c i v k j
 keeps d c i v (Posts k j met) valid = post_keeps d c i v k j met
@@ -30,7 +30,7 @@ keeps d c i v (Seals h j phase) valid = seal_keeps d c i v h j phase valid
 keeps d c i v (Releases h phase) valid = release_keeps d c i v h phase
 
 -- the opening is sound
-pub begins : (d : Dictatorship) (workers : ℕ) → IsValidDictatorship d → Sound d (opening d workers)
+pub begins : (d : Dictatorship) (workers : ℕ) → IsValidDictatorship d → IsSound d (opening d workers)
 begins d workers valid =
     let n = length d.lists in
     record {
@@ -53,7 +53,7 @@ begins d workers valid =
             each_programme = valid.fills;
             counts = λ p l.
                 let nobody = sum_replicate (seat_bit d p) workers fresh_view refl in
-                let none = taken-zero d p in
+                let none = seats_taken-zero d p in
                 omega arith;
           };
       posts = λ k j p.
@@ -65,7 +65,7 @@ begins d workers valid =
             few = omega arith;
           };
       views = λ i v at.
-          subst (ViewFits d (opening d workers) 0) (at_replicate workers i fresh_view v at)
+          subst (IsSoundView d (opening d workers) 0) (at_replicate workers i fresh_view v at)
           record {
             one =
                 record {
@@ -82,13 +82,13 @@ begins d workers valid =
 
 -- one step keeps a sound state
 pub step_keeps : (d : Dictatorship) (c e : Core) (i : ℕ) (event : CoreEvent) (told : Told)
-    → IsValidDictatorship d → Sound d c → IsStep d c i event told e → Sound d e
+    → IsValidDictatorship d → IsSound d c → IsStep d c i event told e → IsSound d e
 step_keeps d c e i event told valid s x =
-    subst (Sound d) (sym x.leads) (keeps d c i x.view x.action valid s x.whose x.allowed)
+    subst (IsSound d) (sym x.leads) (keeps d c i x.view x.action valid s x.whose x.allowed)
 
 -- each step of a run keeps a sound state
 pub run_keeps : (d : Dictatorship) (c : Core) (events : List (ℕ × CoreEvent)) (last : Core)
-    → IsValidDictatorship d → Sound d c → IsRun d c events last → Sound d last
-run_keeps d c [] last valid s l = subst (Sound d) (sym l) s
+    → IsValidDictatorship d → IsSound d c → IsRun d c events last → IsSound d last
+run_keeps d c [] last valid s l = subst (IsSound d) (sym l) s
 run_keeps d c (x ∷ xs) last valid s l =
     run_keeps d l.1 xs last valid (step_keeps d c l.1 x.0 x.1 l.0 valid s l.2) l.3

@@ -4,7 +4,7 @@ pub mod OwnTurns
 pub mod Views
 pub mod Holder
 pub mod ClaimantKeeps
-pub mod MarkKeeps
+pub mod HolderKeeps
 pub mod Keeps
 pub mod Prefix
 pub mod Machines

@@ -15,7 +15,7 @@ use Rattle.interleaving_core.specs.declared.state.CoreState.TheInside.{Inside}
 use Rattle.interleaving_core.specs.Core.{turn_count, entry, quota_of, seats_of, is_open, cell_at, hold_at}
 use Rattle.interleaving_core.specs.Events.{Claims, Reads, Posts, Takes, Looks, Weighs, Seats, Seals, Releases, with_hold, after_claim_if, after_read, after_post, after_take, phase_after_look, phase_after_weigh, is_last_seat, told_of_claim, told_of_read, told_of_take, told_of_look, told_of_weigh}
 use Rattle.interleaving_core.specs.Machines.{view_of, machine_of, IsKept}
-use Rattle.interleaving_core.proofs.Machines.{IsAllowed, Acted, acted}
+use Rattle.interleaving_core.proofs.Machines.{MayAct, Acted, acted}
 
 -- what a reading of a seat count finds
 opens : (s : Inside) (k j : ℕ) (open' found : Bool) (seats : List ℕ) → found ≡ open'
@@ -44,7 +44,7 @@ not_posted (Posted j) none = absurd (none j refl)
 not_posted (Committed j) none = (refl, refl)
 
 module _ (s : Inside) (i : ℕ) (w u : Worker) (room : vec_capacity u.own ≡ vec_capacity w.own) where
-  pub draws_turn : IsAllowed s i w Claims → s.claim_number < turn_count s.dict
+  pub draws_turn : MayAct s i w Claims → s.claim_number < turn_count s.dict
       → view_of u ≡ after_claim_if true (view_of w) s.claim_number
       → Acted s record s {
         claim_number = s.claim_number + 1;
@@ -56,7 +56,7 @@ module _ (s : Inside) (i : ℕ) (w u : Worker) (room : vec_capacity u.own ≡ ve
       acted s _ i w u Claims _ x (ap (λ b. told_of_claim b k) (sym test))
       (is ∙ ap (λ b. after_claim_if b (view_of w) k) (sym test)) room refl refl refl
 
-  pub finds_no_turn : IsAllowed s i w Claims → turn_count s.dict ≤ s.claim_number
+  pub finds_no_turn : MayAct s i w Claims → turn_count s.dict ≤ s.claim_number
       → view_of u ≡ after_claim_if false (view_of w) s.claim_number
       → Acted s record s {
         claim_number = s.claim_number + 1;
@@ -68,7 +68,7 @@ module _ (s : Inside) (i : ℕ) (w u : Worker) (room : vec_capacity u.own ≡ ve
       acted s _ i w u Claims _ x (ap (λ b. told_of_claim b k) (sym test))
       (is ∙ ap (λ b. after_claim_if b (view_of w) k) (sym test)) room refl refl refl
 
-  pub reads_entry : (k j : ℕ) (open' found : Bool) (seats : List ℕ) → IsAllowed s i w (Reads k j)
+  pub reads_entry : (k j : ℕ) (open' found : Bool) (seats : List ℕ) → MayAct s i w (Reads k j)
       → found ≡ open'
       → found ≡ nat_lt (get_or seats (entry s.dict k j) 0) (quota_of s.dict (entry s.dict k j))
       → seats ≡ s.seats.items → view_of u ≡ after_read open' (view_of w) k j
@@ -78,7 +78,7 @@ module _ (s : Inside) (i : ℕ) (w u : Worker) (room : vec_capacity u.own ≡ ve
       acted s _ i w u (Reads k j) _ x (ap told_of_read same)
       (is ∙ ap (λ b. after_read b (view_of w) k j) same) room refl refl refl
 
-  pub posts_turn : (k j : ℕ) (met : Bool) → IsAllowed s i w (Posts k j met)
+  pub posts_turn : (k j : ℕ) (met : Bool) → MayAct s i w (Posts k j met)
       → view_of u ≡ after_post (view_of w) j
       → Acted s record s {
         cells = with_item s.cells k (Posted j);
@@ -86,7 +86,7 @@ module _ (s : Inside) (i : ℕ) (w u : Worker) (room : vec_capacity u.own ≡ ve
       } i Post (tells.Posted j)
   posts_turn k j met x is = acted s _ i w u (Posts k j met) _ x refl is room refl refl refl
 
-  pub tries_mark : (held : Bool) → IsAllowed s i w Takes → held ≡ s.mark_held
+  pub tries_mark : (held : Bool) → MayAct s i w Takes → held ≡ s.mark_held
       → view_of u ≡ after_take (view_of w) held s.mark_number
       → Acted s record s { mark_held = true; workers = with_item s.workers i u } i Take
       (told_of_take held s.mark_number)
@@ -94,7 +94,7 @@ module _ (s : Inside) (i : ℕ) (w u : Worker) (room : vec_capacity u.own ≡ ve
       acted s _ i w u Takes _ x (ap (λ b. told_of_take b s.mark_number) test)
       (is ∙ ap (λ b. after_take (view_of w) b s.mark_number) test) room refl refl refl
 
-  looks_at_cell : (c : ℕ) (cell : Cell) → IsAllowed s i w (Looks c)
+  looks_at_cell : (c : ℕ) (cell : Cell) → MayAct s i w (Looks c)
       → cell ≡ get_or s.cells.items c cell
       → view_of u ≡ with_hold (view_of w) (hold_at c (phase_after_look cell))
       → Acted s record s { workers = with_item s.workers i u } i Look (told_of_look cell)
@@ -104,7 +104,7 @@ module _ (s : Inside) (i : ℕ) (w u : Worker) (room : vec_capacity u.own ≡ ve
       (is ∙ ap (λ (y : Cell). with_hold (view_of w) (hold_at c (phase_after_look y))) same) room refl
       refl refl
 
-  pub finds_post : (c j : ℕ) (cell : Cell) → IsAllowed s i w (Looks c)
+  pub finds_post : (c j : ℕ) (cell : Cell) → MayAct s i w (Looks c)
       → cell ≡ get_or s.cells.items c cell → cell ≡ Posted j
       → view_of u ≡ with_hold (view_of w) (hold_at c (Scan j))
       → Acted s record s { workers = with_item s.workers i u } i Look (tells.Found j)
@@ -113,7 +113,7 @@ module _ (s : Inside) (i : ℕ) (w u : Worker) (room : vec_capacity u.own ≡ ve
       subst (λ (told : Told). Acted s record s { workers = with_item s.workers i u } i Look told)
       (ap told_of_look found) (looks_at_cell c cell x at (is ∙ ap look (sym found)))
 
-  pub finds_nothing : (c : ℕ) (cell : Cell) → IsAllowed s i w (Looks c)
+  pub finds_nothing : (c : ℕ) (cell : Cell) → MayAct s i w (Looks c)
       → cell ≡ get_or s.cells.items c cell → ((j : ℕ) → cell ≡ Posted j → ⊥)
       → view_of u ≡ with_hold (view_of w) (hold_at c Halted)
       → Acted s record s { workers = with_item s.workers i u } i Look tells.Nothing
@@ -123,7 +123,7 @@ module _ (s : Inside) (i : ℕ) (w u : Worker) (room : vec_capacity u.own ≡ ve
       subst (λ (told : Told). Acted s record s { workers = with_item s.workers i u } i Look told)
       halts.1 (looks_at_cell c cell x at (is ∙ ap look (sym halts.0)))
 
-  pub weighs_entry : (c j : ℕ) (open' found : Bool) (seats : List ℕ) → IsAllowed s i w (Weighs c j)
+  pub weighs_entry : (c j : ℕ) (open' found : Bool) (seats : List ℕ) → MayAct s i w (Weighs c j)
       → found ≡ open'
       → found ≡ nat_lt (get_or seats (entry s.dict c j) 0) (quota_of s.dict (entry s.dict c j))
       → seats ≡ s.seats.items
@@ -135,7 +135,7 @@ module _ (s : Inside) (i : ℕ) (w u : Worker) (room : vec_capacity u.own ≡ ve
       (is ∙ ap (λ b. with_hold (view_of w) (hold_at c (phase_after_weigh b j))) same) room refl refl
       refl
 
-  pub takes_seat : (c j p n : ℕ) (filled : Bool) → IsAllowed s i w (Seats c j) → p ≡ entry s.dict c j
+  pub takes_seat : (c j p n : ℕ) (filled : Bool) → MayAct s i w (Seats c j) → p ≡ entry s.dict c j
       → n ≡ seats_of (machine_of s).core p → filled ≡ nat_le (quota_of s.dict p) (n + 1)
       → view_of u ≡ with_hold (view_of w) (hold_at c (Seated j filled))
       → Acted s record s {
@@ -157,7 +157,7 @@ module _ (s : Inside) (i : ℕ) (w u : Worker) (room : vec_capacity u.own ≡ ve
       (acted s _ i w u (Seats c j) _ x (ap (λ b. tells.Seated b) last)
       (is ∙ ap (λ b. with_hold (view_of w) (hold_at c (Seated j b))) last) room refl refl refl)
 
-  pub seals_turn : (c j : ℕ) (phase : Phase) → IsAllowed s i w (Seals c j phase)
+  pub seals_turn : (c j : ℕ) (phase : Phase) → MayAct s i w (Seals c j phase)
       → view_of u ≡ with_hold (view_of w) (hold_at (c + 1) Idle)
       → Acted s record s {
         cells = with_item s.cells c (Committed j);
@@ -165,7 +165,7 @@ module _ (s : Inside) (i : ℕ) (w u : Worker) (room : vec_capacity u.own ≡ ve
       } i Seal (tells.Sealed c)
   seals_turn c j phase x is = acted s _ i w u (Seals c j phase) _ x refl is room refl refl refl
 
-  pub frees_mark : (c : ℕ) (phase : Phase) → IsAllowed s i w (Releases c phase)
+  pub frees_mark : (c : ℕ) (phase : Phase) → MayAct s i w (Releases c phase)
       → view_of u ≡ with_hold (view_of w) None
       → Acted s record s {
         mark_held = false;

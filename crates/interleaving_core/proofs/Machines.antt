@@ -6,7 +6,8 @@ use Rattle.std.proofs.lemmas.List.{map-set, length-map, map-append, length-repli
 use Rattle.std.proofs.lemmas.List.Sums.{sum_by-le}
 use Rattle.std.proofs.lemmas.Option.{slice_get_read, slice_get-map, get_or_from_slice_get}
 use Rattle.market.specs.Dictatorships.{Dictatorship, IsValidDictatorship, list_at}
-use Rattle.market.proofs.Turns.{taken-le-quota}
+use Rattle.market.proofs.Turns.{seats_taken-le-quota}
+use Rattle.interleaving_core.specs.declared.limits.TheConstants.{MAX_WORKERS}
 use Rattle.interleaving_core.specs.declared.parts.Claiming.{Claiming}
 use Rattle.interleaving_core.specs.declared.parts.OwnTurn.{OwnTurn}
 use Rattle.interleaving_core.specs.declared.parts.Phase.{Phase}
@@ -17,9 +18,9 @@ use Rattle.interleaving_core.specs.declared.events.Told.{Told}
 use Rattle.interleaving_core.specs.declared.team.Worker.{Worker}
 use Rattle.interleaving_core.specs.declared.state.CoreState.TheInside.{Inside}
 use Rattle.interleaving_core.specs.Core.{View, Core, Machine, fresh_view, opening, turn_count, entry, hold_at}
-use Rattle.interleaving_core.specs.Events.{Action, event_of, Seals, CanSeal, Allowed, Refuses, view_after, words_after, after, told_by}
+use Rattle.interleaving_core.specs.Events.{Action, event_of, Seals, CanSeal, IsAllowed, Refuses, view_after, words_after, after, told_by}
 use Rattle.interleaving_core.specs.Runs.{IsStep, IsNotNow}
-use Rattle.interleaving_core.specs.Sound.{bit, done_bit, phase_seat_bit, holder_seat_bit, seat_bit, PhaseFits, ViewFits, Sound}
+use Rattle.interleaving_core.specs.Sound.{bit, done_bit, phase_seat_bit, holder_seat_bit, seat_bit, IsSoundPhase, IsSoundView, IsSound}
 use Rattle.interleaving_core.specs.Machines.{view_of, machine_of, IsKept, IsTeam, IsWithin}
 use Rattle.interleaving_core.proofs.Places.{each_set, at_snoc}
 use Rattle.interleaving_core.proofs.Keeps.{keeps, begins}
@@ -42,16 +43,16 @@ views_at : (ws : List Worker) (i : ℕ) (w : Worker) → slice_get ws i ≡ Some
 views_at ws i w at = slice_get-map view_of ws i ∙ ap (λ o. option_map view_of o) at
 
 -- the worker i, which is w, may act so
-pub record IsAllowed (s : Inside) (i : ℕ) (w : Worker) (a : Action) : Type 0 where
+pub record MayAct (s : Inside) (i : ℕ) (w : Worker) (a : Action) : Type 0 where
   pub kept : IsKept s
   pub there : slice_get s.workers.items i ≡ Some w
-  pub ok : Allowed s.dict (view_of w) a
+  pub ok : IsAllowed s.dict (view_of w) a
 
 -- the same, where the worker was read once for the condition and once for the effect
 pub allowed : (s : Inside) (now : Machine) (i : ℕ) (w u : Worker) (a : Action) → IsKept s
     → machine_of s ≡ now
     → i < length now.core.views → w ≡ get_or s.workers.items i w → u ≡ get_or s.workers.items i u
-    → Allowed s.dict (view_of w) a → IsAllowed s i u a
+    → IsAllowed s.dict (view_of w) a → MayAct s i u a
 allowed s now i w u a k is l e f ok =
     let here : i < length (map view_of s.workers.items) =
     subst (λ (m : Machine). i < length m.core.views) (sym is) l in
@@ -60,7 +61,7 @@ allowed s now i w u a k is l e f ok =
     record {
       kept = k;
       there = again;
-      ok = subst (λ (x : Worker). Allowed s.dict (view_of x) a)
+      ok = subst (λ (x : Worker). IsAllowed s.dict (view_of x) a)
           (same_worker s.workers.items i w u first again) ok;
     }
 
@@ -71,7 +72,7 @@ pub record Acted (s t : Inside) (i : ℕ) (event : CoreEvent) (told : Told) : Ty
       → (t.dict ≡ now.dict) × IsStep now.dict now.core i event told (machine_of t).core
 
 -- the worker i makes the action: its view and the words become those after it
-pub acted : (s t : Inside) (i : ℕ) (w u : Worker) (a : Action) (told : Told) → IsAllowed s i w a
+pub acted : (s t : Inside) (i : ℕ) (w u : Worker) (a : Action) (told : Told) → MayAct s i w a
     → told ≡ told_by s.dict (machine_of s).core a
     → view_of u ≡ view_after s.dict (machine_of s).core (view_of w) a
     → vec_capacity u.own ≡ vec_capacity w.own → t.dict ≡ s.dict
@@ -96,8 +97,8 @@ acted s t i w u a told x tells is room dict workers core =
           record {
             valid = subst IsValidDictatorship (sym dict) x.kept.valid;
             sound =
-                subst (λ (d : Dictatorship). Sound d (machine_of t).core) (sym dict)
-                (subst (Sound s.dict) (sym next) sound);
+                subst (λ (d : Dictatorship). IsSound d (machine_of t).core) (sym dict)
+                (subst (IsSound s.dict) (sym next) sound);
             few =
                 let few = x.kept.few in
                 let same = ap (λ (l : List Worker). length l) workers in
@@ -183,14 +184,14 @@ within s now i w k is l e =
       valid = k.valid;
       claimed = λ x claim. (fits.claim x claim).turn;
       weighed = λ h j hold phase.
-          (subst (PhaseFits s.dict (machine_of s).core h.committed) phase
+          (subst (IsSoundPhase s.dict (machine_of s).core h.committed) phase
           (fits.hold h hold).phase).0.0;
     }
 
 -- what the state says of a worker's view
 pub view_fits : (s : Inside) (i : ℕ) (w : Worker) → (k : IsKept s)
     → slice_get s.workers.items i ≡ Some w
-    → ViewFits s.dict (machine_of s).core (k.sound).count (view_of w)
+    → IsSoundView s.dict (machine_of s).core (k.sound).count (view_of w)
 view_fits s i w k at =
     let sound = k.sound in
     sound.views i (view_of w) (views_at s.workers.items i w at)
@@ -241,13 +242,13 @@ ready_within s i w c j k at hold =
 
 -- the turn that is committed
 pub sealed_within : (s : Inside) (i : ℕ) (w : Worker) (c j : ℕ) (phase : Phase) → IsKept s
-    → slice_get s.workers.items i ≡ Some w → Allowed s.dict (view_of w) (Seals c j phase)
+    → slice_get s.workers.items i ≡ Some w → IsAllowed s.dict (view_of w) (Seals c j phase)
     → c < turn_count s.dict
 sealed_within s i w c j phase k at ok =
     by phase ok.1 ((view_fits s i w k at).hold record { committed = c; phase = phase } ok.0).phase
   where
     by : (p : Phase) → CanSeal (length (list_at s.dict c)) j p
-        → PhaseFits s.dict (machine_of s).core c p → c < turn_count s.dict
+        → IsSoundPhase s.dict (machine_of s).core c p → c < turn_count s.dict
     by Idle can fits = absurd can
     by Halted can fits = absurd can
     by (Scan n) can fits = fits.0.0
@@ -285,7 +286,7 @@ seats_small s p k l =
     let c : Core = (machine_of s).core in
     let sound = k.sound in
     let count = sound.seats.counts p l in
-    let taken = taken-le-quota s.dict p (k.valid.filled p l) sound.count in
+    let taken = seats_taken-le-quota s.dict p (k.valid.filled p l) sound.count in
     let quota = k.valid.quotas p l in
     let all = sum_by-le (seat_bit s.dict p) 1 c.views
     (λ i d m. seated_le s.dict p (get_or c.views i d)) in
@@ -312,7 +313,7 @@ team_more n turns ws w t fresh room = record {
 }
 
 -- the machine of the opening state and such workers is kept
-pub team_kept : (s : Inside) (workers : ℕ) → IsValidDictatorship s.dict → workers ≤ 64
+pub team_kept : (s : Inside) (workers : ℕ) → IsValidDictatorship s.dict → workers ≤ MAX_WORKERS
     → (machine_of s).core ≡ opening s.dict workers
     → IsTeam workers (turn_count s.dict) s.workers.items → IsKept s
 team_kept s workers valid few is t =
@@ -320,7 +321,7 @@ team_kept s workers valid few is t =
     let views = length-map s.workers.items view_of in
     record {
       valid = valid;
-      sound = subst (Sound s.dict) (sym is) (begins s.dict workers valid);
+      sound = subst (IsSound s.dict) (sym is) (begins s.dict workers valid);
       few = omega arith;
       room = t.room;
     }

@@ -9,7 +9,7 @@ use Rattle.interleaving_core.specs.declared.parts.Claiming.{Claiming}
 use Rattle.interleaving_core.specs.declared.parts.OwnTurn.{OwnTurn}
 use Rattle.interleaving_core.specs.Core.{Core, turn_count, claim_at, cell_at}
 use Rattle.interleaving_core.specs.Events.{with_place}
-use Rattle.interleaving_core.specs.Sound.{CellFrom, OwnTurnFits, OwnTurnsFit}
+use Rattle.interleaving_core.specs.Sound.{IsCellFrom, IsSoundOwnTurn, AreSoundOwnTurns}
 use Rattle.interleaving_core.proofs.Places.{at_snoc, at_longer, at_last}
 
 abbrev turn_in : Option Claiming → ℕ
@@ -18,8 +18,8 @@ turn_in (Some x) = x.turn
 
 pub own_stays : (d : Dictatorship) (c e : Core) (own : List OwnTurn) (claim : Option Claiming)
     → c.claim_number ≤ e.claim_number
-    → ((k j : ℕ) → CellFrom (cell_at c k) j → CellFrom (cell_at e k) j) → OwnTurnsFit d c own claim
-    → OwnTurnsFit d e own claim
+    → ((k j : ℕ) → IsCellFrom (cell_at c k) j → IsCellFrom (cell_at e k) j) → AreSoundOwnTurns d c own claim
+    → AreSoundOwnTurns d e own claim
 own_stays d c e own claim more cells f = record {
   each = λ i x at. let a = f.each i x at in
       (a.0, omega arith, ⊎_elim (λ p. inl p) (λ p. inr (p.0, p.1, cells x.turn p.0 p.2)) a.2);
@@ -27,7 +27,7 @@ own_stays d c e own claim more cells f = record {
   last = f.last;
 }
 
-pub own_nil : (d : Dictatorship) (c : Core) → OwnTurnsFit d c [] None
+pub own_nil : (d : Dictatorship) (c : Core) → AreSoundOwnTurns d c [] None
 own_nil d c =
     record {
       each = λ i x at. absurd (cc (at));
@@ -37,7 +37,7 @@ own_nil d c =
 
 -- the claim of the same turn, at another place
 pub own_moves : (d : Dictatorship) (c : Core) (own : List OwnTurn) (k i j : ℕ) (a b : Bool)
-    → OwnTurnsFit d c own (claim_at k i a) → OwnTurnsFit d c own (claim_at k j b)
+    → AreSoundOwnTurns d c own (claim_at k i a) → AreSoundOwnTurns d c own (claim_at k j b)
 own_moves d c own k i j a b f = record {
   each = λ n x at. let t = f.each n x at in (
     t.0,
@@ -70,8 +70,8 @@ rise_snoc own z rise below i j x y ex ey l = ⊎_elim
 -- a turn is claimed
 pub own_claimed : (d : Dictatorship) (c e : Core) (own : List OwnTurn) (found : ℕ)
     → c.claim_number ≤ found → found < e.claim_number → found < turn_count d
-    → ((k j : ℕ) → CellFrom (cell_at c k) j → CellFrom (cell_at e k) j) → OwnTurnsFit d c own None
-    → OwnTurnsFit d e (own ++ record { turn = found; place = None } ∷ []) (claim_at found 0 false)
+    → ((k j : ℕ) → IsCellFrom (cell_at c k) j → IsCellFrom (cell_at e k) j) → AreSoundOwnTurns d c own None
+    → AreSoundOwnTurns d e (own ++ record { turn = found; place = None } ∷ []) (claim_at found 0 false)
 own_claimed d c e own found new more inside cells f = record {
   each = λ i x at. ⊎_elim
       (λ (p : slice_get own i ≡ Some x). let a = f.each i x p in (
@@ -82,7 +82,7 @@ own_claimed d c e own found new more inside cells f = record {
       ))
       (λ (p : (i ≡ length own) × (record { turn = found; place = None } ≡ x)). subst
       (λ (u : OwnTurn). (u.turn < turn_count d) × (u.turn < e.claim_number)
-      × OwnTurnFits e (claim_at found 0 false) u) p.1 (
+      × IsSoundOwnTurn e (claim_at found 0 false) u) p.1 (
         inside,
         more,
         inl (refl, (record { turn = found; passed = 0; met = false }, refl, refl)),
@@ -103,8 +103,8 @@ placed_snoc (y ∷ z ∷ zs) x j = ap (λ l. y ∷ l) (placed_snoc (z ∷ zs) x 
 -- the claimed turn is posted
 pub own_posted : (d : Dictatorship) (c e : Core) (own : List OwnTurn) (k j : ℕ) (met : Bool)
     → k < turn_count d → k < e.claim_number → c.claim_number ≤ e.claim_number
-    → cell_at e k ≡ Posted j → ((x i : ℕ) → CellFrom (cell_at c x) i → CellFrom (cell_at e x) i)
-    → OwnTurnsFit d c own (claim_at k j met) → OwnTurnsFit d e (with_place own j) None
+    → cell_at e k ≡ Posted j → ((x i : ℕ) → IsCellFrom (cell_at c x) i → IsCellFrom (cell_at e x) i)
+    → AreSoundOwnTurns d c own (claim_at k j met) → AreSoundOwnTurns d e (with_place own j) None
 own_posted d c e own k j met inside drawn more here cells f =
     let t = f.last record { turn = k; passed = j; met = met } refl in
     let before : List OwnTurn = t.0 in
@@ -120,7 +120,7 @@ own_posted d c e own k j met inside drawn more here cells f =
     let below : (i : ℕ) (x : OwnTurn) → slice_get before i ≡ Some x → x.turn < k =
     λ i x at. f.rise i (length before) x old (in_own i x at) end
     (slice_get_within before i x at) in
-    subst (λ (l : List OwnTurn). OwnTurnsFit d e l None) (sym is) record {
+    subst (λ (l : List OwnTurn). AreSoundOwnTurns d e l None) (sym is) record {
       each = λ i x at. ⊎_elim
           (λ (p : slice_get before i ≡ Some x). let a = f.each i x (in_own i x p) in
           let l = below i x p in (
@@ -131,8 +131,8 @@ own_posted d c e own k j met inside drawn more here cells f =
           ))
           (λ (p : (i ≡ length before) × (new ≡ x)). subst
           (λ (u : OwnTurn). (u.turn < turn_count d) × (u.turn < e.claim_number)
-          × OwnTurnFits e None u) p.1
-          (inside, drawn, inr (j, refl, subst (λ (z : Cell). CellFrom z j) (sym here) refl)))
+          × IsSoundOwnTurn e None u) p.1
+          (inside, drawn, inr (j, refl, subst (λ (z : Cell). IsCellFrom z j) (sym here) refl)))
           (at_snoc before new x i at);
       rise = rise_snoc before new
           (λ i n x y ex ey. f.rise i n x y (in_own i x ex) (in_own n y ey)) below;

@@ -8,7 +8,7 @@ use Rattle.market.specs.Dictatorships.{Dictatorship, choice, choices, IsPrefixOf
 use Rattle.interleaving_core.specs.declared.parts.Cell.{Cell}
 use Rattle.interleaving_core.specs.declared.parts.Cell.TheVariants.{Empty, Posted, Committed}
 use Rattle.interleaving_core.specs.Core.{Core, is_committed, committed_place, committed_choices}
-use Rattle.interleaving_core.specs.Sound.{Sound}
+use Rattle.interleaving_core.specs.Sound.{IsSound}
 
 not_placed : (x : Cell) → is_committed x ≡ false → committed_place x ≡ None
 not_placed Empty e = refl
@@ -37,7 +37,7 @@ front_places f (x ∷ xs) m (suc n) within is others =
     (λ k l. others (suc k) (omega arith)))
 
 -- the choices committed begin the dictatorship's choices
-pub committed_prefix : (d : Dictatorship) (c : Core) → Sound d c
+pub committed_prefix : (d : Dictatorship) (c : Core) → IsSound d c
     → IsPrefixOf (committed_choices c) (choices d)
 unfolding choices
 committed_prefix d c s =

@@ -11,7 +11,7 @@ use Rattle.interleaving_core.specs.declared.parts.Phase.TheVariants.{Idle, Halte
 use Rattle.interleaving_core.specs.declared.parts.Holding.{Holding}
 use Rattle.interleaving_core.specs.Core.{View, Core, entry, quota_of, seats_of, cell_at, hold_at}
 use Rattle.interleaving_core.specs.Events.{with_claim, with_hold}
-use Rattle.interleaving_core.specs.Sound.{hold_bit, done_bit, claim_bit, seat_bit, PostedUpTo, PhaseFits, CellFrom, ClaimFits, HoldingFits, DoesOneThing, ViewFits, MarkFits, SeatsFit, ClaimsFit, Sound}
+use Rattle.interleaving_core.specs.Sound.{hold_bit, done_bit, claim_bit, seat_bit, IsPostedUpTo, IsSoundPhase, IsCellFrom, IsSoundClaim, IsSoundHolding, DoesOneThing, IsSoundView, IsSoundMark, AreSoundSeats, AreSoundClaims, IsSound}
 use Rattle.interleaving_core.proofs.Places.{each_set, sum_set}
 use Rattle.interleaving_core.proofs.OwnTurns.{own_stays}
 
@@ -24,10 +24,10 @@ at_some P a p b e = let is : a ≡ b = cc (e) in subst P is p
 pub record Grows (c e : Core) : Type 0 where
   pub more : c.claim_number ≤ e.claim_number
   pub seats : (p : ℕ) → seats_of c p ≤ seats_of e p
-  pub cells : (k j : ℕ) → CellFrom (cell_at c k) j → CellFrom (cell_at e k) j
+  pub cells : (k j : ℕ) → IsCellFrom (cell_at c k) j → IsCellFrom (cell_at e k) j
 
-pub claim_grows : (d : Dictatorship) (c e : Core) (x : Claiming) → Grows c e → ClaimFits d c x
-    → ClaimFits d e x
+pub claim_grows : (d : Dictatorship) (c e : Core) (x : Claiming) → Grows c e → IsSoundClaim d c x
+    → IsSoundClaim d e x
 claim_grows d c e x g f =
     record {
       turn = f.turn;
@@ -39,8 +39,8 @@ claim_grows d c e x g f =
 
 -- what a view knows, where what it knows as holder is shown apart
 pub view_grows : (d : Dictatorship) (c e : Core) (count now : ℕ) (v : View) → Grows c e
-    → ((h : Holding) → v.hold ≡ Some h → HoldingFits d c count h → HoldingFits d e now h)
-    → ViewFits d c count v → ViewFits d e now v
+    → ((h : Holding) → v.hold ≡ Some h → IsSoundHolding d c count h → IsSoundHolding d e now h)
+    → IsSoundView d c count v → IsSoundView d e now v
 view_grows d c e count now v g holds f =
     record {
       one = f.one;
@@ -56,12 +56,12 @@ pub record Stays (c e : Core) (h : ℕ) : Type 0 where
   pub seats : (p : ℕ) → seats_of e p ≡ seats_of c p
   pub cell : (j : ℕ) → cell_at c h ≡ Posted j → cell_at e h ≡ Posted j
 
-posted_stays : (d : Dictatorship) (c e : Core) (h j : ℕ) → Stays c e h → PostedUpTo d c h j
-    → PostedUpTo d e h j
+posted_stays : (d : Dictatorship) (c e : Core) (h j : ℕ) → Stays c e h → IsPostedUpTo d c h j
+    → IsPostedUpTo d e h j
 posted_stays d c e h j s f = (f.0, (f.1.0, s.cell f.1.0 f.1.1, f.1.2))
 
-phase_stays : (d : Dictatorship) (c e : Core) (h : ℕ) (x : Phase) → Stays c e h → PhaseFits d c h x
-    → PhaseFits d e h x
+phase_stays : (d : Dictatorship) (c e : Core) (h : ℕ) (x : Phase) → Stays c e h → IsSoundPhase d c h x
+    → IsSoundPhase d e h x
 phase_stays d c e h Idle s f = tt
 phase_stays d c e h Halted s f = tt
 phase_stays d c e h (Scan j) s f = (
@@ -80,22 +80,22 @@ phase_stays d c e h (Seated j b) s f = (
 
 pub holding_stays : (d : Dictatorship) (c e : Core) (count : ℕ) (h : Holding)
     → Stays c e h.committed
-    → HoldingFits d c count h → HoldingFits d e count h
+    → IsSoundHolding d c count h → IsSoundHolding d e count h
 holding_stays d c e count h s f =
     record { committed = f.committed; phase = phase_stays d c e h.committed h.phase s f.phase }
 
 -- what a holder of c turns knows in this phase
 pub holding_at : (d : Dictatorship) (e : Core) (count c : ℕ) (x : Phase) → c ≡ count
-    → PhaseFits d e c x
-    → (h : Holding) → hold_at c x ≡ Some h → HoldingFits d e count h
+    → IsSoundPhase d e c x
+    → (h : Holding) → hold_at c x ≡ Some h → IsSoundHolding d e count h
 holding_at d e count c x is f =
-    at_some (HoldingFits d e count) (record { committed = c; phase = x })
+    at_some (IsSoundHolding d e count) (record { committed = c; phase = x })
     record { committed = is; phase = f }
 
 -- the holder's view after its event
 pub holder_fits : (d : Dictatorship) (c e : Core) (count now : ℕ) (v : View) (mine : Holding)
-    (hold : Option Holding) → Grows c e → ViewFits d c count v → v.hold ≡ Some mine
-    → ((h : Holding) → hold ≡ Some h → HoldingFits d e now h) → ViewFits d e now (with_hold v hold)
+    (hold : Option Holding) → Grows c e → IsSoundView d c count v → v.hold ≡ Some mine
+    → ((h : Holding) → hold ≡ Some h → IsSoundHolding d e now h) → IsSoundView d e now (with_hold v hold)
 holder_fits d c e count now v mine hold g f is holds =
     record {
       one =
@@ -125,8 +125,8 @@ claimant_one v x claim is f =
 
 pub mark_stays : (d : Dictatorship) (held : Bool) (number : ℕ) (views : List View) (count i : ℕ)
     (v w : View)
-    → slice_get views i ≡ Some v → hold_bit w ≡ hold_bit v → MarkFits d held number views count
-    → MarkFits d held number (set views i w) count
+    → slice_get views i ≡ Some v → hold_bit w ≡ hold_bit v → IsSoundMark d held number views count
+    → IsSoundMark d held number (set views i w) count
 mark_stays d held number views count i v w at same m =
     record {
       within = m.within;
@@ -137,7 +137,7 @@ mark_stays d held number views count i v w at same m =
 
 pub seats_stay : (d : Dictatorship) (seats : List ℕ) (views : List View) (count i : ℕ) (v w : View)
     → slice_get views i ≡ Some v → ((p : ℕ) → seat_bit d p w ≡ seat_bit d p v)
-    → SeatsFit d seats views count → SeatsFit d seats (set views i w) count
+    → AreSoundSeats d seats views count → AreSoundSeats d seats (set views i w) count
 seats_stay d seats views count i v w at same s =
     record {
       each_programme = s.each_programme;
@@ -152,7 +152,7 @@ pub claims_stay : (d : Dictatorship) (number : ℕ) (cells : List Cell) (views :
     (v w : View)
     → slice_get views i ≡ Some v → ((k : ℕ) → claim_bit k w ≡ claim_bit k v)
     → done_bit w ≡ done_bit v
-    → ClaimsFit d number cells views → ClaimsFit d number cells (set views i w)
+    → AreSoundClaims d number cells views → AreSoundClaims d number cells (set views i w)
 claims_stay d number cells views i v w at same same_end f =
     record {
       claimed = λ k l drawn.
@@ -166,36 +166,77 @@ claims_stay d number cells views i v w at same same_end f =
 
 -- all views, where what others know as holders is shown apart
 pub views_fit : (d : Dictatorship) (c e : Core) (count now i : ℕ) (w : View) → Grows c e
-    → ((j : ℕ) (u : View) → slice_get c.views j ≡ Some u → ViewFits d c count u)
+    → ((j : ℕ) (u : View) → slice_get c.views j ≡ Some u → IsSoundView d c count u)
     → ((j : ℕ) (u : View) → j ≢ i → slice_get c.views j ≡ Some u → (h : Holding) → u.hold ≡ Some h
-    → HoldingFits d c count h → HoldingFits d e now h)
-    → ViewFits d e now w → (j : ℕ) (u : View) → slice_get (set c.views i w) j ≡ Some u
-    → ViewFits d e now u
+    → IsSoundHolding d c count h → IsSoundHolding d e now h)
+    → IsSoundView d e now w → (j : ℕ) (u : View) → slice_get (set c.views i w) j ≡ Some u
+    → IsSoundView d e now u
 views_fit d c e count now i w g old others mine =
-    each_set (ViewFits d e now) c.views i w mine
+    each_set (IsSoundView d e now) c.views i w mine
     (λ j u other at. view_grows d c e count now u g (others j u other at) (old j u at))
 
--- an event that changes one view alone, and neither what it claims nor that it holds
-pub view_step : (d : Dictatorship) (c : Core) (s : Sound d c) (i : ℕ) (v w : View)
-    → slice_get c.views i ≡ Some v → hold_bit w ≡ hold_bit v
-    → ((k : ℕ) → claim_bit k w ≡ claim_bit k v)
-    → done_bit w ≡ done_bit v → ((p : ℕ) → seat_bit d p w ≡ seat_bit d p v) → ViewFits d c s.count w
-    → Sound d record c { views = set c.views i w }
-view_step d c s i v w at same_hold same_claim same_end same_seat fits =
-    let e : Core = record c { views = set c.views i w } in
-    let g : Grows c e =
-    record { more = omega arith; seats = λ p. omega arith; cells = λ k j p. p } in
-    let stays : (h : ℕ) → Stays c e h = λ h. record { seats = λ p. refl; cell = λ j p. p } in
+-- the state with other views, another mark and another number of draws
+abbrev pub calm : Core → ℕ → Bool → ℕ → List View → Core
+calm c drawn held number views =
+    record c { claim_number = drawn; mark_held = held; mark_number = number; views = views }
+
+-- it grows with the draws, and nothing that a holder weighs changes
+pub calm_grows : (c : Core) (drawn : ℕ) (held : Bool) (number : ℕ) (views : List View)
+    → c.claim_number ≤ drawn → Grows c (calm c drawn held number views)
+calm_grows c drawn held number views more =
+    record { more = more; seats = λ p. omega arith; cells = λ k j p. p }
+
+pub calm_stays : (c : Core) (drawn : ℕ) (held : Bool) (number : ℕ) (views : List View) (h : ℕ)
+    → Stays c (calm c drawn held number views) h
+calm_stays c drawn held number views h = record { seats = λ p. refl; cell = λ j p. p }
+
+-- an event that writes neither a seat count nor a cell, and seats nobody
+pub calm_step : (d : Dictatorship) (c : Core) (s : IsSound d c) (i : ℕ) (v w : View) (drawn : ℕ)
+    (held : Bool) (number : ℕ) → slice_get c.views i ≡ Some v → c.claim_number ≤ drawn
+    → IsSoundMark d held number (set c.views i w) s.count
+    → AreSoundClaims d drawn c.cells (set c.views i w)
+    → ((p : ℕ) → seat_bit d p w ≡ seat_bit d p v)
+    → IsSoundView d (calm c drawn held number (set c.views i w)) s.count w
+    → IsSound d (calm c drawn held number (set c.views i w))
+calm_step d c s i v w drawn held number at more mark claims same_seat fits =
+    let views = set c.views i w in
+    let e = calm c drawn held number views in
     record {
       count = s.count;
-      mark = mark_stays d c.mark_held c.mark_number c.views s.count i v w at same_hold s.mark;
+      mark = mark;
       cells = s.cells;
       seats = seats_stay d c.seats c.views s.count i v w at same_seat s.seats;
       posts = s.posts;
-      claims = claims_stay d c.claim_number c.cells c.views i v w at same_claim same_end s.claims;
+      claims = claims;
       views =
-          views_fit d c e s.count s.count i w g s.views
-          (λ j u other there h is. holding_stays d c e s.count h (stays h.committed))
-          (view_grows d c e s.count s.count w g
-          (λ h is. holding_stays d c e s.count h (stays h.committed)) fits);
+          views_fit d c e s.count s.count i w (calm_grows c drawn held number views more) s.views
+          (λ j u other there h is.
+          holding_stays d c e s.count h (calm_stays c drawn held number views h.committed))
+          fits;
     }
+
+-- the same where nothing is drawn, and the view neither claims nor ends
+pub mark_step : (d : Dictatorship) (c : Core) (s : IsSound d c) (i : ℕ) (v w : View) (held : Bool)
+    (number : ℕ) → slice_get c.views i ≡ Some v
+    → IsSoundMark d held number (set c.views i w) s.count
+    → ((k : ℕ) → claim_bit k w ≡ claim_bit k v) → done_bit w ≡ done_bit v
+    → ((p : ℕ) → seat_bit d p w ≡ seat_bit d p v) → IsSoundView d c s.count w
+    → IsSound d (calm c c.claim_number held number (set c.views i w))
+mark_step d c s i v w held number at mark same_claim same_end same_seat fits =
+    let n = c.claim_number in
+    let views = set c.views i w in
+    calm_step d c s i v w n held number at (omega arith) mark
+    (claims_stay d n c.cells c.views i v w at same_claim same_end s.claims) same_seat
+    (view_grows d c (calm c n held number views) s.count s.count w
+    (calm_grows c n held number views (omega arith))
+    (λ h is. holding_stays d c _ s.count h (calm_stays c n held number views h.committed)) fits)
+
+-- the same where the mark stays
+pub view_step : (d : Dictatorship) (c : Core) (s : IsSound d c) (i : ℕ) (v w : View)
+    → slice_get c.views i ≡ Some v → hold_bit w ≡ hold_bit v
+    → ((k : ℕ) → claim_bit k w ≡ claim_bit k v) → done_bit w ≡ done_bit v
+    → ((p : ℕ) → seat_bit d p w ≡ seat_bit d p v) → IsSoundView d c s.count w
+    → IsSound d record c { views = set c.views i w }
+view_step d c s i v w at same_hold =
+    mark_step d c s i v w c.mark_held c.mark_number at
+    (mark_stays d c.mark_held c.mark_number c.views s.count i v w at same_hold s.mark)

@@ -42,33 +42,37 @@ event_of (Releases c phase) = Release
 
 -- a turn is committed at place j once its seat is taken there, or once its whole list is found full
 abbrev pub CanSeal : ℕ → ℕ → Phase → Type 0
-CanSeal places j (Seated i filled) = i ≡ j
+CanSeal places j Idle = ⊥
+CanSeal places j Halted = ⊥
 CanSeal places j (Scan i) = (i ≡ j) × (j ≡ places)
-CanSeal places j _ = ⊥
+CanSeal places j (Ready i) = ⊥
+CanSeal places j (Seated i filled) = i ≡ j
 
 -- the mark is given back at an empty cell, or once all n turns are committed
 abbrev pub CanRelease : ℕ → ℕ → Phase → Type 0
-CanRelease n c Halted = Unit {0}
 CanRelease n c Idle = c ≡ n
-CanRelease n c _ = ⊥
+CanRelease n c Halted = Unit {0}
+CanRelease n c (Scan j) = ⊥
+CanRelease n c (Ready j) = ⊥
+CanRelease n c (Seated j filled) = ⊥
 
 -- when a worker with this view may act so
-abbrev pub Allowed : Dictatorship → View → Action → Type 0
-Allowed d v Claims = (v.claim ≡ None) × (v.hold ≡ None) × (v.done ≡ false) × (v.owes ≡ false)
-Allowed d v (Reads k j) = (v.claim ≡ claim_at k j false) × (j < length (list_at d k))
-Allowed d v (Posts k j met) =
+abbrev pub IsAllowed : Dictatorship → View → Action → Type 0
+IsAllowed d v Claims = (v.claim ≡ None) × (v.hold ≡ None) × (v.done ≡ false) × (v.owes ≡ false)
+IsAllowed d v (Reads k j) = (v.claim ≡ claim_at k j false) × (j < length (list_at d k))
+IsAllowed d v (Posts k j met) =
     (v.claim ≡ claim_at k j met) × ((met ≡ true) ⊎ (j ≡ length (list_at d k)))
-Allowed d v Takes = (v.claim ≡ None) × (v.hold ≡ None)
-Allowed d v (Looks c) = (v.hold ≡ hold_at c Idle) × (c < turn_count d)
-Allowed d v (Weighs c j) = (v.hold ≡ hold_at c (Scan j)) × (j < length (list_at d c))
-Allowed d v (Seats c j) = v.hold ≡ hold_at c (Ready j)
-Allowed d v (Seals c j phase) =
+IsAllowed d v Takes = (v.claim ≡ None) × (v.hold ≡ None)
+IsAllowed d v (Looks c) = (v.hold ≡ hold_at c Idle) × (c < turn_count d)
+IsAllowed d v (Weighs c j) = (v.hold ≡ hold_at c (Scan j)) × (j < length (list_at d c))
+IsAllowed d v (Seats c j) = v.hold ≡ hold_at c (Ready j)
+IsAllowed d v (Seals c j phase) =
     (v.hold ≡ hold_at c phase) × CanSeal (length (list_at d c)) j phase
-Allowed d v (Releases c phase) = (v.hold ≡ hold_at c phase) × CanRelease (turn_count d) c phase
+IsAllowed d v (Releases c phase) = (v.hold ≡ hold_at c phase) × CanRelease (turn_count d) c phase
 
 -- no action of this event is allowed
 abbrev pub Refuses : Dictatorship → View → CoreEvent → Type 0
-Refuses d v event = (a : Action) → event_of a ≡ event → ¬ (Allowed d v a)
+Refuses d v event = (a : Action) → event_of a ≡ event → ¬ (IsAllowed d v a)
 
 -- the view with another claim
 abbrev pub with_claim : View → Option Claiming → View

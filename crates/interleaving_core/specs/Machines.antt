@@ -1,13 +1,14 @@
 -- What the machine keeps in memory: the view of each worker, and room for its own turns.
 use Rattle.std.specs.Prelude.{◌≡◌, ℕ, ◌<◌, ◌≤◌, List, length, map, replicate, slice_get, Some, vec_capacity}
 use Rattle.market.specs.Dictatorships.{Dictatorship, IsValidDictatorship}
+use Rattle.interleaving_core.specs.declared.limits.TheConstants.{MAX_WORKERS}
 use Rattle.interleaving_core.specs.declared.parts.Claiming.{Claiming}
 use Rattle.interleaving_core.specs.declared.parts.Phase.TheVariants.{Scan}
 use Rattle.interleaving_core.specs.declared.parts.Holding.{Holding}
 use Rattle.interleaving_core.specs.declared.team.Worker.{Worker}
 use Rattle.interleaving_core.specs.declared.state.CoreState.TheInside.{Inside}
 use Rattle.interleaving_core.specs.Core.{View, Machine, fresh_view, turn_count}
-use Rattle.interleaving_core.specs.Sound.{Sound}
+use Rattle.interleaving_core.specs.Sound.{IsSound}
 
 -- the view of a worker
 abbrev pub view_of : Worker → View
@@ -45,8 +46,8 @@ machine_of s =
 -- the machine is sound, and each worker has room for every turn
 pub record IsKept (s : Inside) : Type 0 where
   pub valid : IsValidDictatorship s.dict
-  pub sound : Sound s.dict (machine_of s).core
-  pub few : length s.workers.items ≤ 64
+  pub sound : IsSound s.dict (machine_of s).core
+  pub few : length s.workers.items ≤ MAX_WORKERS
   pub room : (i : ℕ) (w : Worker) → slice_get s.workers.items i ≡ Some w
       → turn_count s.dict ≤ vec_capacity w.own
 

@@ -5,7 +5,7 @@ use Rattle.interleaving_core.specs.declared.events.CoreEvent.{CoreEvent}
 use Rattle.interleaving_core.specs.declared.events.Told.{Told}
 use Rattle.interleaving_core.specs.declared.events.NotNow.{NotNow}
 use Rattle.interleaving_core.specs.Core.{View, Core, Machine}
-use Rattle.interleaving_core.specs.Events.{Action, event_of, Allowed, Refuses, after, told_by}
+use Rattle.interleaving_core.specs.Events.{Action, event_of, IsAllowed, Refuses, after, told_by}
 
 -- the event is allowed to the worker i, leads from c to e, and tells this
 pub record IsStep (d : Dictatorship) (c : Core) (i : ℕ) (event : CoreEvent) (told : Told)
@@ -14,7 +14,7 @@ pub record IsStep (d : Dictatorship) (c : Core) (i : ℕ) (event : CoreEvent) (t
   pub whose : slice_get c.views i ≡ Some view
   pub action : Action
   pub of_event : event_of action ≡ event
-  pub allowed : Allowed d view action
+  pub allowed : IsAllowed d view action
   pub tells : told ≡ told_by d c action
   pub leads : e ≡ after d c i view action
 

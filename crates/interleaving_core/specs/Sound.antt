@@ -1,13 +1,13 @@
 -- When a core state is sound.
 use Rattle.std.specs.Prelude.{◌≡◌, ℕ, ◌+◌, ◌<◌, ◌≤◌, ◌⊎◌, ◌++◌, ◌==◌, Bool, true, false, nat_le, List, [], ◌∷◌, length, slice_get, slice_index, slice_index_or, Option, Some, None}
 use Rattle.std.specs.List.{sum_by}
-use Rattle.market.specs.Dictatorships.{Dictatorship, list_at, choice, taken}
+use Rattle.market.specs.Dictatorships.{Dictatorship, list_at, choice, seats_taken}
 use Rattle.interleaving_core.specs.declared.parts.Cell.{Cell}
 use Rattle.interleaving_core.specs.declared.parts.Cell.TheVariants.{Empty, Posted, Committed}
 use Rattle.interleaving_core.specs.declared.parts.Claiming.{Claiming}
 use Rattle.interleaving_core.specs.declared.parts.OwnTurn.{OwnTurn}
 use Rattle.interleaving_core.specs.declared.parts.Phase.{Phase}
-use Rattle.interleaving_core.specs.declared.parts.Phase.TheVariants.{Scan, Ready, Seated}
+use Rattle.interleaving_core.specs.declared.parts.Phase.TheVariants.{Idle, Halted, Scan, Ready, Seated}
 use Rattle.interleaving_core.specs.declared.parts.Holding.{Holding}
 use Rattle.interleaving_core.specs.Core.{View, Core, turn_count, entry, quota_of, seats_of, cell_at, is_committed}
 
@@ -45,8 +45,11 @@ claim_bit k v = turn_bit k v.claim
 
 -- 1 where a seat of p is taken in this phase for a turn c that is not committed yet
 abbrev pub phase_seat_bit : Dictatorship → ℕ → ℕ → Phase → ℕ
+phase_seat_bit d p c Idle = 0
+phase_seat_bit d p c Halted = 0
+phase_seat_bit d p c (Scan j) = 0
+phase_seat_bit d p c (Ready j) = 0
 phase_seat_bit d p c (Seated j filled) = bit (entry d c j == p)
-phase_seat_bit d p c _ = 0
 
 -- the same for what a holder knows
 abbrev pub holder_seat_bit : Dictatorship → ℕ → Option Holding → ℕ
@@ -59,61 +62,62 @@ seat_bit d p v = holder_seat_bit d p v.hold
 
 -- the seats of p that the fill and the first k turns take
 abbrev pub seats_after : Dictatorship → ℕ → ℕ → ℕ
-seats_after d k p = slice_index d.fill p + taken d k p
+seats_after d k p = slice_index d.fill p + seats_taken d k p
 
 -- each of the first j entries of turn k is full
-abbrev pub FullBefore : Dictatorship → Core → ℕ → ℕ → Type 0
-FullBefore d c k j = (i : ℕ) → i < j → quota_of d (entry d k i) ≤ seats_of c (entry d k i)
+abbrev pub IsFullBefore : Dictatorship → Core → ℕ → ℕ → Type 0
+IsFullBefore d c k j = (i : ℕ) → i < j → quota_of d (entry d k i) ≤ seats_of c (entry d k i)
 
 -- the turn h is posted at a place not after j
-abbrev pub PostedUpTo : Dictatorship → Core → ℕ → ℕ → Type 0
-PostedUpTo d c h j = (h < turn_count d) × ((i : ℕ) × (cell_at c h ≡ Posted i) × (i ≤ j))
+abbrev pub IsPostedUpTo : Dictatorship → Core → ℕ → ℕ → Type 0
+IsPostedUpTo d c h j = (h < turn_count d) × ((i : ℕ) × (cell_at c h ≡ Posted i) × (i ≤ j))
 
 -- what the holder knows of turn h, the first that is not committed
-abbrev pub PhaseFits : Dictatorship → Core → ℕ → Phase → Type 0
-PhaseFits d c h (Scan j) =
-    PostedUpTo d c h j × (j ≤ length (list_at d h)) × FullBefore d c h j
-PhaseFits d c h (Ready j) =
-    PostedUpTo d c h j × (j < length (list_at d h)) × (choice d h ≡ j)
-PhaseFits d c h (Seated j filled) =
-    PostedUpTo d c h j × (j < length (list_at d h)) × (choice d h ≡ j)
+abbrev pub IsSoundPhase : Dictatorship → Core → ℕ → Phase → Type 0
+IsSoundPhase d c h Idle = Unit {0}
+IsSoundPhase d c h Halted = Unit {0}
+IsSoundPhase d c h (Scan j) =
+    IsPostedUpTo d c h j × (j ≤ length (list_at d h)) × IsFullBefore d c h j
+IsSoundPhase d c h (Ready j) =
+    IsPostedUpTo d c h j × (j < length (list_at d h)) × (choice d h ≡ j)
+IsSoundPhase d c h (Seated j filled) =
+    IsPostedUpTo d c h j × (j < length (list_at d h)) × (choice d h ≡ j)
     × (filled ≡ nat_le (quota_of d (entry d h j)) (seats_of c (entry d h j)))
-PhaseFits d c h _ = Unit {0}
 
 -- the cell is posted at place j, or committed there or later
-abbrev pub CellFrom : Cell → ℕ → Type 0
-CellFrom Empty j = ⊥
-CellFrom (Posted i) j = i ≡ j
-CellFrom (Committed i) j = j ≤ i
+abbrev pub IsCellFrom : Cell → ℕ → Type 0
+IsCellFrom Empty j = ⊥
+IsCellFrom (Posted i) j = i ≡ j
+IsCellFrom (Committed i) j = j ≤ i
 
 -- an own turn is the claimed one, without a place, or it was posted
-abbrev pub OwnTurnFits : Core → Option Claiming → OwnTurn → Type 0
-OwnTurnFits c claim x =
+abbrev pub IsSoundOwnTurn : Core → Option Claiming → OwnTurn → Type 0
+IsSoundOwnTurn c claim x =
     ((x.place ≡ None) × ((y : Claiming) × (claim ≡ Some y) × (y.turn ≡ x.turn)))
-    ⊎ ((j : ℕ) × (x.place ≡ Some j) × CellFrom (cell_at c x.turn) j)
+    ⊎ ((j : ℕ) × (x.place ≡ Some j) × IsCellFrom (cell_at c x.turn) j)
 
 -- the own turns were drawn, rise strictly, and end with the claimed turn
-pub record OwnTurnsFit (d : Dictatorship) (c : Core) (own : List OwnTurn)
+pub record AreSoundOwnTurns (d : Dictatorship) (c : Core) (own : List OwnTurn)
     (claim : Option Claiming) : Type 0 where
   pub each : (i : ℕ) (x : OwnTurn) → slice_get own i ≡ Some x
-      → (x.turn < turn_count d) × (x.turn < c.claim_number) × OwnTurnFits c claim x
+      → (x.turn < turn_count d) × (x.turn < c.claim_number) × IsSoundOwnTurn c claim x
   pub rise : (i j : ℕ) (x y : OwnTurn) → slice_get own i ≡ Some x → slice_get own j ≡ Some y
       → i < j → x.turn < y.turn
   pub last : (y : Claiming) → claim ≡ Some y
       → (before : List OwnTurn) × (own ≡ before ++ record { turn = y.turn; place = None } ∷ [])
 
 -- a claimed turn was drawn, and what the claim has passed is full
-pub record ClaimFits (d : Dictatorship) (c : Core) (x : Claiming) : Type 0 where
+pub record IsSoundClaim (d : Dictatorship) (c : Core) (x : Claiming) : Type 0 where
   pub turn : x.turn < turn_count d
   pub drawn : x.turn < c.claim_number
   pub passed : x.passed ≤ length (list_at d x.turn)
-  pub full : FullBefore d c x.turn x.passed
+  pub full : IsFullBefore d c x.turn x.passed
   pub met : x.met ≡ true → x.passed < length (list_at d x.turn)
 
 -- the holder knows how many turns are committed, and of the next one what its phase says
-pub record HoldingFits (d : Dictatorship) (c : Core) (count : ℕ) (h : Holding) : Type 0 where
+pub record IsSoundHolding (d : Dictatorship) (c : Core) (count : ℕ) (h : Holding) : Type 0 where
   pub committed : h.committed ≡ count
-  pub phase : PhaseFits d c h.committed h.phase
+  pub phase : IsSoundPhase d c h.committed h.phase
 
 -- a worker claims, owes or holds, but no two of these; a done one neither claims nor owes
 pub record DoesOneThing (v : View) : Type 0 where
@@ -122,16 +126,16 @@ pub record DoesOneThing (v : View) : Type 0 where
   pub leaver : v.done ≡ true → (v.claim ≡ None) × (v.owes ≡ false)
 
 -- a view fits a state in which count turns are committed
-pub record ViewFits (d : Dictatorship) (c : Core) (count : ℕ) (v : View) : Type 0 where
+pub record IsSoundView (d : Dictatorship) (c : Core) (count : ℕ) (v : View) : Type 0 where
   pub one : DoesOneThing v
-  pub claim : (x : Claiming) → v.claim ≡ Some x → ClaimFits d c x
-  pub hold : (h : Holding) → v.hold ≡ Some h → HoldingFits d c count h
-  pub own : OwnTurnsFit d c v.own v.claim
+  pub claim : (x : Claiming) → v.claim ≡ Some x → IsSoundClaim d c x
+  pub hold : (h : Holding) → v.hold ≡ Some h → IsSoundHolding d c count h
+  pub own : AreSoundOwnTurns d c v.own v.claim
   pub past : v.done ≡ true → turn_count d < c.claim_number
 
 -- the mark's number is at most the true one, and is the true one where the mark is free; one view
 -- holds a held mark, and none a free one
-pub record MarkFits (d : Dictatorship) (held : Bool) (number : ℕ) (views : List View)
+pub record IsSoundMark (d : Dictatorship) (held : Bool) (number : ℕ) (views : List View)
     (count : ℕ) : Type 0 where
   pub within : count ≤ turn_count d
   pub behind : number ≤ count
@@ -139,27 +143,27 @@ pub record MarkFits (d : Dictatorship) (held : Bool) (number : ℕ) (views : Lis
   pub holders : sum_by hold_bit views ≡ bit held
 
 -- there is a cell for each turn; the first ones are committed with their choices, and no other is
-pub record CellsFit (d : Dictatorship) (cells : List Cell) (count : ℕ) : Type 0 where
+pub record AreSoundCells (d : Dictatorship) (cells : List Cell) (count : ℕ) : Type 0 where
   pub each_turn : length cells ≡ turn_count d
   pub below : (k : ℕ) → k < count → slice_index_or cells k Empty ≡ Committed (choice d k)
   pub above : (k : ℕ) → count ≤ k → is_committed (slice_index_or cells k Empty) ≡ false
 
 -- there is a count for each programme: the seats that the committed turns take, and the one that
 -- the holder has just taken
-pub record SeatsFit (d : Dictatorship) (seats : List ℕ) (views : List View)
+pub record AreSoundSeats (d : Dictatorship) (seats : List ℕ) (views : List View)
     (count : ℕ) : Type 0 where
   pub each_programme : length seats ≡ length d.quota
   pub counts : (p : ℕ) → p < length d.quota
       → slice_index seats p ≡ seats_after d count p + sum_by (seat_bit d p) views
 
 -- a posted place is one of the list or its length, and what lies before it is full
-abbrev pub PostsFit : Dictatorship → Core → Type 0
-PostsFit d c =
-    (k j : ℕ) → cell_at c k ≡ Posted j → (j ≤ length (list_at d k)) × FullBefore d c k j
+abbrev pub AreSoundPosts : Dictatorship → Core → Type 0
+AreSoundPosts d c =
+    (k j : ℕ) → cell_at c k ≡ Posted j → (j ≤ length (list_at d k)) × IsFullBefore d c k j
 
 -- a drawn turn has an empty cell where one view claims it, and else nobody claims it; what is not
 -- drawn is untouched; and a number past the turns was drawn only by who is done
-pub record ClaimsFit (d : Dictatorship) (claim_number : ℕ) (cells : List Cell)
+pub record AreSoundClaims (d : Dictatorship) (claim_number : ℕ) (cells : List Cell)
     (views : List View) : Type 0 where
   pub claimed : (k : ℕ) → k < turn_count d → k < claim_number
       → sum_by (claim_bit k) views ≡ empty_bit (slice_index_or cells k Empty)
@@ -167,11 +171,11 @@ pub record ClaimsFit (d : Dictatorship) (claim_number : ℕ) (cells : List Cell)
   pub few : claim_number ≤ turn_count d + sum_by done_bit views
 
 -- the state is sound: `count` is the true number of committed turns, and all fits it
-pub record Sound (d : Dictatorship) (c : Core) : Type 0 where
+pub record IsSound (d : Dictatorship) (c : Core) : Type 0 where
   pub count : ℕ
-  pub mark : MarkFits d c.mark_held c.mark_number c.views count
-  pub cells : CellsFit d c.cells count
-  pub seats : SeatsFit d c.seats c.views count
-  pub posts : PostsFit d c
-  pub claims : ClaimsFit d c.claim_number c.cells c.views
-  pub views : (i : ℕ) (v : View) → slice_get c.views i ≡ Some v → ViewFits d c count v
+  pub mark : IsSoundMark d c.mark_held c.mark_number c.views count
+  pub cells : AreSoundCells d c.cells count
+  pub seats : AreSoundSeats d c.seats c.views count
+  pub posts : AreSoundPosts d c
+  pub claims : AreSoundClaims d c.claim_number c.cells c.views
+  pub views : (i : ℕ) (v : View) → slice_get c.views i ≡ Some v → IsSoundView d c count v

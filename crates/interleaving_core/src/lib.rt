@@ -54,6 +54,8 @@
 //! here whoever holds the mark commits what is posted while the others go on.
 #![tactic(auto)]
 
+// How many workers there may be.
+mod limits;
 // What a core state is made of: cells, claims, own turns, phases, holdings.
 mod parts;
 // The nine events, and what each tells.
@@ -73,5 +75,6 @@ mod tests;
 
 pub use events::{CoreEvent, NotNow, Told};
 pub use law::any_run;
+pub use limits::MAX_WORKERS;
 pub use parts::{Cell, Claiming, Holding, OwnTurn, Phase};
 pub use state::CoreState;

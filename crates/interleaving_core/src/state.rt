@@ -4,14 +4,15 @@ ghost use Rattle.std.specs.Prelude.{◌≡◌, ◌<◌, ◌≤◌, length, IfOk,
 ghost use Rattle.market.specs.Dictatorships.{IsPrefixOf, choices};
 ghost use Rattle.interleaving_core.specs.Core.{opening, seats_of, cell_at, is_committed, committed_choices};
 ghost use Rattle.interleaving_core.specs.Runs.{IsStep, IsNotNow};
-ghost use Rattle.interleaving_core.specs.Sound.{Sound};
+ghost use Rattle.interleaving_core.specs.Sound.{IsSound};
 
 // What a claimant does.
 mod claimant;
-// What is done with the mark.
-mod mark;
+// What the holder of the mark does, and who tries to take it.
+mod holder;
 
 use crate::events::{CoreEvent, NotNow, Told};
+use crate::limits::MAX_WORKERS;
 use crate::opening::fresh_workers;
 use crate::parts::Cell;
 use crate::team::Worker;
@@ -45,11 +46,11 @@ impl Model for CoreState {
 }
 
 impl CoreState {
-    /// The opening state of this dictatorship, for 1 to 64 workers. All memory that the machine
+    /// The opening state of this dictatorship, for 1 to `MAX_WORKERS` workers. All memory that the machine
     /// ever needs is taken here: for each worker as much as it needs to draw every turn.
     pub fn open(alloc: Global, dict: Dict, workers: u32) -> Result<CoreState, AllocError>
         requires some { 1 ≤ workers }
-        requires few { workers ≤ 64 }
+        requires few { workers ≤ MAX_WORKERS }
         ensures { IfOk result (λ s. (s.dict ≡ dict) × (s.core ≡ opening dict workers)) }
     {
         let turns = dict.turns();
@@ -98,7 +99,7 @@ impl CoreState {
     pub fn committed(&self) -> u32
         ensures count { result ≡ count_by is_committed self.now.core.cells }
         ensures prefix { IsPrefixOf (committed_choices self.now.core) (choices self.now.dict) }
-        ensures sound { Sound self.now.dict self.now.core }
+        ensures sound { IsSound self.now.dict self.now.core }
     {
         self.cells
             .iter()

@@ -5,7 +5,7 @@ ghost use Rattle.market.specs.Dictatorships.{Dictatorship};
 ghost use Rattle.interleaving_core.specs.declared.events.CoreEvent.{CoreEvent};
 ghost use Rattle.interleaving_core.specs.declared.parts.Phase.{Phase};
 ghost use Rattle.interleaving_core.specs.Core.{fresh_view};
-ghost use Rattle.interleaving_core.specs.Events.{Claims, Reads, Posts, Takes, Looks, Weighs, Seats, Seals, Releases, Allowed, Refuses, after_post};
+ghost use Rattle.interleaving_core.specs.Events.{Claims, Reads, Posts, Takes, Looks, Weighs, Seats, Seals, Releases, IsAllowed, Refuses, after_post};
 
 use crate::entries::list_length;
 use crate::events::NotNow;
@@ -43,7 +43,7 @@ impl Worker {
     // Whether it may draw a turn.
     pub(crate) fn may_claim(&self) -> Result<(), NotNow>
         ensures { (d : Dictatorship) → MatchResult result
-            (λ _. Allowed d (view_of self.now) Claims)
+            (λ _. IsAllowed d (view_of self.now) Claims)
             (λ _. Refuses d (view_of self.now) CoreEvent.Claim) }
     {
         if self.claim.is_none() && self.hold.is_none() && !self.done && !self.owes {
@@ -57,7 +57,7 @@ impl Worker {
     pub(crate) fn may_read(&self, dict: &Dict) -> Result<Claiming, NotNow>
         requires { IsWithin dict.now (view_of self.now) }
         ensures { MatchResult result
-            (λ x. Allowed dict.now (view_of self.now) (Reads x.turn x.passed))
+            (λ x. IsAllowed dict.now (view_of self.now) (Reads x.turn x.passed))
             (λ _. Refuses dict.now (view_of self.now) CoreEvent.Read) }
     {
         let Some(claim) = self.claim else {
@@ -73,7 +73,7 @@ impl Worker {
     pub(crate) fn may_post(&self, dict: &Dict) -> Result<Claiming, NotNow>
         requires { IsWithin dict.now (view_of self.now) }
         ensures { MatchResult result
-            (λ x. Allowed dict.now (view_of self.now) (Posts x.turn x.passed x.met))
+            (λ x. IsAllowed dict.now (view_of self.now) (Posts x.turn x.passed x.met))
             (λ _. Refuses dict.now (view_of self.now) CoreEvent.Post) }
     {
         let Some(claim) = self.claim else {
@@ -88,7 +88,7 @@ impl Worker {
     // Whether it may try to take the mark.
     pub(crate) fn may_take(&self) -> Result<(), NotNow>
         ensures { (d : Dictatorship) → MatchResult result
-            (λ _. Allowed d (view_of self.now) Takes)
+            (λ _. IsAllowed d (view_of self.now) Takes)
             (λ _. Refuses d (view_of self.now) CoreEvent.Take) }
     {
         if self.claim.is_none() && self.hold.is_none() {
@@ -100,7 +100,7 @@ impl Worker {
 
     // The turn whose cell it may look at.
     pub(crate) fn may_look(&self, dict: &Dict) -> Result<u32, NotNow>
-        ensures { MatchResult result (λ c. Allowed dict.now (view_of self.now) (Looks c))
+        ensures { MatchResult result (λ c. IsAllowed dict.now (view_of self.now) (Looks c))
             (λ _. Refuses dict.now (view_of self.now) CoreEvent.Look) }
     {
         let Some(holding) = self.hold else {
@@ -115,7 +115,7 @@ impl Worker {
     // The turn and the place that it may weigh.
     pub(crate) fn may_weigh(&self, dict: &Dict) -> Result<(u32, u32), NotNow>
         requires { IsWithin dict.now (view_of self.now) }
-        ensures { MatchResult result (λ x. Allowed dict.now (view_of self.now) (Weighs x.0 x.1))
+        ensures { MatchResult result (λ x. IsAllowed dict.now (view_of self.now) (Weighs x.0 x.1))
             (λ _. Refuses dict.now (view_of self.now) CoreEvent.Weigh) }
     {
         let Some(holding) = self.hold else {
@@ -133,7 +133,7 @@ impl Worker {
     // The turn and the place for which it may take a seat.
     pub(crate) fn may_seat(&self) -> Result<(u32, u32), NotNow>
         ensures { (d : Dictatorship) → MatchResult result
-            (λ x. Allowed d (view_of self.now) (Seats x.0 x.1))
+            (λ x. IsAllowed d (view_of self.now) (Seats x.0 x.1))
             (λ _. Refuses d (view_of self.now) CoreEvent.Seat) }
     {
         let Some(holding) = self.hold else {
@@ -149,7 +149,7 @@ impl Worker {
     pub(crate) fn may_seal(&self, dict: &Dict) -> Result<(u32, u32), NotNow>
         requires { IsWithin dict.now (view_of self.now) }
         ensures { MatchResult result
-            (λ x. (phase : Phase) × Allowed dict.now (view_of self.now) (Seals x.0 x.1 phase))
+            (λ x. (phase : Phase) × IsAllowed dict.now (view_of self.now) (Seals x.0 x.1 phase))
             (λ _. Refuses dict.now (view_of self.now) CoreEvent.Seal) }
     {
         let Some(holding) = self.hold else {
@@ -166,7 +166,7 @@ impl Worker {
     // The number of committed turns with which it may give the mark back.
     pub(crate) fn may_release(&self, dict: &Dict) -> Result<u32, NotNow>
         ensures { MatchResult result
-            (λ c. (phase : Phase) × Allowed dict.now (view_of self.now) (Releases c phase))
+            (λ c. (phase : Phase) × IsAllowed dict.now (view_of self.now) (Releases c phase))
             (λ _. Refuses dict.now (view_of self.now) CoreEvent.Release) }
     {
         let Some(holding) = self.hold else {

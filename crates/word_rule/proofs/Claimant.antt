@@ -8,15 +8,15 @@ use Rattle.atomic_table.specs.Table.{keeps, Allows}
 use Rattle.market.specs.Dictatorships.{Dictatorship}
 use Rattle.interleaving_core.specs.declared.parts.Cell.TheVariants.{Posted}
 use Rattle.interleaving_core.specs.Core.{View, Core, turn_count, entry, quota_of, seats_of}
-use Rattle.interleaving_core.specs.Events.{Claims, Reads, Posts, Allowed, after_claim, after_read, after_post, after}
-use Rattle.interleaving_core.specs.Sound.{bit, done_bit, OwnTurnsFit}
+use Rattle.interleaving_core.specs.Events.{Claims, Reads, Posts, IsAllowed, after_claim, after_read, after_post, after}
+use Rattle.interleaving_core.specs.Sound.{bit, done_bit, AreSoundOwnTurns}
 use Rattle.word_rule.specs.Layout.{cell_of, core_of, programme_count}
-use Rattle.word_rule.specs.Views.{SeatKnows, with_core, other_view, shared_views, core_views}
+use Rattle.word_rule.specs.Views.{SeatKnows, SeatMe, with_core, other_view, shared_views, core_views}
 use Rattle.word_rule.specs.Rule.{IsSoundTable, share_of, table_core}
-use Rattle.word_rule.specs.Steps.{SeatMe, read_by, AreEarlier, ClaimTold, ReadTold, PostTold}
+use Rattle.word_rule.specs.Claimant.{read_by, AreEarlier, TellsClaim, TellsRead, TellsPost}
 use Rattle.word_rule.specs.declared.rule.RoundKey.{RoundKey}
 use Rattle.word_rule.proofs.CoreViews.{live_there, place, weight, sum_views, shared_sum}
-use Rattle.word_rule.proofs.Layouts.{cell_posted, seat_word, claim_word, cell_word}
+use Rattle.word_rule.proofs.Layouts.{shows_posted, reads_seats, writes_claim, writes_cell}
 use Rattle.word_rule.proofs.Keeps.{same_seat, live_after, seat_in_range, seat_fits, event_keeps}
 
 -- no seat gives more done views than its share
@@ -54,7 +54,7 @@ one_share (suc zero) b l h e = refl
 one_share (suc (suc n)) b l h e = absurd (let t = h (omega arith) in cc)
 
 -- own turns without a claim were all posted, and drawn before
-earlier : (d : Dictatorship) (c : Core) (v : View) → v.claim ≡ None → OwnTurnsFit d c v.own v.claim
+earlier : (d : Dictatorship) (c : Core) (v : View) → v.claim ≡ None → AreSoundOwnTurns d c v.own v.claim
     → AreEarlier v.own c.claim_number
 earlier d c v none f =
     record {
@@ -77,8 +77,8 @@ module _ (key : RoundKey) where
 
   -- a seat's claim of a turn of the round, by the round's own dictatorship
   pub claim_allowed : (slots id : ℕ) (me : SeatMe) → me.0.share ≡ 1
-      → Allowed me.0.dict me.0.core Claims
-      → Allows (IsSoundTable key) slots id me 0 (λ n. (n + 1) % 2 ^ 64) (ClaimTold me)
+      → IsAllowed me.0.dict me.0.core Claims
+      → Allows (IsSoundTable key) slots id me 0 (λ n. (n + 1) % 2 ^ 64) (TellsClaim me)
   claim_allowed slots id me one may s h homes at fits =
       let x = me.0 in
       let live = live_there s.views id x at (omega arith) in
@@ -100,7 +100,7 @@ module _ (key : RoundKey) where
       let views = set (core_views s.views) at_place y.core in
       let words = set s.words 0 next in
       let is : core_of d words views ≡ after d (table_core key s) at_place x.core Claims =
-      claim_word d s.words views next (omega arith)
+      writes_claim d s.words views next (omega arith)
       ∙ (λ k. record (table_core key s) {
         claim_number = up k;
         views = set (core_views s.views) at_place (after_claim (b.dict k) x.core n);
@@ -109,22 +109,23 @@ module _ (key : RoundKey) where
       let told = b.behind in
       let kept =
       event_keeps key s h id x y words Claims live same may (length-set s.words 0 next) is
-      (omega arith) (omega arith) in (
+      (omega arith) (omega arith) in
+      let range = seat_in_range key _ kept id y (live_after key s id x y live same) in (
         y,
         keeps,
         tt,
         kept,
         record {
           seat = refl;
-          range = seat_in_range key _ kept id y (live_after key s id x y live same);
+          range = range;
           earlier = earlier d (table_core key s) x.core may.0 fit.own;
         },
       )
 
   -- a reading of the next entry's seat word
   pub read_allowed : (slots id : ℕ) (me : SeatMe) (i k j : ℕ) → 0 < me.0.share
-      → (1 < me.0.share → me.0.core.done ≡ true) → me.0.dict ≡ d → Allowed d me.0.core (Reads k j)
-      → i ≡ 2 + entry d k j → Allows (IsSoundTable key) slots id me i (λ n. n) (ReadTold me)
+      → (1 < me.0.share → me.0.core.done ≡ true) → me.0.dict ≡ d → IsAllowed d me.0.core (Reads k j)
+      → i ≡ 2 + entry d k j → Allows (IsSoundTable key) slots id me i (λ n. n) (TellsRead me)
   read_allowed slots id me i k j some alone round may is s h homes at fits =
       let x = me.0 in
       let live = live_there s.views id x at some in
@@ -143,7 +144,7 @@ module _ (key : RoundKey) where
       h.valid.list_entries k j (omega arith) may.1 in
       let seen : found ≡ seats_of (table_core key s) p =
       ap (λ (z : ℕ). get_or s.words z 0) is
-      ∙ sym (seat_word d s.words (core_views s.views) p inside) in
+      ∙ sym (reads_seats d s.words (core_views s.views) p inside) in
       let at_place = place s.views id in
       let views_with : View → List View = λ v. set (core_views s.views) at_place v in
       let words = set s.words i found in
@@ -156,35 +157,29 @@ module _ (key : RoundKey) where
       let told = (h.each id x live).behind in
       let kept =
       event_keeps key s h id x y words (Reads k j) live same may (length-set s.words i found) leads
-      (omega arith) (omega arith) in (
-        y,
-        keeps,
-        tt,
-        kept,
-        record {
-          seat = refl;
-          range = seat_in_range key _ kept id y (live_after key s id x y live same);
-        },
-      )
+      (omega arith) (omega arith) in
+      let range = seat_in_range key _ kept id y (live_after key s id x y live same) in
+      (y, keeps, tt, kept, record { seat = refl; range = range })
 
   -- a post of the place found to the turn's cell
   pub post_allowed : (slots id : ℕ) (me : SeatMe) (i k j word : ℕ) (met : Bool) → 0 < me.0.share
-      → (1 < me.0.share → me.0.core.done ≡ true) → Allowed d me.0.core (Posts k j met)
+      → (1 < me.0.share → me.0.core.done ≡ true) → IsAllowed d me.0.core (Posts k j met)
       → i ≡ 2 + programme_count d + k → word ≡ 2 * j + 1
-      → Allows (IsSoundTable key) slots id me i (λ _. word) (λ _. PostTold me word)
+      → Allows (IsSoundTable key) slots id me i (λ _. word) (λ _. TellsPost me word)
   post_allowed slots id me i k j word met some alone may is shows s h homes at fits =
       let x = me.0 in
       let live = live_there s.views id x at some in
       let y = with_core x (after_post x.core (word / 2)) in
       let same = same_seat x y.core (λ more. (alone more, alone more)) in
       let half : word / 2 ≡ j = omega arith in
-      let shown : cell_of word ≡ Posted j = ap cell_of shows ∙ cell_posted j in
+      let fit = seat_fits key s h id x live in
+      let shown : cell_of word ≡ Posted j = ap cell_of shows ∙ shows_posted j in
       let at_place = place s.views id in
       let views = set (core_views s.views) at_place y.core in
       let words = set s.words i word in
       let leads : core_of d words views
       ≡ after d (table_core key s) at_place x.core (Posts k j met) =
-      cell_word d s.words views i k word (Posted j) is shown
+      writes_cell d s.words views i k word (Posted j) is (fit.claim _ may.0).turn shown
       ∙ ap (λ (z : ℕ). record (table_core key s) {
         cells = set (table_core key s).cells k (Posted j);
         views = set (core_views s.views) at_place (after_post x.core z);
@@ -194,13 +189,6 @@ module _ (key : RoundKey) where
       let told = (h.each id x live).behind in
       let kept =
       event_keeps key s h id x y words (Posts k j met) live same may (length-set s.words i word)
-      leads (omega arith) (omega arith) in (
-        y,
-        keeps,
-        tt,
-        kept,
-        record {
-          seat = refl;
-          range = seat_in_range key _ kept id y (live_after key s id x y live same);
-        },
-      )
+      leads (omega arith) (omega arith) in
+      let range = seat_in_range key _ kept id y (live_after key s id x y live same) in
+      (y, keeps, tt, kept, record { seat = refl; range = range })

@@ -14,20 +14,18 @@ use Rattle.interleaving_core.specs.declared.parts.Cell.TheVariants.{Empty, Poste
 use Rattle.interleaving_core.specs.declared.parts.Phase.{Phase}
 use Rattle.interleaving_core.specs.declared.parts.Phase.TheVariants.{Idle, Seated}
 use Rattle.interleaving_core.specs.Core.{View, turn_count, entry, quota_of, seats_of, cell_at, is_committed, hold_at}
-use Rattle.interleaving_core.specs.Events.{Action, Takes, Looks, Weighs, Seats, Seals, Releases, Allowed, with_hold, after_take, phase_after_look, phase_after_weigh, after}
+use Rattle.interleaving_core.specs.Events.{Action, Takes, Looks, Weighs, Seats, Seals, Releases, IsAllowed, with_hold, after_take, phase_after_look, phase_after_weigh, after}
 use Rattle.interleaving_core.specs.Sound.{bit, some_bit, empty_bit, turn_bit, hold_bit, claim_bit}
-use Rattle.market.proofs.Turns.{taken-le-quota}
+use Rattle.market.proofs.Turns.{seats_taken-le-quota}
 use Rattle.interleaving_core.proofs.Places.{sum_zero, terms_le}
 use Rattle.interleaving_core.proofs.Holder.{seats_now}
-use Rattle.word_rule.specs.Layout.{cell_of, core_of, programme_count}
-use Rattle.word_rule.specs.Views.{SeatKnows, with_core, other_view, core_views}
+use Rattle.word_rule.specs.Layout.{is_held, cell_of, core_of, programme_count}
+use Rattle.word_rule.specs.Views.{SeatKnows, SeatMe, with_core, other_view, core_views}
 use Rattle.word_rule.specs.Rule.{IsLive, IsSoundTable, share_of, table_core}
-use Rattle.word_rule.specs.Steps.{SeatMe}
-use Rattle.word_rule.specs.Holder.{is_odd, posted_place, tried, TakeTold, look_by, LookTold, weigh_by, WeighTold, seat_by, SeatTold, seal_by, SealTold, released_with, ReleaseTold}
+use Rattle.word_rule.specs.Holder.{posted_place, tried, TellsTake, look_by, TellsLook, weigh_by, TellsWeigh, seat_by, TellsSeat, seal_by, TellsSeal, released_with, TellsRelease}
 use Rattle.word_rule.specs.declared.rule.RoundKey.{RoundKey}
-use Rattle.word_rule.proofs.CoreViews.{there, place, at_place, whose}
-use Rattle.word_rule.proofs.Layouts.{seat_word, cell_word}
-use Rattle.word_rule.proofs.MarkWords.{cell_committed, or_one, cell_read, mark_word, count_word}
+use Rattle.word_rule.proofs.CoreViews.{live_there, place, at_place, whose}
+use Rattle.word_rule.proofs.Layouts.{shows_committed, or_one, reads_seats, reads_cell, writes_mark, writes_seats, writes_cell}
 use Rattle.word_rule.proofs.Keeps.{IsSameSeat, live_after, seat_in_range, seat_fits, table_after, event_keeps}
 
 tried_core : (x : SeatKnows) (b : Bool) (n : ℕ) → (tried x b n).core ≡ after_take x.core b n
@@ -98,9 +96,9 @@ module _ (key : RoundKey) where
 
   -- so it finds the mark free where it does not hold it
   pub free_with_all : (s : Table) (h : IsSoundTable key s) (id : ℕ) (x : SeatKnows) → IsLive s.views id x
-      → x.share ≡ key.workers → x.core.hold ≡ None → is_odd (get_or s.words 1 0) ≡ false
+      → x.share ≡ key.workers → x.core.hold ≡ None → is_held (get_or s.words 1 0) ≡ false
   free_with_all s h id x live every hold =
-      bit_zero (is_odd (get_or s.words 1 0))
+      bit_zero (is_held (get_or s.words 1 0))
       (sym h.sound.mark.holders
       ∙ sum_zero hold_bit (core_views s.views) (λ j v e.
       ⊎_elim
@@ -126,7 +124,7 @@ module _ (key : RoundKey) where
 
   -- a step that leaves the mark's word keeps the rule where it is an event of the core
   mark_stays : (s : Table) (h : IsSoundTable key s) (id : ℕ) (x y : SeatKnows) (words : List ℕ) (a : Action)
-      → IsLive s.views id x → IsSameSeat x y → Allowed d x.core a → length words ≡ length s.words
+      → IsLive s.views id x → IsSameSeat x y → IsAllowed d x.core a → length words ≡ length s.words
       → core_of d words (set (core_views s.views) (place s.views id) y.core) ≡ after d (table_core key s) (place s.views id) x.core a
       → get_or words 1 0 / 2 ≡ get_or s.words 1 0 / 2 → y.released ≡ x.released
       → IsSoundTable key (table_after key s id y words)
@@ -136,7 +134,7 @@ module _ (key : RoundKey) where
 
   -- so does a load
   load_keeps : (s : Table) (h : IsSoundTable key s) (id i : ℕ) (x : SeatKnows) (v : View) (a : Action)
-      → IsLive s.views id x → IsSameSeat x (with_core x v) → Allowed d x.core a
+      → IsLive s.views id x → IsSameSeat x (with_core x v) → IsAllowed d x.core a
       → core_of d s.words (set (core_views s.views) (place s.views id) v) ≡ after d (table_core key s) (place s.views id) x.core a
       → IsSoundTable key (table_after key s id (with_core x v) (set s.words i (get_or s.words i 0)))
   load_keeps s h id i x v a live same may leads =
@@ -146,13 +144,13 @@ module _ (key : RoundKey) where
 
   -- a try on the mark
   pub take_allowed : (slots id : ℕ) (me : SeatMe) → 0 < me.0.share
-      → (1 < me.0.share → me.0.core.done ≡ true) → Allowed d me.0.core Takes
-      → Allows (IsSoundTable key) slots id me 1 (λ n. bit_or n 1) (TakeTold me)
+      → (1 < me.0.share → me.0.core.done ≡ true) → IsAllowed d me.0.core Takes
+      → Allows (IsSoundTable key) slots id me 1 (λ n. bit_or n 1) (TellsTake me)
   take_allowed slots id me some alone may s h homes at fits =
       let x = me.0 in
-      let live : IsLive s.views id x = record { there = there s.views id x at; live = some } in
+      let live = live_there s.views id x at some in
       let found = get_or s.words 1 0 in
-      let b = is_odd found in
+      let b = is_held found in
       let y = tried x b (found / 2) in
       let same = tried_same x b (found / 2) alone in
       let word = bit_or found 1 in
@@ -160,7 +158,7 @@ module _ (key : RoundKey) where
       let wide = h.wide in
       let views = set (core_views s.views) (place s.views id) y.core in
       let leads : core_of d (set s.words 1 word) views ≡ after d (table_core key s) (place s.views id) x.core Takes =
-      mark_word d s.words views word (omega arith)
+      writes_mark d s.words views word (omega arith)
       ∙ (λ k. record (table_core key s) {
         mark_held = one.1 k;
         mark_number = one.0 k;
@@ -173,14 +171,15 @@ module _ (key : RoundKey) where
       let mine = h.each id x live in
       let dict = ap (λ (z : Dictatorship). turn_count z) mine.dict in
       let behind = h.sound.mark.behind in
-      let within = h.sound.mark.within in (
+      let within = h.sound.mark.within in
+      let range = seat_in_range key _ kept id y (live_after key s id x y live same) in (
         y,
         keeps,
         tt,
         kept,
         record {
           seat = refl;
-          range = seat_in_range key _ kept id y (live_after key s id x y live same);
+          range = range;
           within = omega arith;
           free = λ every. free_with_all s h id x live (every ∙ mine.workers) may.1;
         },
@@ -188,31 +187,32 @@ module _ (key : RoundKey) where
 
   -- a look at the first uncommitted turn's cell
   pub look_allowed : (slots id : ℕ) (me : SeatMe) (i k : ℕ) → 0 < me.0.share
-      → (1 < me.0.share → me.0.core.done ≡ true) → Allowed d me.0.core (Looks k)
-      → i ≡ 2 + programme_count d + k → Allows (IsSoundTable key) slots id me i (λ n. n) (LookTold me)
+      → (1 < me.0.share → me.0.core.done ≡ true) → IsAllowed d me.0.core (Looks k)
+      → i ≡ 2 + programme_count d + k → Allows (IsSoundTable key) slots id me i (λ n. n) (TellsLook me)
   look_allowed slots id me i k some alone may is s h homes at fits =
       let x = me.0 in
-      let live : IsLive s.views id x = record { there = there s.views id x at; live = some } in
+      let live = live_there s.views id x at some in
       let found = get_or s.words i 0 in
       let v = look_by x.core x.core.hold found in
       let seen_view : Cell → View = λ c. with_hold x.core (hold_at k (phase_after_look c)) in
       let by : v ≡ seen_view (cell_of found) = ap (λ o. look_by x.core o found) may.0 in
       let y = with_core x v in
       let same = same_with x v (ap (λ (u : View). u.done) by) alone in
-      let seen = cell_read d s.words (core_views s.views) i k is in
+      let seen = reads_cell d s.words (core_views s.views) i k is may.1 in
       let leads : core_of d s.words (set (core_views s.views) (place s.views id) v)
       ≡ after d (table_core key s) (place s.views id) x.core (Looks k) =
       ap (λ (u : View). core_of d s.words (set (core_views s.views) (place s.views id) u)) (by ∙ ap seen_view (sym seen)) in
       let kept = load_keeps s h id i x v (Looks k) live same may leads in
       let mine = h.each id x live in
-      let count = ((seat_fits key s h id x live).hold _ may.0).committed in (
+      let count = ((seat_fits key s h id x live).hold _ may.0).committed in
+      let range = seat_in_range key _ kept id y (live_after key s id x y live same) in (
         y,
         keeps,
         tt,
         kept,
         record {
           seat = refl;
-          range = seat_in_range key _ kept id y (live_after key s id x y live same);
+          range = range;
           uncommitted = ap is_committed (sym seen) ∙ h.sound.cells.above k (omega arith);
           posted = λ every done.
               subst (λ (c : Cell). IsSome (posted_place c)) seen
@@ -222,11 +222,11 @@ module _ (key : RoundKey) where
 
   -- a weighing of the entry at the holder's place
   pub weigh_allowed : (slots id : ℕ) (me : SeatMe) (i k j : ℕ) → 0 < me.0.share
-      → (1 < me.0.share → me.0.core.done ≡ true) → Allowed d me.0.core (Weighs k j) → i ≡ 2 + entry d k j
-      → Allows (IsSoundTable key) slots id me i (λ n. n) (WeighTold me)
+      → (1 < me.0.share → me.0.core.done ≡ true) → IsAllowed d me.0.core (Weighs k j) → i ≡ 2 + entry d k j
+      → Allows (IsSoundTable key) slots id me i (λ n. n) (TellsWeigh me)
   weigh_allowed slots id me i k j some alone may is s h homes at fits =
       let x = me.0 in
-      let live : IsLive s.views id x = record { there = there s.views id x at; live = some } in
+      let live = live_there s.views id x at some in
       let found = get_or s.words i 0 in
       let p = entry d k j in
       let v = weigh_by x.dict x.core x.core.hold found in
@@ -238,25 +238,21 @@ module _ (key : RoundKey) where
       let turn = (fit.hold _ may.0).phase.0.0 in
       let inside : p < programme_count d = h.valid.list_entries k j turn may.1 in
       let seen : found ≡ seats_of (table_core key s) p =
-      ap (λ (z : ℕ). get_or s.words z 0) is ∙ sym (seat_word d s.words (core_views s.views) p inside) in
+      ap (λ (z : ℕ). get_or s.words z 0) is ∙ sym (reads_seats d s.words (core_views s.views) p inside) in
       let leads : core_of d s.words (set (core_views s.views) (place s.views id) v)
       ≡ after d (table_core key s) (place s.views id) x.core (Weighs k j) =
       ap (λ (u : View). core_of d s.words (set (core_views s.views) (place s.views id) u)) (by ∙ ap seen_view seen) in
-      let kept = load_keeps s h id i x v (Weighs k j) live same may leads in (
-        with_core x v,
-        keeps,
-        tt,
-        kept,
-        record { seat = refl; range = seat_in_range key _ kept id (with_core x v) (live_after key s id x (with_core x v) live same) },
-      )
+      let kept = load_keeps s h id i x v (Weighs k j) live same may leads in
+      let range = seat_in_range key _ kept id (with_core x v) (live_after key s id x (with_core x v) live same) in
+      (with_core x v, keeps, tt, kept, record { seat = refl; range = range })
 
   -- a seat taken of the entry at the holder's place
   pub seat_allowed : (slots id : ℕ) (me : SeatMe) (i k j : ℕ) → 0 < me.0.share
-      → (1 < me.0.share → me.0.core.done ≡ true) → Allowed d me.0.core (Seats k j) → i ≡ 2 + entry d k j
-      → Allows (IsSoundTable key) slots id me i (λ n. (n + 1) % 2 ^ 64) (SeatTold me)
+      → (1 < me.0.share → me.0.core.done ≡ true) → IsAllowed d me.0.core (Seats k j) → i ≡ 2 + entry d k j
+      → Allows (IsSoundTable key) slots id me i (λ n. (n + 1) % 2 ^ 64) (TellsSeat me)
   seat_allowed slots id me i k j some alone may is s h homes at fits =
       let x = me.0 in
-      let live : IsLive s.views id x = record { there = there s.views id x at; live = some } in
+      let live = live_there s.views id x at some in
       let found = get_or s.words i 0 in
       let p = entry d k j in
       let v = seat_by x.dict x.core x.core.hold found in
@@ -269,16 +265,16 @@ module _ (key : RoundKey) where
       let phase = (fit.hold _ may).phase in
       let inside : p < programme_count d = h.valid.list_entries k j phase.0.0 phase.1 in
       let seen : found ≡ seats_of (table_core key s) p =
-      ap (λ (z : ℕ). get_or s.words z 0) is ∙ sym (seat_word d s.words (core_views s.views) p inside) in
+      ap (λ (z : ℕ). get_or s.words z 0) is ∙ sym (reads_seats d s.words (core_views s.views) p inside) in
       let now = seats_now d (table_core key s) h.sound (place s.views id) x.core (at_place s.views id x live) _ may (λ q. refl) p inside in
-      let most = taken-le-quota d p (h.valid.filled p inside) k in
+      let most = seats_taken-le-quota d p (h.valid.filled p inside) k in
       let quota = h.valid.quotas p inside in
       let next = (found + 1) % 2 ^ 64 in
       let up : next ≡ found + 1 = mod-eq_of_lt (let l : found + 1 < 2 ^ 64 = omega arith in l) in
       let count : next ≡ seats_of (table_core key s) p + 1 = up ∙ ap (λ (z : ℕ). z + 1) seen in
       let views = set (core_views s.views) (place s.views id) v in
       let leads : core_of d (set s.words i next) views ≡ after d (table_core key s) (place s.views id) x.core (Seats k j) =
-      count_word d s.words views i p next is inside
+      writes_seats d s.words views i p next is inside
       ∙ (λ z. record (table_core key s) {
         seats = set (table_core key s).seats p (count z);
         views = set (core_views s.views) (place s.views id) ((by ∙ ap seen_view seen) z);
@@ -286,34 +282,35 @@ module _ (key : RoundKey) where
       let mark : get_or (set s.words i next) 1 0 ≡ get_or s.words 1 0 =
       get_or-set_other s.words i 1 next 0 (λ e. omega arith) in
       let kept = mark_stays s h id x y (set s.words i next) (Seats k j) live same may (length-set s.words i next) leads
-      (ap (λ (z : ℕ). z / 2) mark) refl in (
+      (ap (λ (z : ℕ). z / 2) mark) refl in
+      let range = seat_in_range key _ kept id y (live_after key s id x y live same) in (
         y,
         keeps,
         tt,
         kept,
         record {
           seat = refl;
-          range = seat_in_range key _ kept id y (live_after key s id x y live same);
+          range = range;
           small = omega arith;
         },
       )
 
   -- a commit of the holder's turn at its place
   pub seal_allowed : (slots id : ℕ) (me : SeatMe) (i k j word : ℕ) (phase : Phase) → 0 < me.0.share
-      → (1 < me.0.share → me.0.core.done ≡ true) → Allowed d me.0.core (Seals k j phase)
-      → i ≡ 2 + programme_count d + k → word ≡ 2 * j + 2
-      → Allows (IsSoundTable key) slots id me i (λ _. word) (λ _. SealTold me)
-  seal_allowed slots id me i k j word phase some alone may is shows s h homes at fits =
+      → (1 < me.0.share → me.0.core.done ≡ true) → IsAllowed d me.0.core (Seals k j phase)
+      → k < turn_count d → i ≡ 2 + programme_count d + k → word ≡ 2 * j + 2
+      → Allows (IsSoundTable key) slots id me i (λ _. word) (λ _. TellsSeal me)
+  seal_allowed slots id me i k j word phase some alone may inside is shows s h homes at fits =
       let x = me.0 in
-      let live : IsLive s.views id x = record { there = there s.views id x at; live = some } in
+      let live = live_there s.views id x at some in
       let v = seal_by x.core x.core.hold in
       let by : v ≡ with_hold x.core (hold_at (k + 1) Idle) = ap (seal_by x.core) may.0 in
       let y = with_core x v in
       let same = same_with x v (ap (λ (u : View). u.done) by) alone in
-      let shown : cell_of word ≡ Committed j = ap cell_of shows ∙ cell_committed j in
+      let shown : cell_of word ≡ Committed j = ap cell_of shows ∙ shows_committed j in
       let views = set (core_views s.views) (place s.views id) v in
       let leads : core_of d (set s.words i word) views ≡ after d (table_core key s) (place s.views id) x.core (Seals k j phase) =
-      cell_word d s.words views i k word (Committed j) is shown
+      writes_cell d s.words views i k word (Committed j) is inside shown
       ∙ ap (λ (u : View). record (table_core key s) {
         cells = set (table_core key s).cells k (Committed j);
         views = set (core_views s.views) (place s.views id) u;
@@ -321,21 +318,17 @@ module _ (key : RoundKey) where
       let mark : get_or (set s.words i word) 1 0 ≡ get_or s.words 1 0 =
       get_or-set_other s.words i 1 word 0 (λ e. omega arith) in
       let kept = mark_stays s h id x y (set s.words i word) (Seals k j phase) live same may (length-set s.words i word) leads
-      (ap (λ (z : ℕ). z / 2) mark) refl in (
-        y,
-        keeps,
-        tt,
-        kept,
-        record { seat = refl; range = seat_in_range key _ kept id y (live_after key s id x y live same) },
-      )
+      (ap (λ (z : ℕ). z / 2) mark) refl in
+      let range = seat_in_range key _ kept id y (live_after key s id x y live same) in
+      (y, keeps, tt, kept, record { seat = refl; range = range })
 
   -- a release with the number of committed turns
   pub release_allowed : (slots id : ℕ) (me : SeatMe) (k word : ℕ) (phase : Phase) → 0 < me.0.share
-      → (1 < me.0.share → me.0.core.done ≡ true) → Allowed d me.0.core (Releases k phase) → word ≡ 2 * k
-      → Allows (IsSoundTable key) slots id me 1 (λ _. word) (λ _. ReleaseTold me word)
+      → (1 < me.0.share → me.0.core.done ≡ true) → IsAllowed d me.0.core (Releases k phase) → word ≡ 2 * k
+      → Allows (IsSoundTable key) slots id me 1 (λ _. word) (λ _. TellsRelease me word)
   release_allowed slots id me k word phase some alone may shows s h homes at fits =
       let x = me.0 in
-      let live : IsLive s.views id x = record { there = there s.views id x at; live = some } in
+      let live = live_there s.views id x at some in
       let y = released_with x (word / 2) in
       let same : IsSameSeat x y = record { number = refl; share = refl; dict = refl; workers = refl; alone = λ more. (alone more, alone more) } in
       let wide = h.wide in
@@ -343,16 +336,12 @@ module _ (key : RoundKey) where
       let even : eqb (word % 2) 1 ≡ false = ne_eqb (word % 2) 1 (λ e. omega arith) in
       let views = set (core_views s.views) (place s.views id) y.core in
       let leads : core_of d (set s.words 1 word) views ≡ after d (table_core key s) (place s.views id) x.core (Releases k phase) =
-      mark_word d s.words views word (omega arith)
+      writes_mark d s.words views word (omega arith)
       ∙ (λ z. record (table_core key s) { mark_held = even z; mark_number = half z; views = views }) in
       let mark : get_or (set s.words 1 word) 1 0 ≡ word = get_or-set_same s.words 1 word 0 (omega arith) in
       let count = ((seat_fits key s h id x live).hold _ may.0).committed in
       let behind = h.sound.mark.behind in
       let kept = event_keeps key s h id x y (set s.words 1 word) (Releases k phase) live same may (length-set s.words 1 word) leads
-      (omega arith) (omega arith) in (
-        y,
-        keeps,
-        tt,
-        kept,
-        record { seat = refl; range = seat_in_range key _ kept id y (live_after key s id x y live same) },
-      )
+      (omega arith) (omega arith) in
+      let range = seat_in_range key _ kept id y (live_after key s id x y live same) in
+      (y, keeps, tt, kept, record { seat = refl; range = range })

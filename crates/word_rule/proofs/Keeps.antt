@@ -7,8 +7,8 @@ use Rattle.std.specs.Prelude.{slice_get}
 use Rattle.atomic_table.specs.Table.{State}
 use Rattle.market.specs.Dictatorships.{Dictatorship}
 use Rattle.interleaving_core.specs.Core.{View, Core}
-use Rattle.interleaving_core.specs.Events.{Action, Allowed, after, view_after}
-use Rattle.interleaving_core.specs.Sound.{ViewFits, Sound}
+use Rattle.interleaving_core.specs.Events.{Action, IsAllowed, after, view_after}
+use Rattle.interleaving_core.specs.Sound.{IsSoundView, IsSound}
 use Rattle.interleaving_core.proofs.Places.{at_set, sum_set}
 use Rattle.interleaving_core.proofs.Keeps as core
 use Rattle.word_rule.specs.Layout.{core_of}
@@ -36,7 +36,7 @@ same_seat x v alone =
 
 -- a view that fits a state speaks of the round's turns and places
 pub fits_in_range : (d : Dictatorship) (c : Core) (count : ℕ) (v : View) → count ≤ length d.lists
-    → ViewFits d c count v → IsInRange d v
+    → IsSoundView d c count v → IsInRange d v
 fits_in_range d c count v within f =
     record {
       claimed = λ k j met e. (f.claim _ e).turn;
@@ -93,7 +93,7 @@ module _ (key : RoundKey) where
 
   -- a seat's view fits the core state of the table
   pub seat_fits : (s : Table) (h : IsSoundTable key s) (i : ℕ) (x : SeatKnows) → IsLive s.views i x
-      → ViewFits d (table_core key s) h.sound.count x.core
+      → IsSoundView d (table_core key s) h.sound.count x.core
   seat_fits s h i x at = h.sound.views (place s.views i) x.core (at_place s.views i x at)
 
   -- so it speaks of the round's turns and places
@@ -118,7 +118,7 @@ module _ (key : RoundKey) where
   -- the rule stays where the core state after the step is sound
   pub sound_keeps : (s : Table) (h : IsSoundTable key s) (id : ℕ) (x y : SeatKnows) (words : List ℕ)
       → IsLive s.views id x → IsSameSeat x y → length words ≡ length s.words
-      → Sound d (core_of d words (core_views (set s.views id y)))
+      → IsSound d (core_of d words (core_views (set s.views id y)))
       → get_or s.words 1 0 / 2 ≤ get_or words 1 0 / 2 → y.released ≤ get_or words 1 0 / 2
       → (HasNotDrawn y.core → HasNotDrawn x.core × (get_or words 0 0 ≡ get_or s.words 0 0))
       → IsSoundTable key (table_after s id y words)
@@ -171,7 +171,7 @@ module _ (key : RoundKey) where
 
   -- the rule stays where the step is an event that the seat's view allows
   pub event_keeps : (s : Table) (h : IsSoundTable key s) (id : ℕ) (x y : SeatKnows)
-      (words : List ℕ) (a : Action) → IsLive s.views id x → IsSameSeat x y → Allowed d x.core a
+      (words : List ℕ) (a : Action) → IsLive s.views id x → IsSameSeat x y → IsAllowed d x.core a
       → length words ≡ length s.words
       → core_of d words (set (core_views s.views) (place s.views id) y.core)
       ≡ after d (table_core key s) (place s.views id) x.core a
@@ -183,7 +183,7 @@ module _ (key : RoundKey) where
       let shown = new_view (core_views s.views) (place s.views id) x.core y.core
       (view_after d (table_core key s) x.core a) own (ap (λ (c : Core). c.views) is) in
       sound_keeps s h id x y words at same long
-      (subst (Sound d) (sym leads)
+      (subst (IsSound d) (sym leads)
       (core.keeps d (table_core key s) (place s.views id) x.core a h.valid h.sound own may))
       grows behind
       (λ nothing.

@@ -1,6 +1,5 @@
 pub mod CoreViews
 pub mod Layouts
-pub mod MarkWords
 pub mod Undrawn
 pub mod Keeps
 pub mod Claimant

@@ -2,19 +2,22 @@
 -- is sound; and the seats that it is split into stand for every worker.
 use Rattle.std.proofs.Common.{◌≡◌, ℕ, zero, suc, ◌+◌, ◌<◌, ◌≤◌, false, List, [], ◌∷◌, ◌++◌, length, map, take, drop, replicate, Some, sym, refl, ap, inl, subst, ◌∙◌, arith, append-nil, length-append}
 use Rattle.std.specs.Prelude.{slice_get}
+use Rattle.std.proofs.Math.Nat.{le_refl}
 use Rattle.std.proofs.Math.ListN.{length-replicate}
 use Rattle.std.proofs.Math.Seq.{take-append_seam, drop-append_seam}
+use Rattle.std.proofs.lemmas.List.{take-replicate}
 use Rattle.std.proofs.lemmas.List.Sums.{sum_by-cons}
 use Rattle.atomic_table.specs.Table.{opening as table_opening}
 use Rattle.market.specs.Dictatorships.{Dictatorship, IsValidDictatorship}
+use Rattle.interleaving_core.specs.declared.limits.TheConstants.{MAX_WORKERS}
 use Rattle.interleaving_core.specs.declared.parts.Cell.TheVariants.{Empty}
 use Rattle.interleaving_core.specs.Core.{View, fresh_view, opening, turn_count}
-use Rattle.interleaving_core.specs.Sound.{Sound}
+use Rattle.interleaving_core.specs.Sound.{IsSound}
 use Rattle.interleaving_core.proofs.Keeps.{begins}
 use Rattle.word_rule.specs.Layout.{cell_of, core_of, first_words, programme_count, word_count}
 use Rattle.word_rule.specs.Views.{SeatKnows, shared_views, core_views}
 use Rattle.word_rule.specs.Rule.{Belongs, IsSoundTable, share_of, first_of}
-use Rattle.word_rule.specs.Rounds.{knows, AllNew, shares_of}
+use Rattle.word_rule.specs.Rounds.{knows, AreNew, shares_of}
 use Rattle.word_rule.specs.declared.rule.RoundKey.{RoundKey}
 use Rattle.word_rule.specs.declared.seat.SharedRound.{SharedRound}
 use Rattle.word_rule.specs.declared.seat.WorkSeat.{WorkSeat}
@@ -31,7 +34,7 @@ one_seat (suc n) l = append-nil (fresh_view ∷ replicate n fresh_view)
 pub words_open : (d : Dictatorship) (workers : ℕ) (views : List View) → IsValidDictatorship d
     → views ≡ replicate workers fresh_view → core_of d (first_words d) views ≡ opening d workers
 words_open d workers views valid fresh =
-    let zeros = replicate (turn_count d) 0 in
+    let zeros : List ℕ = replicate (turn_count d) 0 in
     let long : programme_count d ≡ length d.fill = sym valid.fills in
     let seats : take (programme_count d) (d.fill ++ zeros) ≡ d.fill =
     ap (λ (m : ℕ). take m (d.fill ++ zeros)) long ∙ take-append_seam d.fill zeros in
@@ -39,7 +42,10 @@ words_open d workers views valid fresh =
     ap (λ (m : ℕ). drop m (first_words d))
     (let e : 2 + programme_count d ≡ suc (suc (length d.fill)) = omega arith in e)
     ∙ drop-append_seam d.fill zeros in
-    let cells = ap (map cell_of) past ∙ empty_cells (turn_count d) in
+    let cells =
+    ap (λ (l : List ℕ). map cell_of (take (turn_count d) l)) past
+    ∙ (ap (map cell_of) (take-replicate (turn_count d) (turn_count d) 0 (le_refl (turn_count d)))
+    ∙ empty_cells (turn_count d)) in
     λ k. record {
       claim_number = 0;
       mark_held = false;
@@ -60,7 +66,7 @@ wide d valid =
 
 -- a table is made with a sound core state
 opens_with_first : (key : RoundKey) → IsValidDictatorship key.dict.value → 0 < key.workers
-    → key.workers ≤ 64 → IsSoundTable key (table_opening (first_words key.dict.value) [] (first_of key))
+    → key.workers ≤ MAX_WORKERS → IsSoundTable key (table_opening (first_words key.dict.value) [] (first_of key))
 opens_with_first key valid some few =
     let d = key.dict.value in
     let x = first_of key in
@@ -71,7 +77,7 @@ opens_with_first key valid some few =
       wide = wide d valid;
       sound =
           let shown = words_open d key.workers (core_views (x ∷ [])) valid views in
-          subst (Sound d) (sym shown) (begins d key.workers valid);
+          subst (IsSound d) (sym shown) (begins d key.workers valid);
       shares = sum_by-cons share_of x [] ∙ (let e : key.workers + 0 ≡ key.workers = omega arith in e);
       each = λ i y is.
           subst (Belongs key 0) (only x i y is.there) record {
@@ -97,7 +103,7 @@ opens_with_first key valid some few =
 
 -- the same for words that are known to be the opening words
 pub table_opens : (key : RoundKey) (words : List ℕ) → words ≡ first_words key.dict.value
-    → IsValidDictatorship key.dict.value → 0 < key.workers → key.workers ≤ 64
+    → IsValidDictatorship key.dict.value → 0 < key.workers → key.workers ≤ MAX_WORKERS
     → IsSoundTable key (table_opening words [] (first_of key))
 table_opens key words is valid some few =
     subst (λ (l : List ℕ). IsSoundTable key (table_opening l [] (first_of key))) (sym is)
@@ -114,6 +120,6 @@ new_shares (x ∷ xs) new =
     omega (arith, new_shares xs (λ k me e. new (suc k) me e))
 
 -- so they stand for all workers
-pub opens_shares : (round : SharedRound) (workers : ℕ) (seats : List WorkSeat) → AllNew round seats
+pub opens_shares : (round : SharedRound) (workers : ℕ) (seats : List WorkSeat) → AreNew round seats
     → length seats ≡ workers → shares_of seats ≡ workers
 opens_shares round workers seats new count = new_shares seats (λ k me e. (new k me e).share) ∙ count

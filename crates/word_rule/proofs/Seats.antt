@@ -3,8 +3,10 @@ use Rattle.std.proofs.Common.{◌≡◌, ℕ, ◌+◌, ◌-◌, List, [], ◌∷
 use Rattle.std.specs.Prelude.{slice_get}
 use Rattle.std.proofs.lemmas.List.Sums.{sum_by-append, sum_by-cons}
 use Rattle.interleaving_core.proofs.Places.{at_snoc, at_longer, at_last}
-use Rattle.word_rule.specs.Rule.{share_of}
-use Rattle.word_rule.specs.Rounds.{knows, shares_of, IsNew, AllNew, IsOver, AllOver}
+use Rattle.word_rule.specs.Views.{SeatKnows}
+use Rattle.word_rule.specs.Rule.{share_of, first_of}
+use Rattle.word_rule.specs.Rounds.{knows, key_of, shares_of, IsNew, AreNew, IsOver, AreOver}
+use Rattle.word_rule.specs.declared.rule.RoundKey.{RoundKey}
 use Rattle.word_rule.specs.declared.seat.SharedRound.{SharedRound}
 use Rattle.word_rule.specs.declared.seat.WorkSeat.{WorkSeat}
 
@@ -31,7 +33,7 @@ module _ {A : Type 0} (P : ℕ → A → Type 0) where
 
 -- the last of seats that are over, and the others
 pub over_last : (round : SharedRound) (l xs : List WorkSeat) (m : WorkSeat) → l ≡ xs ++ m ∷ []
-    → AllOver round l → IsOver round m × AllOver round xs
+    → AreOver round l → IsOver round m × AreOver round xs
 over_last round = each_last (λ _ me. IsOver round me)
 
 -- their shares
@@ -53,8 +55,30 @@ shares_none l left n is none rest =
 
 -- one more seat at the opening
 pub new_snoc : (round : SharedRound) (l xs : List WorkSeat) (m : WorkSeat) → l ≡ xs ++ m ∷ []
-    → AllNew round xs → IsNew round (length xs) m → AllNew round l
+    → AreNew round xs → IsNew round (length xs) m → AreNew round l
 new_snoc round = each_snoc (IsNew round)
+
+-- a seat of the opening with this number, and with this share of the workers
+abbrev pub part : RoundKey → ℕ → ℕ → SeatKnows
+part key number share = record (first_of key) { number = number; share = share }
+
+-- a seat that is one worker's part
+pub new_part_of : (round : SharedRound) (worker n share : ℕ) (me : WorkSeat)
+    → me.seat.table_id ≡ round.table.shared.table_id → knows me ≡ part (key_of round) n share
+    → n ≡ worker → share ≡ 1 → IsNew round worker me
+new_part_of round worker n share me table is number one = record {
+  of_round = record {
+    table = table;
+    dict = ap (λ (x : SeatKnows). x.dict) is;
+    workers = ap (λ (x : SeatKnows). x.workers) is;
+  };
+  fresh = ap (λ (x : SeatKnows). x.core) is;
+  number = ap (λ (x : SeatKnows). x.number) is ∙ number;
+  share = ap (λ (x : SeatKnows). x.share) is ∙ one;
+  tries = ap (λ (x : SeatKnows). x.tries) is;
+  took = ap (λ (x : SeatKnows). x.took) is;
+  released = ap (λ (x : SeatKnows). x.released) is;
+}
 
 -- one more seat
 pub count_snoc : (l xs : List WorkSeat) (m : WorkSeat) → l ≡ xs ++ m ∷ [] → length l ≡ length xs + 1

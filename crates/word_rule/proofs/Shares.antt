@@ -10,7 +10,7 @@ use Rattle.market.specs.Dictatorships.{Dictatorship}
 use Rattle.interleaving_core.specs.declared.parts.Phase.{Phase}
 use Rattle.interleaving_core.specs.declared.parts.Phase.TheVariants.{Idle, Halted, Scan, Ready, Seated}
 use Rattle.interleaving_core.specs.Core.{View, Core, fresh_view}
-use Rattle.interleaving_core.specs.Sound.{bit, some_bit, turn_bit, holder_seat_bit, hold_bit, done_bit, claim_bit, seat_bit, PhaseFits, ViewFits, Sound}
+use Rattle.interleaving_core.specs.Sound.{bit, some_bit, turn_bit, holder_seat_bit, hold_bit, done_bit, claim_bit, seat_bit, IsSoundPhase, IsSoundView, IsSound}
 use Rattle.interleaving_core.proofs.Places.{at_set, at_snoc, at_longer, sum_set}
 use Rattle.interleaving_core.proofs.OwnTurns.{own_stays, own_nil}
 use Rattle.word_rule.specs.Views.{SeatKnows, ended_view, other_view, shared_views, core_views, kept_part, new_part, joined, spent_seat}
@@ -24,14 +24,14 @@ module _ (d : Dictatorship) (c : Core) (vs : List View) where
   abbrev regrouped : Core
   regrouped = record c { views = vs }
 
-  phase_refits : (h : ℕ) (x : Phase) → PhaseFits d c h x → PhaseFits d regrouped h x
+  phase_refits : (h : ℕ) (x : Phase) → IsSoundPhase d c h x → IsSoundPhase d regrouped h x
   phase_refits h Idle f = f
   phase_refits h Halted f = f
   phase_refits h (Scan j) f = f
   phase_refits h (Ready j) f = f
   phase_refits h (Seated j full) f = f
 
-  refits : (count : ℕ) (v : View) → ViewFits d c count v → ViewFits d regrouped count v
+  refits : (count : ℕ) (v : View) → IsSoundView d c count v → IsSoundView d regrouped count v
   refits count v f =
       record {
         one = f.one;
@@ -46,12 +46,12 @@ module _ (d : Dictatorship) (c : Core) (vs : List View) where
       }
 
   -- a sound state stays so where its views are others with the same sums
-  pub resound : (s : Sound d c) → sum_by hold_bit vs ≡ sum_by hold_bit c.views
+  pub resound : (s : IsSound d c) → sum_by hold_bit vs ≡ sum_by hold_bit c.views
       → sum_by done_bit vs ≡ sum_by done_bit c.views
       → ((k : ℕ) → sum_by (claim_bit k) vs ≡ sum_by (claim_bit k) c.views)
       → ((p : ℕ) → sum_by (seat_bit d p) vs ≡ sum_by (seat_bit d p) c.views)
-      → ((i : ℕ) (v : View) → slice_get vs i ≡ Some v → ViewFits d c s.count v)
-      → Sound d regrouped
+      → ((i : ℕ) (v : View) → slice_get vs i ≡ Some v → IsSoundView d c s.count v)
+      → IsSound d regrouped
   resound s same_hold same_done same_claim same_seat each =
       record {
         count = s.count;
@@ -104,7 +104,7 @@ module _ (key : RoundKey) where
   Table = State ℕ SeatKnows
 
   abbrev Fits : (s : Table) → IsSoundTable key s → View → Type 0
-  Fits s h = ViewFits d (table_core key s) h.sound.count
+  Fits s h = IsSoundView d (table_core key s) h.sound.count
 
   -- each other view that a seat stands for fits as well
   other_fits : (s : Table) (h : IsSoundTable key s) (i : ℕ) (x : SeatKnows) → IsLive s.views i x
@@ -310,8 +310,8 @@ idle_weight f x o e =
 module _ (key : RoundKey) where
   -- a done view with nothing else fits wherever a done view does
   ended_fits : (s : State ℕ SeatKnows) (h : IsSoundTable key s) (v : View)
-      → ViewFits key.dict.value (table_core key s) h.sound.count v → v.done ≡ true
-      → ViewFits key.dict.value (table_core key s) h.sound.count ended_view
+      → IsSoundView key.dict.value (table_core key s) h.sound.count v → v.done ≡ true
+      → IsSoundView key.dict.value (table_core key s) h.sound.count ended_view
   ended_fits s h v f done =
       record {
         one =
@@ -377,16 +377,16 @@ module _ (key : RoundKey) where
       inr (u.0, record { there = u.1; live = is.live }))
       (at_set s.views id i both z t.1))
       (at_set mid other i spent_seat z is.there) in
-      let fits_of : (v : View) → Whose vs v → ViewFits d (table_core key s) h.sound.count v =
+      let fits_of : (v : View) → Whose vs v → IsSoundView d (table_core key s) h.sound.count v =
       λ v w.
       ⊎_elim
       (λ (t : (w.at ≡ id) × (w.seat ≡ both)).
       ⊎_elim
       (λ (own : v ≡ w.seat.core).
-      subst (ViewFits d (table_core key s) h.sound.count)
+      subst (IsSoundView d (table_core key s) h.sound.count)
       (sym (own ∙ ap (λ (u : SeatKnows). u.core) t.1)) own_fits)
       (λ (rest : (1 < w.seat.share) × (v ≡ other_view w.seat.core.done)).
-      subst (ViewFits d (table_core key s) h.sound.count)
+      subst (IsSoundView d (table_core key s) h.sound.count)
       (sym (rest.1 ∙ ap other_view (ap (λ (u : SeatKnows). u.core.done) t.1 ∙ o.done))) others_fit)
       w.which)
       (λ (t : (w.at ≢ id) × IsLive s.views w.at w.seat). old_fits key s h w.at w.seat v t.1 w.which)

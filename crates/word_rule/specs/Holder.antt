@@ -1,39 +1,39 @@
 -- What each atomic step of the mark's holder tells, by the word found.
-use Rattle.std.specs.Prelude.{◌≡◌, ℕ, ◌+◌, ◌/◌, ◌%◌, ◌<◌, ◌≤◌, ◌==◌, Bool, true, false, nat_lt, nat_le, Option, Some, None, IsSome}
+use Rattle.std.specs.Prelude.{◌≡◌, ℕ, ◌+◌, ◌^◌, ◌<◌, ◌≤◌, Bool, true, false, nat_lt, nat_le, Option, Some, None, IsSome}
 use Rattle.market.specs.Dictatorships.{Dictatorship}
 use Rattle.interleaving_core.specs.declared.parts.Cell.{Cell}
 use Rattle.interleaving_core.specs.declared.parts.Cell.TheVariants.{Posted}
 use Rattle.interleaving_core.specs.declared.parts.Phase.{Phase}
-use Rattle.interleaving_core.specs.declared.parts.Phase.TheVariants.{Idle, Scan, Ready, Seated}
+use Rattle.interleaving_core.specs.declared.parts.Phase.TheVariants.{Idle, Halted, Scan, Ready, Seated}
 use Rattle.interleaving_core.specs.declared.parts.Holding.{Holding}
 use Rattle.interleaving_core.specs.Core.{View, turn_count, entry, quota_of, is_committed, hold_at}
 use Rattle.interleaving_core.specs.Events.{with_hold, after_take, phase_after_look, phase_after_weigh}
-use Rattle.word_rule.specs.Layout.{cell_of}
-use Rattle.word_rule.specs.Views.{SeatKnows, with_core}
+use Rattle.word_rule.specs.Layout.{is_held, mark_number, cell_of}
+use Rattle.word_rule.specs.Views.{SeatKnows, SeatMe, me_with, with_core}
 use Rattle.word_rule.specs.Copies.{IsInRange}
-use Rattle.word_rule.specs.Steps.{SeatMe, Tells, me_with}
-
--- whether the mark is held, by its word
-abbrev pub is_odd : ℕ → Bool
-is_odd word = word % 2 == 1
 
 -- the place that a cell is posted at
 abbrev pub posted_place : Cell → Option ℕ
 posted_place (Posted j) = Some j
 posted_place _ = None
 
--- the seat after a try on the mark: where the mark was held, the try alone is made; else the mark is this
--- seat's, which keeps the number found
+-- the seat as holder of the mark, with so many turns committed and in this phase
+abbrev pub as_holder : SeatKnows → ℕ → Phase → SeatKnows
+as_holder x committed phase = with_core x (with_hold x.core (hold_at committed phase))
+
+-- the seat after one more try on the mark: where the mark was held, the try alone is made; else the
+-- mark is this seat's, which keeps the number found
 abbrev pub tried : SeatKnows → Bool → ℕ → SeatKnows
-tried x true number = with_core x (after_take x.core true number)
-tried x false number = record x { core = after_take x.core false number; took = number }
+tried x true number = record x { core = after_take x.core true number; tries = x.tries + 1 }
+tried x false number =
+    record x { core = after_take x.core false number; tries = x.tries + 1; took = number }
 
 -- a try on the mark; a seat with every share finds it free
-pub record TakeTold (m : SeatMe) (found : ℕ) (n : SeatMe) : Type 0 where
-  pub seat : n ≡ (tried m.0 (is_odd found) (found / 2), m.1)
+pub record TellsTake (m : SeatMe) (found : ℕ) (n : SeatMe) : Type 0 where
+  pub seat : n ≡ (tried m.0 (is_held found) (mark_number found), m.1)
   pub range : IsInRange n.0.dict n.0.core
-  pub within : found / 2 ≤ turn_count m.0.dict
-  pub free : m.0.share ≡ m.0.workers → is_odd found ≡ false
+  pub within : mark_number found ≤ turn_count m.0.dict
+  pub free : m.0.share ≡ m.0.workers → is_held found ≡ false
 
 -- the view after a look at the cell that this word shows
 abbrev pub look_by : View → Option Holding → ℕ → View
@@ -41,7 +41,7 @@ look_by v None found = v
 look_by v (Some h) found = with_hold v (hold_at h.committed (phase_after_look (cell_of found)))
 
 -- a look: the cell found is not committed, and a done seat with every share finds it posted
-pub record LookTold (m : SeatMe) (found : ℕ) (n : SeatMe) : Type 0 where
+pub record TellsLook (m : SeatMe) (found : ℕ) (n : SeatMe) : Type 0 where
   pub seat : n ≡ me_with m (look_by m.0.core m.0.core.hold found)
   pub range : IsInRange n.0.dict n.0.core
   pub uncommitted : is_committed (cell_of found) ≡ false
@@ -51,7 +51,10 @@ pub record LookTold (m : SeatMe) (found : ℕ) (n : SeatMe) : Type 0 where
 -- the phase after weighing turn c's next entry: it is full, or has a seat left, by the count found
 abbrev pub weigh_phase : Dictatorship → ℕ → Phase → ℕ → Phase
 weigh_phase d c (Scan j) found = phase_after_weigh (nat_lt found (quota_of d (entry d c j))) j
-weigh_phase d c phase found = phase
+weigh_phase d c Idle found = Idle
+weigh_phase d c Halted found = Halted
+weigh_phase d c (Ready j) found = Ready j
+weigh_phase d c (Seated j filled) found = Seated j filled
 
 -- the view after it
 abbrev pub weigh_by : Dictatorship → View → Option Holding → ℕ → View
@@ -60,15 +63,18 @@ weigh_by d v (Some h) found =
     with_hold v (hold_at h.committed (weigh_phase d h.committed h.phase found))
 
 -- a weighing
-pub record WeighTold (m : SeatMe) (found : ℕ) (n : SeatMe) : Type 0 where
+pub record TellsWeigh (m : SeatMe) (found : ℕ) (n : SeatMe) : Type 0 where
   pub seat : n ≡ me_with m (weigh_by m.0.dict m.0.core m.0.core.hold found)
   pub range : IsInRange n.0.dict n.0.core
 
--- the phase after a seat of turn c's entry is taken: filled says whether one more than the count found
--- is the quota
+-- the phase after a seat of turn c's entry is taken: whether one more than the count found is the
+-- quota
 abbrev pub seat_phase : Dictatorship → ℕ → Phase → ℕ → Phase
 seat_phase d c (Ready j) found = Seated j (nat_le (quota_of d (entry d c j)) (found + 1))
-seat_phase d c phase found = phase
+seat_phase d c Idle found = Idle
+seat_phase d c Halted found = Halted
+seat_phase d c (Scan j) found = Scan j
+seat_phase d c (Seated j filled) found = Seated j filled
 
 -- the view after it
 abbrev pub seat_by : Dictatorship → View → Option Holding → ℕ → View
@@ -77,10 +83,10 @@ seat_by d v (Some h) found =
     with_hold v (hold_at h.committed (seat_phase d h.committed h.phase found))
 
 -- a seat taken; the count found is far from a word's end
-pub record SeatTold (m : SeatMe) (found : ℕ) (n : SeatMe) : Type 0 where
+pub record TellsSeat (m : SeatMe) (found : ℕ) (n : SeatMe) : Type 0 where
   pub seat : n ≡ me_with m (seat_by m.0.dict m.0.core m.0.core.hold found)
   pub range : IsInRange n.0.dict n.0.core
-  pub small : found < 4294967296
+  pub small : found < 2 ^ 32
 
 -- the view after a commit: one turn more is committed
 abbrev pub seal_by : View → Option Holding → View
@@ -88,7 +94,7 @@ seal_by v None = v
 seal_by v (Some h) = with_hold v (hold_at (h.committed + 1) Idle)
 
 -- a commit
-pub record SealTold (m : SeatMe) (n : SeatMe) : Type 0 where
+pub record TellsSeal (m : SeatMe) (n : SeatMe) : Type 0 where
   pub seat : n ≡ me_with m (seal_by m.0.core m.0.core.hold)
   pub range : IsInRange n.0.dict n.0.core
 
@@ -97,30 +103,6 @@ abbrev pub released_with : SeatKnows → ℕ → SeatKnows
 released_with x number = record x { core = with_hold x.core None; released = number }
 
 -- a release: half the word stored is the number
-pub record ReleaseTold (m : SeatMe) (stored : ℕ) (n : SeatMe) : Type 0 where
-  pub seat : n ≡ (released_with m.0 (stored / 2), m.1)
+pub record TellsRelease (m : SeatMe) (stored : ℕ) (n : SeatMe) : Type 0 where
+  pub seat : n ≡ (released_with m.0 (mark_number stored), m.1)
   pub range : IsInRange n.0.dict n.0.core
-
--- the same in the form that the table takes
-abbrev pub take_tells : Tells
-take_tells st m found n = TakeTold m found n
-
--- the same in the form that the table takes
-abbrev pub look_tells : Tells
-look_tells st m found n = LookTold m found n
-
--- the same in the form that the table takes
-abbrev pub weigh_tells : Tells
-weigh_tells st m found n = WeighTold m found n
-
--- the same in the form that the table takes
-abbrev pub seat_tells : Tells
-seat_tells st m found n = SeatTold m found n
-
--- the same in the form that the table takes
-abbrev pub seal_tells : Tells
-seal_tells st m stored n = SealTold m n
-
--- the same in the form that the table takes
-abbrev pub release_tells : Tells
-release_tells st m stored n = ReleaseTold m stored n

@@ -8,7 +8,7 @@ pub mod Copies
 -- the one rule: words and views together are one sound core state
 pub mod Rule
 -- what each atomic step of a claimant tells
-pub mod Steps
+pub mod Claimant
 -- what each atomic step of the mark's holder tells
 pub mod Holder
 -- a round and its seats, as clauses speak of them

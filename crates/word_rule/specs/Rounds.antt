@@ -43,12 +43,13 @@ pub record IsNew (round : SharedRound) (worker : ℕ) (me : WorkSeat) : Type 0 w
   pub fresh : (knows me).core ≡ fresh_view
   pub number : (knows me).number ≡ worker
   pub share : (knows me).share ≡ 1
+  pub tries : (knows me).tries ≡ 0
   pub took : (knows me).took ≡ 0
   pub released : (knows me).released ≡ 0
 
 -- seats at the opening, numbered from 0
-abbrev pub AllNew : SharedRound → List WorkSeat → Type 0
-AllNew round seats = (k : ℕ) (me : WorkSeat) → slice_get seats k ≡ Some me → IsNew round k me
+abbrev pub AreNew : SharedRound → List WorkSeat → Type 0
+AreNew round seats = (k : ℕ) (me : WorkSeat) → slice_get seats k ≡ Some me → IsNew round k me
 
 -- it is a seat of this round that is done, has no claim and does not hold the mark
 pub record IsOver (round : SharedRound) (me : WorkSeat) : Type 0 where
@@ -58,8 +59,8 @@ pub record IsOver (round : SharedRound) (me : WorkSeat) : Type 0 where
   pub hold : (knows me).core.hold ≡ None
 
 -- each of these seats is over
-abbrev pub AllOver : SharedRound → List WorkSeat → Type 0
-AllOver round seats = (k : ℕ) (me : WorkSeat) → slice_get seats k ≡ Some me → IsOver round me
+abbrev pub AreOver : SharedRound → List WorkSeat → Type 0
+AreOver round seats = (k : ℕ) (me : WorkSeat) → slice_get seats k ≡ Some me → IsOver round me
 
 -- how many workers these seats stand for
 abbrev pub shares_of : List WorkSeat → ℕ

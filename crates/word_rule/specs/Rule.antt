@@ -1,11 +1,13 @@
 -- The one rule of a round's table.
-use Rattle.std.specs.Prelude.{◌≡◌, ◌≢◌, ◌⊎◌, ℕ, ◌/◌, ◌<◌, ◌≤◌, true, false, List, [], length, slice_get, slice_index, Some}
+use Rattle.std.specs.Prelude.{◌≡◌, ◌≢◌, ◌⊎◌, ℕ, ◌<◌, ◌≤◌, true, false, List, [], length, slice_get, slice_index, Some}
 use Rattle.std.specs.List.{sum_by}
 use Rattle.atomic_table.specs.Table.{State}
 use Rattle.market.specs.Dictatorships.{IsValidDictatorship}
+use Rattle.interleaving_core.specs.declared.limits.TheConstants.{MAX_WORKERS}
 use Rattle.interleaving_core.specs.Core.{View, Core, fresh_view}
-use Rattle.interleaving_core.specs.Sound.{Sound}
-use Rattle.word_rule.specs.Layout.{core_of, word_count}
+use Rattle.interleaving_core.specs.Sound.{IsSound}
+use Rattle.word_rule.specs.declared.layout.TheConstants.{CLAIM_WORD, MARK_WORD}
+use Rattle.word_rule.specs.Layout.{mark_number, core_of, word_count}
 use Rattle.word_rule.specs.Views.{SeatKnows, core_views, first_seat}
 use Rattle.word_rule.specs.declared.rule.RoundKey.{RoundKey}
 
@@ -19,11 +21,11 @@ table_core key s = core_of key.dict.value s.words (core_views s.views)
 
 -- a seat that is not spent is one of this round, and stands for more than one worker only at the
 -- opening or once it is done; the mark's number is at least the one that it released last
-pub record Belongs (key : RoundKey) (mark_number : ℕ) (x : SeatKnows) : Type 0 where
+pub record Belongs (key : RoundKey) (number : ℕ) (x : SeatKnows) : Type 0 where
   pub dict : x.dict ≡ key.dict.value
   pub workers : x.workers ≡ key.workers
   pub wide : 1 < x.share → (x.core ≡ fresh_view) ⊎ (x.core.done ≡ true)
-  pub behind : x.released ≤ mark_number
+  pub behind : x.released ≤ number
 
 -- a seat of the table that is not spent
 pub record IsLive (seats : List SeatKnows) (i : ℕ) (x : SeatKnows) : Type 0 where
@@ -37,13 +39,13 @@ HasNotDrawn v = (v.own ≡ []) × (v.done ≡ false)
 -- words and views together are one sound core state of the round's dictatorship
 pub record IsSoundTable (key : RoundKey) (s : State ℕ SeatKnows) : Type 0 where
   pub valid : IsValidDictatorship key.dict.value
-  pub team : key.workers ≤ 64
+  pub team : key.workers ≤ MAX_WORKERS
   pub wide : length s.words ≡ word_count key.dict.value
-  pub sound : Sound key.dict.value (table_core key s)
+  pub sound : IsSound key.dict.value (table_core key s)
   -- the seats stand for all workers, each is one of this round, and their numbers differ
   pub shares : sum_by share_of s.views ≡ key.workers
   pub each : (i : ℕ) (x : SeatKnows) → IsLive s.views i x
-      → Belongs key (slice_index s.words 1 / 2) x
+      → Belongs key (mark_number (slice_index s.words MARK_WORD)) x
   pub apart : (i j : ℕ) (x y : SeatKnows) → IsLive s.views i x → IsLive s.views j y → i ≢ j
       → x.number ≢ y.number
   -- a seat that is still to be split has the greatest number
@@ -51,7 +53,7 @@ pub record IsSoundTable (key : RoundKey) (s : State ℕ SeatKnows) : Type 0 wher
       → 1 < x.share → x.core.done ≡ false → y.number < x.number
   -- while nobody has drawn a number, the claim number is 0
   pub undrawn : ((i : ℕ) (x : SeatKnows) → IsLive s.views i x → HasNotDrawn x.core)
-      → slice_index s.words 0 ≡ 0
+      → slice_index s.words CLAIM_WORD ≡ 0
 
 -- what the first seat of a round knows
 abbrev pub first_of : RoundKey → SeatKnows

@@ -1,15 +1,18 @@
 -- What each seat of a round's table knows.
 use Rattle.std.specs.Prelude.{ℕ, zero, suc, ◌+◌, ◌-◌, Bool, true, false, List, [], ◌∷◌, ◌++◌, replicate, None}
+use Rattle.atomic_table.specs.Table.{Me}
 use Rattle.market.specs.Dictatorships.{Dictatorship}
 use Rattle.interleaving_core.specs.Core.{View, fresh_view}
 
 -- a worker's view of the core; the seat's number and its share, which is how many workers it stands
--- for; the number of its last take that found the mark free, and the number that its last release
--- wrote; and the round's dictatorship and number of workers
+-- for; how many tries on the mark it has made, held or not; the number of its last try that found the
+-- mark free, and the number that its last release wrote; and the round's dictatorship and number of
+-- workers
 pub record SeatKnows : Type 0 where
   pub core : View
   pub number : ℕ
   pub share : ℕ
+  pub tries : ℕ
   pub took : ℕ
   pub released : ℕ
   pub dict : Dictatorship
@@ -41,6 +44,7 @@ first_seat d workers =
       core = fresh_view;
       number = 0;
       share = workers;
+      tries = 0;
       took = 0;
       released = 0;
       dict = d;
@@ -58,7 +62,14 @@ kept_part x = record x { share = 1 }
 -- a split: the new seat has the other shares and the next number
 abbrev pub new_part : SeatKnows → SeatKnows
 new_part x =
-    record x { core = fresh_view; number = x.number + 1; share = x.share - 1; took = 0; released = 0 }
+    record x {
+      core = fresh_view;
+      number = x.number + 1;
+      share = x.share - 1;
+      tries = 0;
+      took = 0;
+      released = 0;
+    }
 
 -- a join: the share of the other seat is added
 abbrev pub joined : SeatKnows → SeatKnows → SeatKnows
@@ -67,3 +78,11 @@ joined x y = record x { share = x.share + y.share }
 -- the seat with another view of the core
 abbrev pub with_core : SeatKnows → View → SeatKnows
 with_core x v = record x { core = v }
+
+-- a seat as the table knows it: what it knows, and the slots that it holds, of which there are none
+abbrev pub SeatMe : Type 0
+SeatMe = Me ℕ SeatKnows
+
+-- the seat with another view of the core
+abbrev pub me_with : SeatMe → View → SeatMe
+me_with m v = (with_core m.0 v, m.1)

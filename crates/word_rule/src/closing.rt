@@ -5,8 +5,10 @@ ghost use Rattle.market.specs.Dictatorships.{choice};
 ghost use Rattle.interleaving_core.specs.Core.{turn_count};
 ghost use Rattle.word_rule.specs.Rounds.{IsSeatOf, knows, key_of, dict_of};
 
+use crate::layout::{MARK_WORD, cell_of, cell_word, mark_number};
 use crate::seat::{SharedRound, WorkSeat};
 use atomic_table::Closed;
+use interleaving_core::Cell;
 use std::alloc::Global;
 use std::marker::Model;
 use std::snapshot::Snapshot;
@@ -15,7 +17,7 @@ use std::snapshot::Snapshot;
 /// its committed turns, which are the first ones. Only `close_round` makes a value of this type.
 pub struct Words {
     closed: Closed<u8, Global>,
-    cells_from: u32,
+    programmes: u32,
     committed: u32,
     // The round as clauses see it: it takes no bytes.
     round: Snapshot<SharedRound>,
@@ -34,7 +36,8 @@ impl Model for Words {
     ghost invariant = { λ w. IsFull w.closed.words
         × (length (slots_items w.closed.words) ≡ slots_len w.closed.words)
         × (slots_len w.closed.slots ≡ 0)
-        × AreCommitted (dict_of w.round.value) (slots_items w.closed.words) w.cells_from w.committed };
+        × AreCommitted (dict_of w.round.value) (slots_items w.closed.words)
+        w.programmes w.committed };
 }
 
 impl Words {
@@ -51,8 +54,11 @@ impl Words {
         requires { turn < self.now.committed }
         ensures { result ≡ choice self.now.dict turn }
     {
-        let word = self.closed.word(self.cells_from as usize + turn as usize);
-        (word / 2 - 1) as u32
+        let word = self.closed.word(cell_word(self.programmes, turn));
+        let Cell::Committed(place) = cell_of(word) else {
+            unreachable!()
+        };
+        place
     }
 }
 
@@ -60,7 +66,7 @@ impl Drop for Words {
     fn drop(self) {
         let Self {
             closed,
-            cells_from: _,
+            programmes: _,
             committed: _,
             round: _,
         } = self;
@@ -92,10 +98,10 @@ pub fn close_round(round: SharedRound, me: WorkSeat) -> Words
         committed: _,
     } = me;
     let closed = table.close_with(seat);
-    let committed = (closed.word(1) / 2) as u32;
+    let committed = mark_number(closed.word(MARK_WORD));
     Words {
         closed,
-        cells_from: 2 + programmes,
+        programmes,
         committed,
         round: ended,
     }

@@ -7,24 +7,31 @@
 //! holds between any two steps, in whatever order the workers make them.
 #![tactic(auto)]
 
-// The rule, what a table is made with, and the kinds of atomic step of a claimant.
+// The words of a table by name: where each stands, and how its contents are written and read.
+mod layout;
+// The rule, and what a table is made with.
 mod rule;
+// The kinds of atomic step of a claimant.
+mod claimant_steps;
+// The kinds of atomic step of the mark's holder, and of who tries to take it.
+mod holder_steps;
 // The table of a round, and a worker's seat.
 mod seat;
 // The opening of a round, and the joining of its seats.
 mod opening;
 // The end of a round, and the choices that its words show.
 mod closing;
-// The kinds of atomic step of the mark's holder.
-mod mark_steps;
 #[cfg(test)]
 mod tests;
 
+pub use claimant_steps::{ClaimStep, PostStep, ReadStep};
 pub use closing::{Words, close_round};
+pub use holder_steps::{LookStep, ReleaseStep, SealStep, SeatStep, TakeStep, WeighStep};
 pub use interleaving_core::{Claiming as ClaimCopy, Phase as PhaseCopy};
-pub use mark_steps::{LookStep, ReleaseStep, SealStep, SeatStep, TakeStep, WeighStep};
-pub use opening::{join_all, open_round};
-pub use rule::{
-    ClaimStep, PostStep, ReadStep, RoundKey, RoundRule, RoundSeat, RoundTable, SeatView, ShareMove,
+pub use layout::{
+    CLAIM_WORD, FIRST_SEAT_WORD, MARK_WORD, cell_of, cell_word, committed_at, free_mark, is_held,
+    mark_number, posted_at, seat_word,
 };
+pub use opening::{join_all, open_round};
+pub use rule::{RoundKey, RoundRule, RoundSeat, RoundTable, SeatView, ShareMove};
 pub use seat::{SharedRound, WorkSeat};

@@ -4,15 +4,17 @@ ghost use Rattle.std.specs.Prelude.{◌≡◌, ℕ, ◌+◌, ◌<◌, ◌≤◌,
 ghost use Rattle.interleaving_core.specs.Core.{fresh_view};
 ghost use Rattle.word_rule.specs.Layout.{first_words};
 ghost use Rattle.word_rule.specs.Views.{first_seat};
-ghost use Rattle.word_rule.specs.Rounds.{knows, key_of, dict_of, IsNew, AllNew, IsOver, AllOver, IsAlone, ShowsOpening, shares_of};
+ghost use Rattle.word_rule.specs.Rounds.{knows, key_of, dict_of, IsNew, AreNew, IsOver, AreOver, IsAlone, ShowsOpening, shares_of};
 
+use crate::layout::{FIRST_SEAT_WORD, cell_word, free_mark};
 use crate::rule::{RoundKey, RoundSeat, RoundTable, ShareMove};
 use crate::seat::{SharedRound, WorkSeat};
+use interleaving_core::MAX_WORKERS;
 use market::Dict;
 use std::alloc::{AllocError, Global};
 use std::snapshot::Snapshot;
 
-/// The words of a round, and one seat for each of its 1 to 64 workers, numbered from 0. Words and
+/// The words of a round, and one seat for each of its 1 to `MAX_WORKERS` workers, numbered from 0. Words and
 /// seats together are the opening state of the core: whatever the table is while every view is still
 /// that of the opening, it shows that state. All memory of the round is taken here.
 pub fn open_round(
@@ -20,11 +22,11 @@ pub fn open_round(
     dict: &Dict,
     workers: u32,
 ) -> Result<(SharedRound, Vec<WorkSeat>), AllocError>
-    requires { (0 < workers) × (workers ≤ 64) }
+    requires { (0 < workers) × (workers ≤ MAX_WORKERS) }
     ensures dict { IfOk result (λ r. dict_of r.0 ≡ dict.now) }
     ensures workers { IfOk result (λ r. (key_of r.0).workers ≡ workers) }
     ensures seats { IfOk result (λ r. length r.1.items ≡ workers) }
-    ensures new { IfOk result (λ r. AllNew r.0 r.1.items) }
+    ensures new { IfOk result (λ r. AreNew r.0 r.1.items) }
     ensures shares { IfOk result (λ r. shares_of r.1.items ≡ workers) }
     ensures opens { IfOk result (λ r. ShowsOpening (key_of r.0)) }
 {
@@ -52,9 +54,9 @@ fn opening_words(alloc: Global, dict: &Dict) -> Result<Vec<u64>, AllocError>
 {
     let programmes = dict.programmes();
     let turns = dict.turns();
-    let mut words = Vec::with_capacity(alloc, 2 + programmes as usize + turns as usize)?;
+    let mut words = Vec::with_capacity(alloc, cell_word(programmes, turns))?;
     let claim_number = 0;
-    let free_mark = 0;
+    let free_mark = free_mark(0);
     words.push_reserved(claim_number);
     words.push_reserved(free_mark);
     push_fills(&mut words, dict);
@@ -65,7 +67,7 @@ fn opening_words(alloc: Global, dict: &Dict) -> Result<Vec<u64>, AllocError>
 // Behind the words for the claim number and the mark, the seat counts are the fills.
 fn push_fills(words: &mut Vec<u64>, dict: &Dict)
     requires room { vec_len words.old + length dict.now.quota ≤ vec_capacity words.old }
-    requires empty { vec_len words.old ≡ 2 }
+    requires empty { vec_len words.old ≡ FIRST_SEAT_WORD }
     ensures items { words.new.items ≡ words.old.items ++ dict.now.fill }
     ensures len { vec_len words.new ≡ vec_len words.old + length dict.now.quota }
     ensures capacity { vec_capacity words.new ≡ vec_capacity words.old }
@@ -92,8 +94,9 @@ fn split_all(round: &SharedRound, first: RoundSeat, workers: u32, seats: &mut Ve
     requires workers { (0 < workers) × ((key_of round.now).workers ≡ workers) }
     requires empty { (seats.old.items ≡ []) × (vec_len seats.old ≡ 0) }
     requires room { workers ≤ vec_capacity seats.old }
-    ensures new { AllNew round.now seats.new.items }
+    ensures new { AreNew round.now seats.new.items }
     ensures count { length seats.new.items ≡ workers }
+    ensures shares { shares_of seats.new.items ≡ workers }
 {
     let mut rest = first;
     for number in 1..workers {
@@ -124,7 +127,7 @@ fn new_seat(seat: RoundSeat, number: u32) -> WorkSeat
 /// Joins all seats of a round into one, which then has every share: no other seat claims or holds
 /// the mark. Each seat is done, has no claim and does not hold the mark. It takes no memory.
 pub fn join_all(round: &SharedRound, mut seats: Vec<WorkSeat>) -> WorkSeat
-    requires over { AllOver round.now seats.items }
+    requires over { AreOver round.now seats.items }
     requires all { shares_of seats.items ≡ (key_of round.now).workers }
     ensures over { IsOver round.now result }
     ensures all { (knows result).share ≡ (key_of round.now).workers }

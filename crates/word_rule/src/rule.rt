@@ -1,6 +1,6 @@
-// The rule of a round's table, what a table is made with, and the kinds of atomic step of a claimant.
+// The rule of a round's table, and what a table is made with.
 
-use atomic_table::{Join, Play, Seat, Split, Table, TableRule};
+use atomic_table::{Join, Seat, Split, Table, TableRule};
 use market::Dict;
 use std::alloc::Global;
 use std::marker::Model;
@@ -42,33 +42,6 @@ pub type RoundTable = Table<u8, SeatView, RoundKey, RoundRule, Global>;
 
 /// A seat of such a table.
 pub type RoundSeat = Seat<u8, SeatView>;
-
-/// A worker draws the next turn: a fetch-and-add on the claim word.
-pub struct ClaimStep;
-
-impl Play<u8, SeatView> for ClaimStep {
-    ghost use Rattle.word_rule.specs.Steps.{claim_tells};
-
-    ghost then = { claim_tells };
-}
-
-/// A claimant reads the seat count of the next entry: a load of its seat word.
-pub struct ReadStep;
-
-impl Play<u8, SeatView> for ReadStep {
-    ghost use Rattle.word_rule.specs.Steps.{read_tells};
-
-    ghost then = { read_tells };
-}
-
-/// A claimant posts the place that it found: a store to its turn's cell.
-pub struct PostStep;
-
-impl Play<u8, SeatView> for PostStep {
-    ghost use Rattle.word_rule.specs.Steps.{post_tells};
-
-    ghost then = { post_tells };
-}
 
 /// Seats are split and joined: their shares move, and the core state stays as it was.
 pub struct ShareMove;

@@ -1,4 +1,4 @@
-// A claimant's events.
+// The events of a claimant.
 
 ghost use Rattle.std.specs.Prelude.{◌<◌, length};
 ghost use Rattle.interleaving_core.specs.declared.events.CoreEvent.{CoreEvent};

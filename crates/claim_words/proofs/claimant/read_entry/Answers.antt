@@ -13,6 +13,7 @@ load-found-requires c =
     let list = c.list.ensures ∙ ap (λ d. list_at d x.turn) c.requires.dict in
     let programme = ap (λ l. slice_index_or l x.passed 0) list in
     let inside = next.programme in
+    let word = c.seat_word.ensures in
     let words = round.words_are in (
       c.requires.seat.table,
       omega arith,

@@ -1,8 +1,11 @@
-use Rattle.word_rule.specs.Rounds.{knows}
-use Rattle.commit_book.proofs.Sweeps.{swept_of}
+use Rattle.commit_book.proofs.Sweeps.{is_idle, swept_of}
 use Rattle.commit_book.proofs.prefix.commit_prefix.Goals as goal
+
+pub sweep-requires-clause-idle : goal.sweep-requires-clause-idle
+sweep-requires-clause-idle c =
+    is_idle c.args.me.now c.take.new.me (c.if-not-take.ensures {u = tt}).event
 
 pub returns-clause-event : goal.returns-clause-event
 returns-clause-event c =
-    let at = c.loop-place.me in
-    swept_of c.args.me.now at c.look.new.me c.release.new.me (knows at).took c.loop-place.count c.loop-place.invariant.view (c.in_default.ensures {u = tt}).event c.release.ensures.event
+    swept_of c.args.me.now c.take.new.me (c.if-not-take.ensures {u = tt}).event c.sweep.new.me
+    c.sweep.result c.sweep.ensures.swept

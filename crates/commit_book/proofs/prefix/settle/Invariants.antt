@@ -1,7 +1,7 @@
 use Rattle.std.proofs.Common.{◌≡◌}
 use Rattle.interleaving_core.specs.declared.parts.Phase.TheVariants.{Scan}
 use Rattle.word_rule.specs.Rounds.{Stays, knows}
-use Rattle.commit_book.specs.Book.{as_holder}
+use Rattle.word_rule.specs.Holder.{as_holder}
 use Rattle.commit_book.proofs.prefix.settle.Given as goal
 
 abbrev pub invariant-loop-entry : goal.invariant-loop-entry

@@ -1,5 +1,7 @@
-use Rattle.std.proofs.Common.{ℕ, ◌+◌, ◌/◌, arith, ap, sym, subst}
+use Rattle.std.proofs.Common.{ℕ, arith, ap, ◌∙◌, sym, subst}
 use Rattle.std.specs.Slots.{slots_items}
+use Rattle.word_rule.specs.declared.layout.TheConstants.{MARK_WORD}
+use Rattle.word_rule.specs.Layout.{mark_number}
 use Rattle.word_rule.specs.Closing.{AreCommitted}
 use Rattle.word_rule.specs.Rounds.{dict_of}
 use Rattle.word_rule.specs.declared.seat.SharedRound.{SharedRound}
@@ -13,20 +15,20 @@ invariant_of-result c =
     let counts = c.close_with-closed.ensures.counts in
     let values = c.close_with-closed.ensures.values in
     let ends = round_ends round.table.shared.key _ _ _ _ values.2 c.args.me.live c.requires.all c.requires.free in
-    let half = ap (λ (z : ℕ). z / 2) (word_at words 1 c.word.result c.word.ensures) in
-    let first = ap (λ (z : ℕ). 2 + z) (sym round.programmes_are) in
+    let half = ap mark_number (word_at words MARK_WORD c.word.result c.word.ensures)
+    ∙ sym c.mark_number-committed.ensures in
     let wide = ends.wide in
     let table = round.words_are in
     let slots = round.no_slots in
     let words_count = counts.0 in
     let slots_count = counts.1 in
-    let committed = subst (λ (z : ℕ). AreCommitted (dict_of round) words z (c.word.result / 2)) first
+    let committed = subst (λ (z : ℕ). AreCommitted (dict_of round) words z c.mark_number-committed.result) (sym round.programmes_are)
     (ends_committed words _ _ _ ends half) in
     let seen = sym c.of-ended.ensures in (
       values.0,
       omega arith,
       omega arith,
-      subst (λ (z : SharedRound). AreCommitted (dict_of z) words (2 + round.programmes) (c.word.result / 2)) seen committed,
+      subst (λ (z : SharedRound). AreCommitted (dict_of z) words round.programmes c.mark_number-committed.result) seen committed,
     )
 
 pub returns-clause-released : goal.returns-clause-released
@@ -35,6 +37,7 @@ returns-clause-released c =
     let words = slots_items c.close_with-closed.result.words in
     let values = c.close_with-closed.ensures.values in
     let ends = round_ends round.table.shared.key _ _ _ _ values.2 c.args.me.live c.requires.all c.requires.free in
-    let half = ap (λ (z : ℕ). z / 2) (word_at words 1 c.word.result c.word.ensures) in
+    let half = ap mark_number (word_at words MARK_WORD c.word.result c.word.ensures)
+    ∙ sym c.mark_number-committed.ensures in
     let least = ends.least in
     omega arith

@@ -1,11 +1,11 @@
 use Rattle.std.proofs.Common.{◌≡◌, ◌+◌, vec_len}
-use Rattle.word_rule.specs.Rounds.{knows, key_of, IsOver, AllOver, shares_of}
+use Rattle.word_rule.specs.Rounds.{knows, key_of, IsOver, AreOver, shares_of}
 use Rattle.word_rule.proofs.opening.join_all.Given as goal
 
 abbrev pub invariant-loop-other : goal.invariant-loop-other
 invariant-loop-other l = record {
   mine : IsOver l.round l.me;
-  others : AllOver l.round l.seats.items;
+  others : AreOver l.round l.seats.items;
   all : (knows l.me).share + shares_of l.seats.items ≡ (key_of l.round).workers;
 }
 

@@ -1,15 +1,18 @@
-use Rattle.std.proofs.Common.{arith, rules, ap, ◌∙◌, length}
-use Rattle.word_rule.specs.Rounds.{IsNew}
+use Rattle.std.proofs.Common.{◌≡◌, ◌+◌, ◌-◌, length, arith, rules, refl, ap, ◌∙◌}
+use Rattle.word_rule.specs.Views.{SeatKnows, kept_part, new_part}
+use Rattle.word_rule.specs.Rounds.{knows, key_of}
+use Rattle.word_rule.proofs.Openings.{opens_shares}
 use Rattle.word_rule.proofs.Shares.{split_keeps}
-use Rattle.word_rule.proofs.Seats.{new_snoc, count_snoc}
+use Rattle.word_rule.proofs.Seats.{part, new_part_of, new_snoc, count_snoc}
 use Rattle.word_rule.proofs.opening.split_all.Goals as goal
 
 pub split_seat-next-requires : goal.split_seat-next-requires
 split_seat-next-requires c =
     let v = c.loop-number.invariant in
     let below = c.loop-number-test.true in
-    let share = v.share in
-    (v.table, search rules, split_keeps _ _ _ v.fresh (omega arith))
+    let share = ap (λ (x : SeatKnows). x.share) v.rest in
+    let fresh = ap (λ (x : SeatKnows). x.core) v.rest in
+    (v.table, search rules, split_keeps _ _ _ fresh (omega arith))
 
 pub loop-number-preserved : goal.loop-number-preserved
 loop-number-preserved c =
@@ -17,34 +20,20 @@ loop-number-preserved c =
     let below = c.loop-number-test.true in
     let e = c.split_seat-next.ensures in
     let made = c.new_seat.ensures in
-    let kept = ap (λ m. m.0) e.2 in
-    let given = ap (λ m. m.0) e.4 in
     let count = v.count in
-    let number = v.number in
-    let share = v.share in
     let len = v.len in
-    let new : IsNew c.args.round.now (length c.loop-number.seats.items) c.new_seat.result = record {
-      of_round = record {
-        table = ap (λ s. s.table_id) made ∙ (e.0 ∙ v.table);
-        dict = ap (λ s. s.me.0.dict) made ∙ (ap (λ m. m.dict) kept ∙ v.dict);
-        workers = ap (λ s. s.me.0.workers) made ∙ (ap (λ m. m.workers) kept ∙ v.workers);
-      };
-      fresh = ap (λ s. s.me.0.core) made ∙ (ap (λ m. m.core) kept ∙ v.fresh);
-      number = let n = ap (λ s. s.me.0.number) made ∙ ap (λ m. m.number) kept in omega arith;
-      share = ap (λ s. s.me.0.share) made ∙ ap (λ m. m.share) kept;
-      took = ap (λ s. s.me.0.took) made ∙ (ap (λ m. m.took) kept ∙ v.took);
-      released = ap (λ s. s.me.0.released) made ∙ (ap (λ m. m.released) kept ∙ v.released);
-    } in
+    let key = key_of c.args.round.now in
+    let kept : knows c.new_seat.result ≡ part key (c.loop-number.number - 1) 1 =
+    ap (λ s. s.me.0) made ∙ (ap (λ m. m.0) e.2 ∙ ap kept_part v.rest) in
+    let number : c.loop-number.number - 1 + 1 ≡ c.loop-number.number + 1 - 1 = omega arith in
+    let share : c.args.workers + 1 - c.loop-number.number - 1
+    ≡ c.args.workers + 1 - (c.loop-number.number + 1) = omega arith in
+    let at : c.loop-number.number - 1 ≡ length c.loop-number.seats.items = omega arith in
+    let new = new_part_of _ _ _ _ _ (ap (λ s. s.table_id) made ∙ (e.0 ∙ v.table)) kept at refl in
     record {
       table = e.3 ∙ v.table;
       bare = ap (λ m. m.1) e.4;
-      fresh = ap (λ m. m.core) given;
-      dict = ap (λ m. m.dict) given ∙ v.dict;
-      workers = ap (λ m. m.workers) given ∙ v.workers;
-      number = let n = ap (λ m. m.number) given in omega arith;
-      share = let n = ap (λ m. m.share) given in omega arith;
-      took = ap (λ m. m.took) given;
-      released = ap (λ m. m.released) given;
+      rest = ap (λ m. m.0) e.4 ∙ (ap new_part v.rest ∙ (λ i. part key (number i) (share i)));
       new = new_snoc _ _ _ _ c.push_reserved.ensures.items v.new new;
       count = let n = count_snoc _ _ _ c.push_reserved.ensures.items in omega arith;
       len = let n = c.push_reserved.ensures.len in omega arith;
@@ -58,20 +47,10 @@ returns-clause-new c =
     let upto = c.loop-number.auto.number-end in
     let made = c.new_seat-2.ensures in
     let count = v.count in
-    let number = v.number in
-    let share = v.share in
-    let new : IsNew c.args.round.now (length c.loop-number.seats.items) c.new_seat-2.result = record {
-      of_round = record {
-        table = ap (λ s. s.table_id) made ∙ v.table;
-        dict = ap (λ s. s.me.0.dict) made ∙ v.dict;
-        workers = ap (λ s. s.me.0.workers) made ∙ v.workers;
-      };
-      fresh = ap (λ s. s.me.0.core) made ∙ v.fresh;
-      number = let n = ap (λ s. s.me.0.number) made in omega arith;
-      share = let n = ap (λ s. s.me.0.share) made in omega arith;
-      took = ap (λ s. s.me.0.took) made ∙ v.took;
-      released = ap (λ s. s.me.0.released) made ∙ v.released;
-    } in
+    let at : c.loop-number.number - 1 ≡ length c.loop-number.seats.items = omega arith in
+    let one : c.args.workers + 1 - c.loop-number.number ≡ 1 = omega arith in
+    let new = new_part_of _ _ _ _ _ (ap (λ s. s.table_id) made ∙ v.table)
+    (ap (λ s. s.me.0) made ∙ v.rest) at one in
     new_snoc _ _ _ _ c.push_reserved-2.ensures.items v.new new
 
 pub returns-clause-count : goal.returns-clause-count
@@ -82,3 +61,7 @@ returns-clause-count c =
     let count = v.count in
     let n = count_snoc _ _ _ c.push_reserved-2.ensures.items in
     omega arith
+
+pub returns-clause-shares : goal.returns-clause-shares
+returns-clause-shares c =
+    opens_shares c.args.round.now c.args.workers _ (returns-clause-new c) (returns-clause-count c)

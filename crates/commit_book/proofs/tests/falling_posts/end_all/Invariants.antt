@@ -1,12 +1,12 @@
 use Rattle.std.proofs.Common.{◌≡◌, ◌+◌, vec_len}
-use Rattle.word_rule.specs.Rounds.{AllOver, shares_of}
-use Rattle.commit_book.specs.Seats.{AllReady}
+use Rattle.word_rule.specs.Rounds.{AreOver, shares_of}
+use Rattle.commit_book.specs.Seats.{AreWorking}
 use Rattle.commit_book.proofs.tests.falling_posts.end_all.Given as goal
 
 abbrev pub invariant-loop-me : goal.invariant-loop-me
 invariant-loop-me g l = record {
-  left : AllReady l.round l.seats.items;
-  over : AllOver l.round l.over.items;
+  left : AreWorking l.round l.seats.items;
+  over : AreOver l.round l.over.items;
   shares : shares_of l.over.items + shares_of l.seats.items ≡ shares_of l.fn.seats.items;
 }
 

@@ -1,0 +1,3 @@
+-- The definitions.
+-- what a worker does to its seat
+pub mod Workers

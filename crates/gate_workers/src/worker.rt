@@ -1,0 +1,73 @@
+// One worker.
+
+ghost use Rattle.std.specs.Prelude.{◌≡◌, ◌<◌, ◌+◌, false};
+ghost use Rattle.interleaving_core.specs.Core.{turn_count, claim_at};
+ghost use Rattle.word_rule.specs.Rounds.{IsSeatOf, IsOver, Stays, dict_of, knows};
+ghost use Rattle.claim_words.specs.Claimant.{MayClaim, MayPost};
+ghost use Rattle.commit_book.specs.Holder.{MayTake};
+ghost use Rattle.gate_workers.specs.Workers.{HasRead, HasTried, HasWorked};
+
+use crate::gate::{Gate, GatePoint};
+use claim_words::{claim, post, read_entry};
+use commit_book::{commit_turn, look, release, take};
+use market::Dict;
+use word_rule::{SharedRound, WorkSeat};
+
+/// Draws a turn, reads its list up to the first entry that has a seat left, posts the place found and
+/// tries the mark once; who takes it commits turns until a look finds none, and gives it back. So on until
+/// no turn is left: the seat is then done, and has no claim, no debt and not the mark.
+pub fn work<G: Gate>(round: &SharedRound, dict: &Dict, me: &mut WorkSeat, gate: &G)
+    requires seat { IsSeatOf round.now me.old }
+    requires dict { dict.now ≡ dict_of round.now }
+    requires may { MayClaim me.old }
+    ensures stays { Stays me.old me.new }
+    ensures over { IsOver round.now me.new }
+    ensures worked { HasWorked me.old me.new }
+{
+    while let Some(turn) = claim(round, me) {
+        gate.at(me.number, GatePoint::Claimed(turn));
+        read_list(round, dict, me, turn, gate);
+        post(round, dict, me);
+        gate.at(me.number, GatePoint::Posted(turn));
+        try_mark(round, dict, me, gate);
+    }
+}
+
+// Reads the list of the claimed turn up to the first entry that has a seat left.
+fn read_list<G: Gate>(round: &SharedRound, dict: &Dict, me: &mut WorkSeat, turn: u32, gate: &G)
+    requires seat { IsSeatOf round.now me.old }
+    requires dict { dict.now ≡ dict_of round.now }
+    requires turn { turn < turn_count dict.now }
+    requires claim { (knows me.old).core.claim ≡ claim_at turn 0 false }
+    ensures stays { Stays me.old me.new }
+    ensures read { HasRead me.old me.new }
+{
+    let places = dict.list(turn).len() as u32;
+    for place in 0..places {
+        gate.at(me.number, GatePoint::BeforeRead(turn, place));
+        if !read_entry(round, dict, me) {
+            return;
+        }
+    }
+}
+
+// Tries the mark; who takes it commits turns until a look finds none, and gives it back.
+fn try_mark<G: Gate>(round: &SharedRound, dict: &Dict, me: &mut WorkSeat, gate: &G)
+    requires seat { IsSeatOf round.now me.old }
+    requires dict { dict.now ≡ dict_of round.now }
+    requires may { MayTake me.old }
+    ensures stays { Stays me.old me.new }
+    ensures tried { HasTried me.old me.new }
+{
+    if !take(round, me) {
+        gate.at(me.number, GatePoint::Missed);
+        return;
+    }
+    gate.at(me.number, GatePoint::Took(me.committed));
+    while let Some(place) = look(round, me) {
+        let turn = commit_turn(round, dict, me, place);
+        gate.at(me.number, GatePoint::Sealed(turn));
+    }
+    release(round, me);
+    gate.at(me.number, GatePoint::Released(me.committed));
+}

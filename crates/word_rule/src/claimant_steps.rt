@@ -1,0 +1,31 @@
+// The kinds of atomic step of a claimant.
+
+use crate::rule::SeatView;
+use atomic_table::Play;
+
+/// A worker draws the next turn: a fetch-and-add on the claim word.
+pub struct ClaimStep;
+
+impl Play<u8, SeatView> for ClaimStep {
+    ghost use Rattle.word_rule.specs.Claimant.{TellsClaim};
+
+    ghost then = { λ step. TellsClaim };
+}
+
+/// A claimant reads the seat count of the next entry: a load of its seat word.
+pub struct ReadStep;
+
+impl Play<u8, SeatView> for ReadStep {
+    ghost use Rattle.word_rule.specs.Claimant.{TellsRead};
+
+    ghost then = { λ step. TellsRead };
+}
+
+/// A claimant posts the place that it found: a store to its turn's cell.
+pub struct PostStep;
+
+impl Play<u8, SeatView> for PostStep {
+    ghost use Rattle.word_rule.specs.Claimant.{TellsPost};
+
+    ghost then = { λ step. TellsPost };
+}
