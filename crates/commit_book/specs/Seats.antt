@@ -1,8 +1,16 @@
--- Seats that may draw, as the tests speak of them.
-use Rattle.std.specs.Prelude.{◌≡◌, ℕ, false, List, slice_get, Some}
+-- Seats and their steps, as the tests speak of them.
+use Rattle.std.specs.Prelude.{◌≡◌, ℕ, Bool, false, List, slice_get, Some}
 use Rattle.word_rule.specs.Rounds.{knows, IsSeatOf}
 use Rattle.word_rule.specs.declared.seat.SharedRound.{SharedRound}
 use Rattle.word_rule.specs.declared.seat.WorkSeat.{WorkSeat}
+
+-- it is a seat of this round, that stands for as many workers and is done as before, and owes a try on
+-- the mark or does not
+pub record HasStepped (round : SharedRound) (old new : WorkSeat) (debt : Bool) : Type 0 where
+  pub of_round : IsSeatOf round new
+  pub share : (knows new).share ≡ (knows old).share
+  pub done : (knows new).core.done ≡ (knows old).core.done
+  pub owes : (knows new).core.owes ≡ debt
 
 -- it is a seat of this round that is not done and owes no try on the mark
 pub record IsWorking (round : SharedRound) (me : WorkSeat) : Type 0 where
@@ -10,6 +18,6 @@ pub record IsWorking (round : SharedRound) (me : WorkSeat) : Type 0 where
   pub working : (knows me).core.done ≡ false
   pub paid : (knows me).core.owes ≡ false
 
--- each of these seats is ready
+-- each of these seats is
 abbrev pub AreWorking : SharedRound → List WorkSeat → Type 0
 AreWorking round seats = (k : ℕ) (me : WorkSeat) → slice_get seats k ≡ Some me → IsWorking round me

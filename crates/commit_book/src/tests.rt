@@ -1,12 +1,13 @@
 // Seats step on the words of a round, on one thread.
 
-ghost use Rattle.std.specs.Prelude.{◌≡◌, ◌∷◌, [], length, IfOk, None, false};
-ghost use Rattle.market.specs.Examples.{two_turns};
+ghost use Rattle.std.specs.Prelude.{◌≡◌, length, None, true, false};
 ghost use Rattle.word_rule.specs.Rounds.{knows, key_of, dict_of, IsSeatOf, IsNew, AreNew, IsOver};
+ghost use Rattle.commit_book.specs.Seats.{HasStepped, IsWorking};
 
 use crate::{commit_prefix, look, release, seal, seat, take, weigh};
 use claim_words::{claim, post, read_entry};
-use market::{Dict, List};
+use market::Dict;
+use market::examples::two_turns;
 use std::alloc::{AllocError, Global};
 use std::process::Abort;
 use std::test::Fail;
@@ -14,25 +15,6 @@ use word_rule::{PhaseCopy, SharedRound, Words, WorkSeat, close_round, join_all, 
 
 // A round of many turns, posted in falling order.
 mod falling_posts;
-
-// Two lists of numbers.
-fn two_lists(alloc: Global, first: &[u32], second: &[u32]) -> Result<Vec<List>, AllocError>
-    ensures { IfOk result (λ lists. lists.items ≡ first.now ∷ second.now ∷ []) }
-{
-    let first = List::from_slice(alloc, first)?;
-    let second = List::from_slice(alloc, second)?;
-    Ok(vec![in alloc; first, second]?)
-}
-
-// Two turns over two programmes with a seat each.
-fn two_turns(alloc: Global) -> Result<Dict, AllocError>
-    ensures { IfOk result (λ d. d ≡ two_turns) }
-{
-    let quota = vec![in alloc; 1, 1]?;
-    let fill = vec![in alloc; 0, 0]?;
-    let lists = two_lists(alloc, &[0], &[0, 1])?;
-    Ok(Dict::from_parts(quota, fill, lists))
-}
 
 // The seats of a round of two workers.
 fn two_seats(round: &SharedRound, mut seats: Vec<WorkSeat>) -> (WorkSeat, WorkSeat)
@@ -52,12 +34,9 @@ fn two_seats(round: &SharedRound, mut seats: Vec<WorkSeat>) -> (WorkSeat, WorkSe
 
 // The seat draws this turn.
 fn draws(rt: &impl Abort, round: &SharedRound, me: &mut WorkSeat, turn: u32)
-    requires seat { IsSeatOf round.now me.old }
-    requires ready { ((knows me.old).core.done ≡ false) × ((knows me.old).core.owes ≡ false) }
-    ensures seat { IsSeatOf round.now me.new }
+    requires ready { IsWorking round.now me.old }
+    ensures ready { IsWorking round.now me.new }
     ensures share { (knows me.new).share ≡ (knows me.old).share }
-    ensures done { (knows me.new).core.done ≡ false }
-    ensures owes { (knows me.new).core.owes ≡ false }
 {
     assert!(rt; me.claim.is_none() && me.phase.is_none());
     assert_eq!(rt; claim(round, me), Some(turn));
@@ -65,8 +44,7 @@ fn draws(rt: &impl Abort, round: &SharedRound, me: &mut WorkSeat, turn: u32)
 
 // The seat finds that no turn is left.
 fn ends(rt: &impl Abort, round: &SharedRound, me: &mut WorkSeat)
-    requires seat { IsSeatOf round.now me.old }
-    requires ready { ((knows me.old).core.done ≡ false) × ((knows me.old).core.owes ≡ false) }
+    requires ready { IsWorking round.now me.old }
     ensures over { IsOver round.now me.new }
     ensures share { (knows me.new).share ≡ (knows me.old).share }
 {
@@ -78,11 +56,8 @@ fn ends(rt: &impl Abort, round: &SharedRound, me: &mut WorkSeat)
 
 // The seat reads the next entry of its turn's list.
 fn reads(rt: &impl Abort, round: &SharedRound, dict: &Dict, me: &mut WorkSeat) -> bool
-    requires seat { IsSeatOf round.now me.old }
-    requires dict { dict.now ≡ dict_of round.now }
-    ensures seat { IsSeatOf round.now me.new }
-    ensures share { (knows me.new).share ≡ (knows me.old).share }
-    ensures done { (knows me.new).core.done ≡ (knows me.old).core.done }
+    requires seat { IsSeatOf round.now me.old × (dict.now ≡ dict_of round.now) }
+    ensures step { HasStepped round.now me.old me.new (knows me.old).core.owes }
 {
     let Some(claim) = me.claim else {
         panic!(rt; "no claim")
@@ -99,11 +74,8 @@ fn reads(rt: &impl Abort, round: &SharedRound, dict: &Dict, me: &mut WorkSeat) -
 
 // The seat posts its turn at the entry that it met, or past its whole list, and answers the place.
 fn posts(rt: &impl Abort, round: &SharedRound, dict: &Dict, me: &mut WorkSeat) -> u32
-    requires seat { IsSeatOf round.now me.old }
-    requires dict { dict.now ≡ dict_of round.now }
-    ensures seat { IsSeatOf round.now me.new }
-    ensures share { (knows me.new).share ≡ (knows me.old).share }
-    ensures done { (knows me.new).core.done ≡ (knows me.old).core.done }
+    requires seat { IsSeatOf round.now me.old × (dict.now ≡ dict_of round.now) }
+    ensures step { HasStepped round.now me.old me.new true }
 {
     let Some(claim) = me.claim else {
         panic!(rt; "no claim")
@@ -118,10 +90,7 @@ fn posts(rt: &impl Abort, round: &SharedRound, dict: &Dict, me: &mut WorkSeat) -
 // The seat tries to take the mark.
 fn takes(rt: &impl Abort, round: &SharedRound, me: &mut WorkSeat) -> bool
     requires seat { IsSeatOf round.now me.old }
-    ensures seat { IsSeatOf round.now me.new }
-    ensures share { (knows me.new).share ≡ (knows me.old).share }
-    ensures done { (knows me.new).core.done ≡ (knows me.old).core.done }
-    ensures paid { (knows me.new).core.owes ≡ false }
+    ensures step { HasStepped round.now me.old me.new false }
 {
     assert!(rt; me.claim.is_none() && me.phase.is_none());
     take(round, me)
@@ -130,10 +99,7 @@ fn takes(rt: &impl Abort, round: &SharedRound, me: &mut WorkSeat) -> bool
 // The holder looks at the first uncommitted turn.
 fn looks(rt: &impl Abort, round: &SharedRound, me: &mut WorkSeat) -> Option<u32>
     requires seat { IsSeatOf round.now me.old }
-    ensures seat { IsSeatOf round.now me.new }
-    ensures share { (knows me.new).share ≡ (knows me.old).share }
-    ensures done { (knows me.new).core.done ≡ (knows me.old).core.done }
-    ensures owes { (knows me.new).core.owes ≡ (knows me.old).core.owes }
+    ensures step { HasStepped round.now me.old me.new (knows me.old).core.owes }
 {
     assert!(rt; matches!(me.phase, Some(PhaseCopy::Idle)));
     look(round, me)
@@ -141,12 +107,8 @@ fn looks(rt: &impl Abort, round: &SharedRound, me: &mut WorkSeat) -> Option<u32>
 
 // The holder weighs the entry at its place.
 fn weighs(rt: &impl Abort, round: &SharedRound, dict: &Dict, me: &mut WorkSeat) -> bool
-    requires seat { IsSeatOf round.now me.old }
-    requires dict { dict.now ≡ dict_of round.now }
-    ensures seat { IsSeatOf round.now me.new }
-    ensures share { (knows me.new).share ≡ (knows me.old).share }
-    ensures done { (knows me.new).core.done ≡ (knows me.old).core.done }
-    ensures owes { (knows me.new).core.owes ≡ (knows me.old).core.owes }
+    requires seat { IsSeatOf round.now me.old × (dict.now ≡ dict_of round.now) }
+    ensures step { HasStepped round.now me.old me.new (knows me.old).core.owes }
 {
     let Some(PhaseCopy::Scan(place)) = me.phase else {
         panic!(rt; "no entry to weigh")
@@ -160,12 +122,8 @@ fn weighs(rt: &impl Abort, round: &SharedRound, dict: &Dict, me: &mut WorkSeat) 
 
 // The holder takes a seat of the entry that has one left.
 fn seats(rt: &impl Abort, round: &SharedRound, dict: &Dict, me: &mut WorkSeat) -> bool
-    requires seat { IsSeatOf round.now me.old }
-    requires dict { dict.now ≡ dict_of round.now }
-    ensures seat { IsSeatOf round.now me.new }
-    ensures share { (knows me.new).share ≡ (knows me.old).share }
-    ensures done { (knows me.new).core.done ≡ (knows me.old).core.done }
-    ensures owes { (knows me.new).core.owes ≡ (knows me.old).core.owes }
+    requires seat { IsSeatOf round.now me.old × (dict.now ≡ dict_of round.now) }
+    ensures step { HasStepped round.now me.old me.new (knows me.old).core.owes }
 {
     let Some(PhaseCopy::Ready(_)) = me.phase else {
         panic!(rt; "no seat to take")
@@ -175,12 +133,8 @@ fn seats(rt: &impl Abort, round: &SharedRound, dict: &Dict, me: &mut WorkSeat) -
 
 // The holder commits the turn that it took a seat for, and answers it.
 fn seals(rt: &impl Abort, round: &SharedRound, dict: &Dict, me: &mut WorkSeat) -> u32
-    requires seat { IsSeatOf round.now me.old }
-    requires dict { dict.now ≡ dict_of round.now }
-    ensures seat { IsSeatOf round.now me.new }
-    ensures share { (knows me.new).share ≡ (knows me.old).share }
-    ensures done { (knows me.new).core.done ≡ (knows me.old).core.done }
-    ensures owes { (knows me.new).core.owes ≡ (knows me.old).core.owes }
+    requires seat { IsSeatOf round.now me.old × (dict.now ≡ dict_of round.now) }
+    ensures step { HasStepped round.now me.old me.new (knows me.old).core.owes }
 {
     let Some(PhaseCopy::Seated(_, _)) = me.phase else {
         panic!(rt; "no turn to commit")
@@ -191,10 +145,7 @@ fn seals(rt: &impl Abort, round: &SharedRound, dict: &Dict, me: &mut WorkSeat) -
 // The holder gives the mark back.
 fn releases(rt: &impl Abort, round: &SharedRound, me: &mut WorkSeat)
     requires seat { IsSeatOf round.now me.old }
-    ensures seat { IsSeatOf round.now me.new }
-    ensures share { (knows me.new).share ≡ (knows me.old).share }
-    ensures done { (knows me.new).core.done ≡ (knows me.old).core.done }
-    ensures owes { (knows me.new).core.owes ≡ (knows me.old).core.owes }
+    ensures step { HasStepped round.now me.old me.new (knows me.old).core.owes }
 {
     let halted = matches!(me.phase, Some(PhaseCopy::Halted));
     let idle = matches!(me.phase, Some(PhaseCopy::Idle));
@@ -204,12 +155,8 @@ fn releases(rt: &impl Abort, round: &SharedRound, me: &mut WorkSeat)
 
 // The seat tries to take the mark, and commits what it then can.
 fn commits(rt: &impl Abort, round: &SharedRound, dict: &Dict, me: &mut WorkSeat) -> Option<u32>
-    requires seat { IsSeatOf round.now me.old }
-    requires dict { dict.now ≡ dict_of round.now }
-    ensures seat { IsSeatOf round.now me.new }
-    ensures share { (knows me.new).share ≡ (knows me.old).share }
-    ensures done { (knows me.new).core.done ≡ (knows me.old).core.done }
-    ensures paid { (knows me.new).core.owes ≡ false }
+    requires seat { IsSeatOf round.now me.old × (dict.now ≡ dict_of round.now) }
+    ensures step { HasStepped round.now me.old me.new false }
     ensures free { (knows me.new).core.hold ≡ None }
 {
     assert!(rt; me.claim.is_none() && me.phase.is_none());

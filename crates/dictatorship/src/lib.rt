@@ -1,5 +1,5 @@
-//! The multi-category serial dictatorship in the plainest way: one dictatorship after another in one
-//! pass each, and whole rounds until nobody is placed twice.
+//! The multi-category serial dictatorship in the plainest way: one dictatorship after another in
+//! one pass each, and whole rounds until nobody is placed twice.
 #![tactic(auto)]
 
 // One dictatorship, turn by turn.

@@ -10,8 +10,8 @@ use crate::round::whole_round;
 use market::{Cuts, Market, Outcome, Placement};
 use std::alloc::{AllocError, Global};
 
-/// The placement of the mechanism, with its rounds and cuts. The turns are all turns of all types in
-/// each round.
+/// The placement of the mechanism, with its rounds and cuts. The turns are all turns of all types
+/// in each round.
 pub fn mechanism_plain(alloc: Global, market: &Market) -> Result<Outcome, AllocError>
     ensures { IfOk result (λ outcome. outcome ≡ mechanism market.now) }
 {

@@ -30,7 +30,8 @@ impl Placer for PlainPlacer {
             ≡ mechanism_placement market.now) }
         ensures rounds { IfOk result (λ outcome. outcome.rounds ≡ mechanism_rounds market.now) }
         ensures cuts { IfOk result (λ outcome. outcome.cuts ≡ mechanism_cuts market.now) }
-        ensures whole_rounds { IfOk result (λ outcome. outcome.turns ≡ (mechanism market.now).turns) }
+        ensures whole_rounds { IfOk result (λ outcome. outcome.turns
+            ≡ (mechanism market.now).turns) }
         ensures turns { IfOk result (λ outcome. turns.new ≡ turns.old + outcome.turns) }
     {
         let outcome = mechanism_plain(alloc, market)?;

@@ -1,5 +1,5 @@
-// Worked examples, run: three markets, and one dictatorship. Each call that takes memory is made with
-// ample memory.
+// Worked examples, run: three markets, and one dictatorship. Each call that takes memory is made
+// with ample memory.
 
 ghost use Rattle.std.specs.Prelude.{◌≡◌, ◌<◌, IfOk};
 

@@ -53,11 +53,17 @@ pub record HasTurned (old new : WorkSeat) : Type 0 where
   pub own : length (knows new).core.own ≡ length (knows old).core.own + 1
   pub tries : (knows new).tries ≡ (knows old).tries + 1
   pub done : (knows new).core.done ≡ (knows old).core.done
+  pub stays : Stays old new
 
 pub one_turn : (old drawn read posted new : WorkSeat) (turn place : ℕ)
-    → IsClaim old drawn (Some turn) → HasRead drawn read → IsPost read posted place
-    → HasTried posted new → HasTurned old new
-one_turn old drawn read posted new turn place draw reads posts tried =
+    → Stays old drawn × IsClaim old drawn (Some turn) → Stays drawn read × HasRead drawn read
+    → Stays read posted × IsPost read posted place → Stays posted new × HasTried posted new
+    → HasTurned old new
+one_turn old drawn read posted new turn place a b c e =
+    let draw = a.1 in
+    let reads = b.1 in
+    let posts = c.1 in
+    let tried = e.1 in
     let said = draw.answered in
     let view : (knows drawn).core ≡ after_claim_if true (knows old).core draw.found =
     ap (λ (x : SeatKnows). x.core) draw.view
@@ -70,19 +76,20 @@ one_turn old drawn read posted new turn place draw reads posts tried =
     record {
       room = omega arith;
       own =
-          let a = ap (λ (v : View). length v.own) view in
-          let b = ap (λ (x : SeatKnows). length x.core.own) reads.view in
-          let c = ap (λ (x : SeatKnows). length x.core.own) posts.view
+          let own = ap (λ (v : View). length v.own) view in
+          let read_own = ap (λ (x : SeatKnows). length x.core.own) reads.view in
+          let posted_own = ap (λ (x : SeatKnows). length x.core.own) posts.view
           ∙ length-with_place (knows read).core.own place in
-          let d = ap (λ (l : List OwnTurn). length l) tried.own in
+          let tried_own = ap (λ (l : List OwnTurn). length l) tried.own in
           omega arith;
       tries =
-          let a = ap (λ (x : SeatKnows). x.tries) draw.view in
-          let b = ap (λ (x : SeatKnows). x.tries) reads.view in
-          let c = ap (λ (x : SeatKnows). x.tries) posts.view in
-          let d = tried.tries in
+          let drawn_tries = ap (λ (x : SeatKnows). x.tries) draw.view in
+          let read_tries = ap (λ (x : SeatKnows). x.tries) reads.view in
+          let posted_tries = ap (λ (x : SeatKnows). x.tries) posts.view in
+          let one_more = tried.tries in
           omega arith;
       done = tried.done
           ∙ (ap (λ (x : SeatKnows). x.core.done) posts.view
           ∙ (ap (λ (x : SeatKnows). x.core.done) reads.view ∙ ap (λ (v : View). v.done) view));
+      stays = stays_on (stays_on (stays_on a.0 b.0) c.0) e.0;
     }

@@ -3,7 +3,7 @@ use Rattle.std.proofs.Common.{◌≡◌, ℕ, List, [], ◌∷◌, length, Some,
 use Rattle.std.specs.Prelude.{slice_get}
 use Rattle.std.proofs.Math.ListN.{length-replicate}
 use Rattle.market.specs.Dictatorships.{Dictatorship, IsValidDictatorship}
-use Rattle.market.proofs.Turns.{taken-zero}
+use Rattle.market.proofs.Turns.{seats_taken-zero}
 use Rattle.interleaving_core.specs.declared.parts.Cell.TheVariants.{Empty, Posted}
 use Rattle.interleaving_core.specs.declared.events.CoreEvent.{CoreEvent}
 use Rattle.interleaving_core.specs.declared.events.Told.{Told}
@@ -53,7 +53,7 @@ begins d workers valid =
             each_programme = valid.fills;
             counts = λ p l.
                 let nobody = sum_replicate (seat_bit d p) workers fresh_view refl in
-                let none = taken-zero d p in
+                let none = seats_taken-zero d p in
                 omega arith;
           };
       posts = λ k j p.

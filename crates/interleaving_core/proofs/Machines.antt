@@ -6,7 +6,7 @@ use Rattle.std.proofs.lemmas.List.{map-set, length-map, map-append, length-repli
 use Rattle.std.proofs.lemmas.List.Sums.{sum_by-le}
 use Rattle.std.proofs.lemmas.Option.{slice_get_read, slice_get-map, get_or_from_slice_get}
 use Rattle.market.specs.Dictatorships.{Dictatorship, IsValidDictatorship, list_at}
-use Rattle.market.proofs.Turns.{taken-le-quota}
+use Rattle.market.proofs.Turns.{seats_taken-le-quota}
 use Rattle.interleaving_core.specs.declared.limits.TheConstants.{MAX_WORKERS}
 use Rattle.interleaving_core.specs.declared.parts.Claiming.{Claiming}
 use Rattle.interleaving_core.specs.declared.parts.OwnTurn.{OwnTurn}
@@ -286,7 +286,7 @@ seats_small s p k l =
     let c : Core = (machine_of s).core in
     let sound = k.sound in
     let count = sound.seats.counts p l in
-    let taken = taken-le-quota s.dict p (k.valid.filled p l) sound.count in
+    let taken = seats_taken-le-quota s.dict p (k.valid.filled p l) sound.count in
     let quota = k.valid.quotas p l in
     let all = sum_by-le (seat_bit s.dict p) 1 c.views
     (λ i d m. seated_le s.dict p (get_or c.views i d)) in

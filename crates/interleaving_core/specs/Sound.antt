@@ -1,7 +1,7 @@
 -- When a core state is sound.
 use Rattle.std.specs.Prelude.{◌≡◌, ℕ, ◌+◌, ◌<◌, ◌≤◌, ◌⊎◌, ◌++◌, ◌==◌, Bool, true, false, nat_le, List, [], ◌∷◌, length, slice_get, slice_index, slice_index_or, Option, Some, None}
 use Rattle.std.specs.List.{sum_by}
-use Rattle.market.specs.Dictatorships.{Dictatorship, list_at, choice, taken}
+use Rattle.market.specs.Dictatorships.{Dictatorship, list_at, choice, seats_taken}
 use Rattle.interleaving_core.specs.declared.parts.Cell.{Cell}
 use Rattle.interleaving_core.specs.declared.parts.Cell.TheVariants.{Empty, Posted, Committed}
 use Rattle.interleaving_core.specs.declared.parts.Claiming.{Claiming}
@@ -62,7 +62,7 @@ seat_bit d p v = holder_seat_bit d p v.hold
 
 -- the seats of p that the fill and the first k turns take
 abbrev pub seats_after : Dictatorship → ℕ → ℕ → ℕ
-seats_after d k p = slice_index d.fill p + taken d k p
+seats_after d k p = slice_index d.fill p + seats_taken d k p
 
 -- each of the first j entries of turn k is full
 abbrev pub IsFullBefore : Dictatorship → Core → ℕ → ℕ → Type 0

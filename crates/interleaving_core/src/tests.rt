@@ -5,22 +5,11 @@ ghost use Rattle.std.specs.Prelude.{◌≡◌, length, IfOk};
 
 use crate::CoreEvent::{Claim, Look, Post, Read, Release, Seal, Seat, Take, Weigh};
 use crate::{Cell, CoreEvent, CoreState, Told};
+use market::examples::two_turns;
 use market::{Dict, List};
 use std::alloc::{AllocError, Global};
 use std::process::Abort;
 use std::test::Fail;
-
-// Two programmes with a seat each. The first turn lists one of them, which the second lists first.
-fn two_turns(alloc: Global) -> Result<Dict, AllocError>
-    ensures { IfOk result (λ d. (length d.lists ≡ 2) × (length d.quota ≡ 2)) }
-{
-    let quota = vec![in alloc; 1, 1]?;
-    let fill = vec![in alloc; 0, 0]?;
-    let first = List::from_slice(alloc, &[0])?;
-    let second = List::from_slice(alloc, &[0, 1])?;
-    let lists = vec![in alloc; first, second]?;
-    Ok(Dict::from_parts(quota, fill, lists))
-}
 
 // Three turns with the same list, over two seats that are left.
 fn crowd(alloc: Global) -> Result<Dict, AllocError>

@@ -1,4 +1,5 @@
--- Lists that lie one after another in one list: what is added at the end leaves those before it as they are.
+-- Lists that lie one after another in one list: what is added at the end leaves those before it as
+-- they are.
 use Rattle.std.proofs.Common.{◌≡◌, ℕ, ◌+◌, ◌-◌, ◌<◌, ◌≤◌, List, [], ◌∷◌, ◌++◌, length, sym, ap, ◌∙◌, subst, arith, get_or, map, take, drop, ⊎_elim}
 use Rattle.std.specs.Prelude.{slice_index, slice_index_or}
 use Rattle.std.specs.List.{range_with_len}
@@ -24,10 +25,12 @@ flat-is items bounds lists f =
     get_or-map (between items bounds) (range_with_len 0 n) k 0 [] (omega arith)
     ∙ ap (between items bounds) at ∙ f.each k (omega arith))
 
+-- what is read as it lies is what lies there
 pub flat-self : (items bounds : List ℕ) (lists : List (List ℕ)) → IsFlat items bounds lists
     → IsFlat items bounds (flat_lists items bounds)
 flat-self items bounds lists f = subst (IsFlat items bounds) (sym (flat-is items bounds lists f)) f
 
+-- no lists yet
 pub flat-none : (items bounds : List ℕ) → items ≡ [] → bounds ≡ 0 ∷ [] → IsFlat items bounds []
 flat-none items bounds ei eb =
     let n = ap (λ (xs : List ℕ). length xs) ei in
@@ -55,7 +58,8 @@ flat-more items bounds items' bounds' xs lists n f ei eb en =
     let lb = ap (λ (ys : List ℕ). length ys) eb ∙ length_push bounds n in
     let ll = length_push lists xs in
     let old : (k : ℕ) → k ≤ length lists → slice_index bounds' k ≡ slice_index bounds k = λ k l.
-    ap (λ (ys : List ℕ). slice_index ys k) eb ∙ get_or_append_left bounds (n ∷ []) 0 k (omega arith) in
+    ap (λ (ys : List ℕ). slice_index ys k) eb ∙ get_or_append_left bounds (n ∷ []) 0 k (omega
+    arith) in
     let new' : slice_index bounds' (length lists + 1) ≡ n =
     ap (λ (ys : List ℕ). slice_index ys (length lists + 1)) eb
     ∙ get_or_push bounds n 0 (length lists + 1) (omega arith) in
@@ -129,6 +133,7 @@ flat_read items bounds part lists value k a b f e l ea eb ep =
     ∙ f.each k (omega arith)
     ∙ ap (λ (xs : List (List ℕ)). slice_index_or xs k []) e
 
+-- what lies between two bounds, read from slices
 pub between_is : (items bounds part marks : List ℕ) (k : ℕ) → part ≡ items → marks ≡ bounds
     → take (slice_index marks (k + 1) - slice_index marks k) (drop (slice_index marks k) part)
     ≡ between items bounds k

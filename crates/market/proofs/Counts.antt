@@ -4,20 +4,25 @@ use Rattle.std.proofs.lemmas.Bool.{cases_lt, cases_Bool}
 use Rattle.market.specs.Counting.{count_below, sum_below}
 use Rattle.market.proofs.Turns.{one_more, no_more}
 
+-- one number more counts no less
 pub count_mono : (f : ℕ → Bool) (n : ℕ) → count_below f n ≤ count_below f (suc n)
 count_mono f n = omega arith
 
+-- the count with one number more
 pub suc_count : (f : ℕ → Bool) (k : ℕ) → count_below f (k + 1) ≡ count_below f k + cond (f k) 1 0
 suc_count f k = let e : k + 1 ≡ suc k = omega arith in ap (count_below f) e
 
+-- a number that passes is counted
 pub count_one : (f : ℕ → Bool) (n i : ℕ) → i < n → f i ≡ true → 1 ≤ count_below f n
 count_one f zero i l t = absurd (omega arith)
 count_one f (suc n) i l t =
     ⊎_elim
     (λ less. let ih = count_one f n i less t in omega arith)
-    (λ more. let e : i ≡ n = omega arith in let one = one_more (f n) (ap f (sym e) ∙ t) in omega arith)
+    (λ more. let e : i ≡ n = omega arith in let one = one_more (f n) (ap f (sym e)
+    ∙ t) in omega arith)
     (cases_lt i n)
 
+-- two numbers that pass are counted
 pub count_two : (f : ℕ → Bool) (n i j : ℕ) → i < j → j < n → f i ≡ true → f j ≡ true
     → 2 ≤ count_below f n
 count_two f zero i j l k t u = absurd (omega arith)
@@ -37,6 +42,7 @@ pub record Passes (f : ℕ → Bool) (n : ℕ) : Type 0 where
   pub below : number < n
   pub passes : f number ≡ true
 
+-- where something is counted, a number passes
 pub count_some : (f : ℕ → Bool) (n : ℕ) → 0 < count_below f n → Passes f n
 count_some f zero l = absurd (omega arith)
 count_some f (suc n) l =
@@ -56,6 +62,7 @@ pub record PassesTwice (f : ℕ → Bool) (n : ℕ) : Type 0 where
   pub first_passes : f first ≡ true
   pub second_passes : f second ≡ true
 
+-- where two are counted, two numbers pass
 pub count_some_two : (f : ℕ → Bool) (n : ℕ) → 1 < count_below f n → PassesTwice f n
 count_some_two f zero l = absurd (omega arith)
 count_some_two f (suc n) l =
@@ -82,11 +89,13 @@ count_some_two f (suc n) l =
     })
     (cases_Bool (f n))
 
+-- a sum of no more is no more
 pub sum_le : (f g : ℕ → ℕ) (n : ℕ) → ((i : ℕ) → i < n → f i ≤ g i) → sum_below f n ≤ sum_below g n
 sum_le f g zero h = omega arith
 sum_le f g (suc n) h = let ih = sum_le f g n (λ i l. h i (omega arith)) in let here =
     h n (omega arith) in omega arith
 
+-- a sum of no more, and of less in one place, is less
 pub sum_lt : (f g : ℕ → ℕ) (n i : ℕ) → ((i : ℕ) → i < n → f i ≤ g i) → i < n → f i < g i
     → sum_below f n < sum_below g n
 sum_lt f g zero i h l less = absurd (omega arith)
@@ -100,6 +109,7 @@ sum_lt f g (suc n) i h l less =
     omega arith)
     (cases_lt i n)
 
+-- a sum of the same is the same
 pub sum_same : (f g : ℕ → ℕ) (n : ℕ) → ((i : ℕ) → i < n → f i ≡ g i) → sum_below f n ≡ sum_below g n
 sum_same f g zero h = refl
 sum_same f g (suc n) h = let ih = sum_same f g n (λ i l. h i (omega arith)) in let here =

@@ -1,5 +1,5 @@
--- The cut of one round by any choices, candidate by candidate, and the first turn of each type that it
--- changes: for the reruns of changed types, which no crate uses yet.
+-- The cut of one round by any choices, candidate by candidate, and the first turn of each type that
+-- it changes.
 use Rattle.std.proofs.Common.{◌≡◌, ℕ, ◌+◌, ◌<◌, ◌≤◌, Bool, true, false, cond, not, List, length, Option, Some, None, refl, sym, ap, ◌∙◌, subst, arith, set, ⊎_elim}
 use Rattle.std.specs.Prelude.{is_some, slice_index}
 use Rattle.std.specs.List.{position_or_len}
@@ -17,11 +17,13 @@ use Rattle.market.proofs.Turns.{one_more, no_more, is_programme-from, some_from}
 use Rattle.market.proofs.Counts.{suc_count, count_some_two}
 use Rattle.market.proofs.Tentatives.{turn_at, candidate_at}
 
+-- who has several choices keeps the list up to and with the best of them
 pub cut-several : (m : Problem) (c : ℕ → ℕ → Option ℕ) (cuts : List ℕ) (i : ℕ)
     → has_several_in m c i ≡ true → cut_in m c cuts i ≡ best_in m c i + 1
 unfolding cut_in
 cut-several m c cuts i e = ap (λ (b : Bool). cond b (best_in m c i + 1) (slice_index cuts i)) e
 
+-- who has not keeps the cut
 pub cut-same : (m : Problem) (c : ℕ → ℕ → Option ℕ) (cuts : List ℕ) (i : ℕ)
     → has_several_in m c i ≡ false → cut_in m c cuts i ≡ slice_index cuts i
 unfolding cut_in
@@ -29,6 +31,7 @@ cut-same m c cuts i e = ap (λ (b : Bool). cond b (best_in m c i + 1) (slice_ind
 
 -- ---- the best choice stands within the cut
 
+-- the first place that passes is no later than that of an entry that passes
 first-le : (f : ℕ → Bool) (xs : List ℕ) (p : ℕ) → f p ≡ true → place_of p xs < length xs
     → position_or_len f xs ≤ place_of p xs
 first-le f xs p t l =
@@ -40,6 +43,7 @@ first-le f xs p t l =
     (λ ge. ge)
     (cases_lt (place_of p xs) (position_or_len f xs))
 
+-- the best of several choices stands within the cut
 pub best-within : (m : Problem) (table : List (List (Option ℕ))) (cuts : List ℕ) (i : ℕ)
     → IsCuts m cuts → IsWithinCuts m table cuts → i < length m.lists
     → has_several_in m (programme_in table) i ≡ true
@@ -81,6 +85,7 @@ pub record IsCutUpto (m : Problem) (c : ℕ → ℕ → Option ℕ) (old : List 
   pub open' : (i : ℕ) → k ≤ i → slice_index new i ≡ slice_index old i
   pub counted : count ≡ count_below (has_several_in m c) k
 
+-- before the first candidate nothing is cut
 pub IsCutUpto-none : (m : Problem) (c : ℕ → ℕ → Option ℕ) (old : List ℕ)
     → length old ≡ length m.lists → IsCutUpto m c old 0 old 0
 IsCutUpto-none m c old e =
@@ -91,6 +96,7 @@ IsCutUpto-none m c old e =
       counted = refl;
     }
 
+-- a candidate who is cut
 pub IsCutUpto-cut : (m : Problem) (c : ℕ → ℕ → Option ℕ) (old new : List ℕ) (k n x : ℕ)
     → k < length m.lists → has_several_in m c k ≡ true → x ≡ best_in m c k + 1
     → IsCutUpto m c old k new n → IsCutUpto m c old (k + 1) (set new k x) (n + 1)
@@ -109,6 +115,7 @@ IsCutUpto-cut m c old new k n x l s e f =
           suc_count (has_several_in m c) k in omega arith;
     }
 
+-- a candidate who is not
 pub IsCutUpto-keep : (m : Problem) (c : ℕ → ℕ → Option ℕ) (old new : List ℕ) (k n : ℕ)
     → has_several_in m c k ≡ false → IsCutUpto m c old k new n → IsCutUpto m c old (k + 1) new n
 IsCutUpto-keep m c old new k n s f =
@@ -125,12 +132,14 @@ IsCutUpto-keep m c old new k n s f =
           suc_count (has_several_in m c) k in omega arith;
     }
 
+-- after all candidates these are the cuts and the count of the round
 pub IsCutUpto-all : (m : Problem) (c : ℕ → ℕ → Option ℕ) (old new : List ℕ) (k n : ℕ)
     → k ≡ length m.lists → IsCutUpto m c old k new n
     → (new ≡ cuts_in m c old) × (n ≡ several_in m c)
 unfolding cuts_in several_in
 IsCutUpto-all m c old new k n e f = (
-  fill_by_all (cut_in m c old) new (length m.lists) 0 f.candidates (λ i l. f.done i (omega arith) l),
+  fill_by_all (cut_in m c old) new (length m.lists) 0 f.candidates (λ i l. f.done i (omega arith)
+      l),
   f.counted ∙ ap (count_below (has_several_in m c)) e,
 )
 
@@ -145,12 +154,15 @@ pub record IsFirstUpto (m : Problem) (c : ℕ → ℕ → Option ℕ) (old : Lis
   pub changed : turn < length (order_of m t)
       → is_cut_away m c old t (slice_index (order_of m t) turn) ≡ true
 
+-- a turn that there is
 or_none-some : (n k : ℕ) → k < n → turn_or_none n k ≡ Some k
 or_none-some n k l = ap (λ (b : Bool). cond b (Some k) None) (lt-ltb k n l)
 
+-- a turn that there is not
 or_none-none : (n k : ℕ) → n ≤ k → turn_or_none n k ≡ None
 or_none-none n k l = ap (λ (b : Bool). cond b (Some k) None) (le-ltb k n l)
 
+-- before the first candidate no turn has changed
 pub IsFirstUpto-none : (m : Problem) (c : ℕ → ℕ → Option ℕ) (old : List ℕ) (t : ℕ) (o : Option ℕ)
     → o ≡ None → IsFirstUpto m c old t 0 o
 IsFirstUpto-none m c old t o e = record {
@@ -176,6 +188,7 @@ IsFirstUpto-keep m c old t k o e f = record {
   changed = f.changed;
 }
 
+-- the least of the turns so far and one more
 least-first : (n x : ℕ) (o : Option ℕ) (k : ℕ) → o ≡ turn_or_none n x → k < n → x ≤ n
     → (x ≤ k → Some (least_turn o k) ≡ Some x) × (k ≤ x → Some (least_turn o k) ≡ Some k)
 least-first n x o k e l w =
@@ -229,22 +242,27 @@ IsFirstUpto-note m c old t k o l e f =
     })
     (cases_lt f.turn turn)
 
+-- what stands beyond a cut is a programme
 some_away : (list : List ℕ) (cut : ℕ) (o : Option ℕ) → is_beyond list cut o ≡ true
     → (p : ℕ) × (o ≡ Some p)
 some_away list cut None e = absurd (false≢true e)
 some_away list cut (Some p) e = (p, refl)
 
+-- a choice that is cut away is a programme
 away_some : (m : Problem) (table : List (List (Option ℕ))) (old : List ℕ) (t k : ℕ)
-    → is_cut_away m (programme_in table) old t k ≡ true → (p : ℕ) × (programme_in table t k ≡ Some p)
+    → is_cut_away m (programme_in table) old t k ≡ true → (p : ℕ) × (programme_in table t k ≡ Some
+    p)
 unfolding is_cut_away
 away_some m table old t k h =
     some_away (list_of m k) (cut_in m (programme_in table) old k) (programme_in table t k) h
 
+-- a candidate who is cut, and whose choice in the type may be cut away
 pub IsFirstUpto-cut : (m : Problem) (table : List (List (Option ℕ))) (old : List ℕ) (t k : ℕ)
     (o new : Option ℕ)
     → IsWithinCuts m table old
     → new ≡ noted (is_cut_away m (programme_in table) old t k) o (turn_of m t k)
-    → IsFirstUpto m (programme_in table) old t k o → IsFirstUpto m (programme_in table) old t (k + 1) new
+    → IsFirstUpto m (programme_in table) old t k o → IsFirstUpto m (programme_in table) old t (k +
+    1) new
 IsFirstUpto-cut m table old t k o new w e f =
     ⊎_elim
     (λ yes'.
@@ -258,6 +276,7 @@ IsFirstUpto-cut m table old t k o new w e f =
     (IsFirstUpto-keep m (programme_in table) old t k o no' f))
     (cases_Bool (is_cut_away m (programme_in table) old t k))
 
+-- after all candidates this is the first changed turn of the type
 pub IsFirstUpto-all : (m : Problem) → IsValid m
     → (c : ℕ → ℕ → Option ℕ) (old : List ℕ) (t k : ℕ) (o : Option ℕ) → t < m.types
     → k ≡ length m.lists → IsFirstUpto m c old t k o → o ≡ changed_turn m c old t
@@ -277,10 +296,12 @@ IsFirstUpto-all m v c old t k o lt e f =
     f.changed in
     f.is ∙ ap (turn_or_none n) (sym at)
 
+-- the best place is at most the list's length
 pub best-le : (m : Problem) (c : ℕ → ℕ → Option ℕ) (i : ℕ) → best_in m c i ≤ length (list_of m i)
 unfolding best_in
 best-le m c i = prefix_len-le-length (λ p. not (is_programme p (c (kind_of m p) i))) (list_of m i)
 
+-- the type of a programme that is looked up
 pub kind-is : (m : Problem) (p : ℕ) (q : Prog) → q ≡ programme_at m p → q.kind ≡ kind_of m p
 unfolding kind_of
 kind-is m p q e = ap (λ (x : Prog). x.kind) e

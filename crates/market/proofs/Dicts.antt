@@ -1,5 +1,5 @@
--- The dictatorship over local numbers is a valid one. Local numbers are those of one programme each, and a
--- type has no more turns than there are candidates, since none has two.
+-- The dictatorship over local numbers is a valid one. Local numbers are those of one programme
+-- each, and a type has no more turns than there are candidates, since none has two.
 use Rattle.std.proofs.Common.{◌≡◌, ℕ, zero, suc, ◌+◌, ◌<◌, ◌≤◌, Bool, true, false, cond, List, [], ◌∷◌, ◌++◌, length, Option, Some, None, refl, sym, ap, ◌∙◌, subst, arith, get_or, map, take, drop, replicate, ⊎_elim}
 use Rattle.std.specs.Prelude.{slice_index, filter, ◌==◌}
 use Rattle.std.specs.List.{range_with_len, All}
@@ -20,6 +20,7 @@ use Rattle.market.proofs.Tallies.{tally, at_turn, tally-le-count}
 use Rattle.market.proofs.Members.{range_more}
 use Rattle.market.proofs.Turns.{one_more, no_more, is_programme-from}
 
+-- a programme of a type is one of the market
 pub member_lt : (m : Problem) (t j : ℕ) → j < length (programmes_of m t)
     → slice_index (programmes_of m t) j < length m.programmes
 unfolding programmes_of
@@ -30,6 +31,7 @@ member_lt m t j l =
     let at = get_or-range_with_len 0 n k d (omega arith) in omega arith in
     All-filter (λ p. kind_of m p == t) (λ p. p < n) (range_with_len 0 n) all j 0 l
 
+-- it is of the type
 pub member_kind : (m : Problem) (t j : ℕ) → j < length (programmes_of m t)
     → kind_of m (slice_index (programmes_of m t) j) ≡ t
 unfolding programmes_of
@@ -42,6 +44,14 @@ pub entry_lt : (m : Problem) → IsValid m → (i j : ℕ) → i < length m.list
     → slice_index (list_of m i) j < length m.programmes
 entry_lt m v i j li lj = v.list_entries i j li lj
 
+-- entries read from an equal list are as small
+pub read_lt : (xs ys : List ℕ) (n : ℕ) → xs ≡ ys
+    → ((k : ℕ) → k < length ys → slice_index ys k < n) → (k : ℕ) → k < length xs
+    → slice_index xs k < n
+read_lt xs ys n e h =
+    subst (λ (zs : List ℕ). (k : ℕ) → k < length zs → slice_index zs k < n) (sym e) h
+
+-- an entry of a list's front is a programme
 pub front_entry : (m : Problem) → IsValid m → (i cut : ℕ) (list : List ℕ) (ps : List Prog)
     → i < length m.lists → list ≡ list_of m i → ps ≡ m.programmes → (j : ℕ)
     → j < length (take cut list) → slice_index (take cut list) j < length ps
@@ -56,6 +66,7 @@ front_entry m v i cut list ps li e ep j l =
 
 -- ---- local numbers
 
+-- what is kept of small numbers is small
 pub filter_within : (f : ℕ → Bool) (n : ℕ) (xs : List ℕ)
     → ((j : ℕ) → j < length xs → slice_index xs j < n) → (j : ℕ) → j < length (filter f xs)
     → slice_index (filter f xs) j < n
@@ -75,24 +86,29 @@ map_next {X = X} {Y = Y} f xs k d y found more l e h m =
 
 -- ---- the numbers of the programmes of a type
 
+-- the numbers below one more
 range_suc : (n : ℕ) → range_with_len 0 (suc n) ≡ range_with_len 0 n ++ n ∷ []
 range_suc n = let e : suc n ≡ n + 1 = omega arith in ap (range_with_len 0) e ∙ range_more n
 
+-- what is kept of the numbers below one more
 filter_suc : (f : ℕ → Bool) (n : ℕ)
     → filter f (range_with_len 0 (suc n)) ≡ filter f (range_with_len 0 n) ++ cond (f n) (n ∷ []) []
 filter_suc f n = ap (filter f) (range_suc n) ∙ filter-append f (range_with_len 0 n) (n ∷ [])
 
+-- where the last one passes
 filter_yes : (f : ℕ → Bool) (n : ℕ) → f n ≡ true
     → filter f (range_with_len 0 (suc n)) ≡ filter f (range_with_len 0 n) ++ n ∷ []
 filter_yes f n t =
     filter_suc f n ∙ ap (λ (b : Bool). filter f (range_with_len 0 n) ++ cond b (n ∷ []) []) t
 
+-- where the last one fails
 filter_no : (f : ℕ → Bool) (n : ℕ) → f n ≡ false
     → filter f (range_with_len 0 (suc n)) ≡ filter f (range_with_len 0 n)
 filter_no f n t =
     filter_suc f n ∙ ap (λ (b : Bool). filter f (range_with_len 0 n) ++ cond b (n ∷ []) []) t
     ∙ append-nil (filter f (range_with_len 0 n))
 
+-- as many are kept as are counted
 length_members : (f : ℕ → Bool) (n : ℕ) → length (filter f (range_with_len 0 n)) ≡ count_below f n
 length_members f zero = refl
 length_members f (suc n) =
@@ -109,6 +125,7 @@ pub record IsNumbered (f : ℕ → Bool) (n p : ℕ) : Type 0 where
   pub below : count_below f p < length (filter f (range_with_len 0 n))
   pub at : slice_index (filter f (range_with_len 0 n)) (count_below f p) ≡ p
 
+-- a number that passes stands at the place that counts those before it
 numbers : (f : ℕ → Bool) (n p : ℕ) → p < n → f p ≡ true → IsNumbered f n p
 numbers f zero p l t = absurd (omega arith)
 numbers f (suc n) p l t =
@@ -150,6 +167,7 @@ numbers f (suc n) p l t =
     })
     (cases_lt p n)
 
+-- a local number is less than the count of the type
 pub local_lt : (m : Problem) (t p : ℕ) → p < length m.programmes → kind_of m p ≡ t
     → local_of m p < length (programmes_of m t)
 unfolding local_of programmes_of
@@ -172,13 +190,16 @@ local_back m t p l k =
 
 -- ---- the dictatorship is valid
 
+-- a dictatorship with these parts is the one made of them
 same_parts : (d : Dictatorship) (quota fill : List ℕ) (lists : List (List ℕ)) → d.quota ≡ quota
     → d.fill ≡ fill → d.lists ≡ lists → d ≡ record { quota = quota; fill = fill; lists = lists }
 same_parts d quota fill lists q f l = λ i. record { quota = q i; fill = f i; lists = l i }
 
+-- no more are kept than there were
 pub length_filter_le : (f : ℕ → Bool) (xs : List ℕ) → length (filter f xs) ≤ length xs
 length_filter_le f xs = let e = length-filter f xs in let h = count_by-le-length f xs in omega arith
 
+-- where each turn takes it, it is taken as often as there are turns
 tally_all : (h : ℕ → Option ℕ) (n p : ℕ) → ((j : ℕ) → j < n → h j ≡ Some p) → tally h n p ≡ n
 tally_all h zero p e = refl
 tally_all h (suc n) p e =
@@ -215,10 +236,12 @@ pub local_member : (m : Problem) (t j : ℕ) → j < length (programmes_of m t)
     → local_of m (slice_index (programmes_of m t) j) ≡ j
 unfolding local_of programmes_of
 local_member m t j l =
-    let p = slice_index (filter (λ q. kind_of m q == t) (range_with_len 0 (length m.programmes))) j in
+    let p = slice_index (filter (λ q. kind_of m q == t) (range_with_len 0 (length m.programmes))) j
+    in
     ap (λ (u : ℕ). count_below (λ q. kind_of m q == u) p) (member_kind m t j l)
     ∙ numbers_back (λ q. kind_of m q == t) (length m.programmes) j l
 
+-- a type has no more turns than there are candidates
 pub order-le : (m : Problem) → IsValid m → (t : ℕ) → t < m.types
     → length (order_of m t) ≤ length m.lists
 order-le m v t l =
@@ -233,6 +256,7 @@ order-le m v t l =
     let d : length held ≡ n = length-replicate n (Some 0) in
     omega arith
 
+-- a type has no more programmes than a market may have
 member_count-le : (m : Problem) (t : ℕ) → IsValid m → length (programmes_of m t) ≤ MAX_PROGRAMMES
 unfolding programmes_of
 member_count-le m t v =
@@ -254,6 +278,7 @@ local_length m cuts t i v li =
     let d = v.list_lengths i li in
     omega arith
 
+-- an entry of a turn's list is a local number
 local_entry : (m : Problem) (cuts : List ℕ) (t i j : ℕ) → IsValid m → i < length m.lists
     → j < length (local_list m cuts t i)
     → slice_index (local_list m cuts t i) j < length (programmes_of m t)
@@ -273,6 +298,7 @@ local_entry m cuts t i j v li lj =
     let l = local_lt m t (slice_index kept j) programme kind in
     omega arith
 
+-- the dictatorship over local numbers is valid
 pub local_valid : (m : Problem) → IsValid m → (t : ℕ) (cuts fill : List ℕ) (from : ℕ) → t < m.types
     → IsFill m t fill → from ≤ length (order_of m t)
     → IsValidDictatorship (local_dictatorship m cuts t from fill)

@@ -1,5 +1,5 @@
--- The dictatorship over local numbers makes the choices of the one over the market's own numbers: by
--- induction on the turns as many seats are taken under both, so the same entries are open.
+-- The dictatorship over local numbers makes the choices of the one over the market's own numbers:
+-- by induction on the turns as many seats are taken under both, so the same entries are open.
 use Rattle.std.proofs.Common.{◌≡◌, ℕ, zero, suc, ◌+◌, ◌-◌, ◌<◌, ◌≤◌, Bool, true, false, cond, List, [], ◌∷◌, length, Option, Some, None, refl, sym, ap, ◌∙◌, subst, arith, map, take, drop, replicate, ⊎_elim}
 use Rattle.std.specs.Prelude.{slice_index, find, ◌==◌, nat_lt, slice_get}
 use Rattle.std.specs.Option.{option_map}
@@ -17,8 +17,9 @@ use Rattle.market.specs.LocalNumbers.{programmes_of, local_of, local_list, local
 use Rattle.market.proofs.Firsts.{find_listed, place_get, place_step}
 use Rattle.market.proofs.Turns.{is_open, pick-find, seats_taken-zero, seats_taken-suc}
 use Rattle.market.proofs.Tentatives.{type-quota, type-fill, type-list, offered-kind, zeros}
-use Rattle.market.proofs.Dicts.{front_entry, filter_within, local_back, local_lt, local_valid}
+use Rattle.market.proofs.Dicts.{front_entry, filter_within, local_back, local_lt}
 
+-- one entry of such lists
 find_step : (a b : Bool) (x y : ℕ) (g : ℕ → ℕ) (m n : Option ℕ) → a ≡ b → m ≡ option_map g n
     → cond a (Some (g x)) m ≡ option_map g (cond b (Some x) n)
 find_step true true x y g m n e h = refl
@@ -26,6 +27,7 @@ find_step true false x y g m n e h = absurd (Rattle.std.proofs.lemmas.Bool.false
 find_step false true x y g m n e h = absurd (Rattle.std.proofs.lemmas.Bool.false≢true e)
 find_step false false x y g m n e h = h
 
+-- what is found under local numbers is what is found under the market's own
 find-map : (f h : ℕ → Bool) (g : ℕ → ℕ) (xs : List ℕ)
     → ((j : ℕ) → j < length xs → f (g (slice_index xs j)) ≡ h (slice_index xs j))
     → find f (map g xs) ≡ option_map g (find h xs)
@@ -34,6 +36,7 @@ find-map f h g (x ∷ xs) e =
     find_step (f (g x)) (h x) x x g (find f (map g xs)) (find h xs) (e 0 (omega arith))
     (find-map f h g xs (λ j l. e (suc j) (omega arith)))
 
+-- so is its place
 position-map : (f h : ℕ → Bool) (g : ℕ → ℕ) (xs : List ℕ)
     → ((j : ℕ) → j < length xs → f (g (slice_index xs j)) ≡ h (slice_index xs j))
     → position_or_len f (map g xs) ≡ position_or_len h xs
@@ -42,31 +45,37 @@ position-map f h g (x ∷ xs) e =
     place_step (f (g x)) (h x) (position_or_len f (map g xs)) (position_or_len h xs)
     (e 0 (omega arith)) (position-map f h g xs (λ j l. e (suc j) (omega arith)))
 
+-- when a programme has a seat left
 open-is : (d : Dictatorship) (k p : ℕ)
     → is_open d k p ≡ nat_lt (slice_index d.fill p + seats_taken d k p) (slice_index d.quota p)
 unfolding is_open has_seat seats_taken
 open-is d k p = refl
 
+-- the choice is the first entry that has a seat left
 choice-is : (d : Dictatorship) (k : ℕ) → choice d k ≡ position_or_len (is_open d k) (list_at d k)
 unfolding choice first_open is_open
 choice-is d k = refl
 
+-- the quotas over local numbers
 local-quota : (m : Problem) (cuts fill : List ℕ) (t from : ℕ)
     → (local_dictatorship m cuts t from fill).quota ≡ map (quota_of m) (programmes_of m t)
 unfolding local_dictatorship
 local-quota m cuts fill t from = refl
 
+-- the seats taken before
 pub local-fill : (m : Problem) (cuts fill : List ℕ) (t from : ℕ)
     → (local_dictatorship m cuts t from fill).fill ≡ fill
 unfolding local_dictatorship
 local-fill m cuts fill t from = refl
 
+-- how many turns are left
 pub local-turns : (m : Problem) (cuts fill : List ℕ) (t from : ℕ)
     → length (local_dictatorship m cuts t from fill).lists ≡ length (order_of m t) - from
 unfolding local_dictatorship
 local-turns m cuts fill t from =
     length-map (drop from (order_of m t)) (local_list m cuts t) ∙ length-drop from (order_of m t)
 
+-- a turn's list, in local numbers
 local-list_at : (m : Problem) (cuts fill : List ℕ) (t from k : ℕ) → from + k < length (order_of m t)
     → list_at (local_dictatorship m cuts t from fill) k
     ≡ map (local_of m) (turn_list m cuts t (slice_index (order_of m t) (from + k)))
@@ -78,6 +87,7 @@ local-list_at m cuts fill t from k l =
 
 -- ---- the entries of a turn's list
 
+-- an entry of a turn's list is a programme of the type
 turn_entry : (m : Problem) (cuts : List ℕ) (t i j : ℕ) → IsValid m → i < length m.lists
     → j < length (turn_list m cuts t i)
     → (slice_index (turn_list m cuts t i) j < length m.programmes)
@@ -157,7 +167,8 @@ module _ (m : Problem) (v : IsValid m) (cuts fill : List ℕ) (t from : ℕ) (lt
       let i = slice_index (order_of m t) (from + k) in
       pick-find e k
       ∙ ap (find (is_open e k)) (local-list_at m cuts fill t from k l)
-      ∙ find-map (is_open e k) (is_open d (from + k)) (local_of m) (turn_list m cuts t i) (agree k s l)
+      ∙ find-map (is_open e k) (is_open d (from + k)) (local_of m) (turn_list m cuts t i) (agree k
+      s l)
       ∙ ap (λ (xs : List ℕ). option_map (local_of m) (find (is_open d (from + k)) xs))
       (sym (type-list m cuts t (from + k) l))
       ∙ ap (option_map (local_of m)) (sym (pick-find d (from + k)))
@@ -179,7 +190,8 @@ module _ (m : Problem) (v : IsValid m) (cuts fill : List ℕ) (t from : ℕ) (lt
   pick_entry k q l e =
       let d = type_dictatorship m cuts t in
       let i = slice_index (order_of m t) k in
-      let found = ap (find (is_open d k)) (sym (type-list m cuts t k l)) ∙ sym (pick-find d k) ∙ e in
+      let found = ap (find (is_open d k)) (sym (type-list m cuts t k l)) ∙ sym (pick-find d k)
+      ∙ e in
       let li = find_listed (is_open d k) (turn_list m cuts t i) q found in
       let x = turn_entry m cuts t i (place_of q (turn_list m cuts t i)) v (v.order_entries t k lt l)
       li in
@@ -199,7 +211,8 @@ module _ (m : Problem) (v : IsValid m) (cuts fill : List ℕ) (t from : ℕ) (lt
       by_picked None e = refl
       by_picked (Some q) e = let x = pick_entry (from + k) q l e in same_number p q lp x.0 kp x.1
 
-  same_seats : IsFillBefore m cuts t from fill → (k : ℕ) → from + k ≤ length (order_of m t) → SameSeats k
+  same_seats : IsFillBefore m cuts t from fill → (k : ℕ) → from + k ≤ length (order_of m t)
+      → SameSeats k
   unfolding SameSeats
   same_seats fills zero l p lp kp =
       let e = local_dictatorship m cuts t from fill in
@@ -232,6 +245,7 @@ module _ (m : Problem) (v : IsValid m) (cuts fill : List ℕ) (t from : ℕ) (lt
       ≡ option_map (local_of m) (pick (type_dictatorship m cuts t) (from + k))
   local-pick fills k l = same_pick k (same_seats fills k (omega arith)) l
 
+-- there and back gives the same
 back_step : (f g : ℕ → ℕ) (o : Option ℕ) → ((q : ℕ) → o ≡ Some q → f (g q) ≡ q)
     → option_map f (option_map g o) ≡ o
 back_step f g None h = refl
@@ -240,9 +254,11 @@ back_step f g (Some q) h = ap Some (h q refl)
 -- from the first turn on with no seats taken
 no_fills : (m : Problem) (cuts fill : List ℕ) (t : ℕ) → ((j : ℕ) → slice_index fill j ≡ 0) → (j : ℕ)
     → j < length (programmes_of m t)
-    → slice_index fill j ≡ seats_taken (type_dictatorship m cuts t) 0 (slice_index (programmes_of m t) j)
+    → slice_index fill j ≡ seats_taken (type_dictatorship m cuts t) 0 (slice_index (programmes_of m
+    t) j)
 no_fills m cuts fill t z j l = let e =
-    seats_taken-zero (type_dictatorship m cuts t) (slice_index (programmes_of m t) j) in let h = z j in
+    seats_taken-zero (type_dictatorship m cuts t) (slice_index (programmes_of m t) j) in let h = z
+    j in
     omega arith
 
 -- the entry that a turn chooses, in the market's own numbers
@@ -261,15 +277,18 @@ entry-pick m v cuts fill t from k lt fills l =
 
 -- ---- what a caller of the dictatorship reads
 
+-- a choice for each turn
 pub length-choices : (d : Dictatorship) → length (choices d) ≡ length d.lists
 unfolding choices
 length-choices d = length-map-range_with_len (choice d) 0 (length d.lists)
 
+-- the choice of one turn among all
 pub choices-at : (d : Dictatorship) (k : ℕ) → k < length d.lists
     → slice_index (choices d) k ≡ choice d k
 unfolding choices
 choices-at d k l = get_or-map-range_with_len (choice d) 0 (length d.lists) k k 0 l (omega arith)
 
+-- the pick is the entry at the choice
 pick_is : (d : Dictatorship) (k : ℕ) → slice_get (list_at d k) (choice d k) ≡ pick d k
 unfolding pick
 pick_is d k = refl
@@ -317,6 +336,7 @@ zero_fill m cuts fill t n e f =
       },
     )
 
+-- an empty row has nothing anywhere
 pub none_at : (n i : ℕ) → held_by (replicate n None) i ≡ None
 none_at n i =
     ⊎_elim

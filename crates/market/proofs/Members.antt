@@ -3,7 +3,7 @@ use Rattle.std.proofs.Common.{◌≡◌, ◌≢◌, ℕ, zero, suc, ◌+◌, ◌
 use Rattle.std.specs.Prelude.{slice_index, filter, ◌==◌}
 use Rattle.std.specs.List.{range_with_len}
 use Rattle.std.proofs.lemmas.Bool.{cases_lt, cases_eq, cases_Bool, eq-eqb, ne_eqb}
-use Rattle.std.proofs.lemmas.List.{map-id, get_or-set_same, get_or-set_other, length-set, get_or_append_left, get_or_push, length_push, get_or-replicate, length-replicate}
+use Rattle.std.proofs.lemmas.List.{append-nil, map-id, get_or-set_same, get_or-set_other, length-set, get_or_append_left, get_or_push, length_push, get_or-replicate, length-replicate}
 use Rattle.std.proofs.lemmas.List.Elements.{filter-append}
 use Rattle.std.proofs.lemmas.List.FromFn.{map-range_with_len_more}
 use Rattle.market.specs.declared.programme.Prog.{Prog}
@@ -13,18 +13,22 @@ use Rattle.market.specs.LocalNumbers.{local_of}
 use Rattle.market.specs.Tables.{IsLocals}
 use Rattle.market.proofs.Turns.{one_more, no_more}
 
+-- the numbers below one more
 pub range_more : (k : ℕ) → range_with_len 0 (k + 1) ≡ range_with_len 0 k ++ k ∷ []
 range_more k =
     sym (map-id (range_with_len 0 (k + 1)))
     ∙ map-range_with_len_more (λ (x : ℕ). x) 0 k k (omega arith)
     ∙ ap (λ (xs : List ℕ). xs ++ k ∷ []) (map-id (range_with_len 0 k))
 
+-- one that passes is added
 kept_step : (b : Bool) (k : ℕ) (xs : List ℕ) → b ≡ true → xs ++ cond b (k ∷ []) [] ≡ xs ++ k ∷ []
 kept_step b k xs e = ap (λ (x : Bool). xs ++ cond x (k ∷ []) []) e
 
+-- one that fails is not
 dropped_step : (b : Bool) (k : ℕ) (xs : List ℕ) → b ≡ false → xs ++ cond b (k ∷ []) [] ≡ xs ++ []
 dropped_step b k xs e = ap (λ (x : Bool). xs ++ cond x (k ∷ []) []) e
 
+-- one number more that passes
 pub kept_more : (f : ℕ → Bool) (k : ℕ) (found more : List ℕ) → found ≡ filter f (range_with_len 0 k)
     → f k ≡ true → more ≡ found ++ k ∷ [] → more ≡ filter f (range_with_len 0 (k + 1))
 kept_more f k found more e t m =
@@ -32,17 +36,15 @@ kept_more f k found more e t m =
     ∙ sym (kept_step (f k) k (filter f (range_with_len 0 k)) t)
     ∙ sym (filter-append f (range_with_len 0 k) (k ∷ [])) ∙ ap (filter f) (sym (range_more k))
 
-nil_right : (xs : List ℕ) → xs ++ [] ≡ xs
-nil_right [] = refl
-nil_right (x ∷ xs) = ap (λ (ys : List ℕ). x ∷ ys) (nil_right xs)
-
+-- one number more that fails
 pub dropped_more : (f : ℕ → Bool) (k : ℕ) (found : List ℕ) → found ≡ filter f (range_with_len 0 k)
     → f k ≡ false → found ≡ filter f (range_with_len 0 (k + 1))
 dropped_more f k found e t =
-    e ∙ sym (nil_right (filter f (range_with_len 0 k)))
+    e ∙ sym (append-nil (filter f (range_with_len 0 k)))
     ∙ sym (dropped_step (f k) k (filter f (range_with_len 0 k)) t)
     ∙ sym (filter-append f (range_with_len 0 k) (k ∷ [])) ∙ ap (filter f) (sym (range_more k))
 
+-- no more are counted than there are
 pub count_le : (f : ℕ → Bool) (n : ℕ) → count_below f n ≤ n
 count_le f zero = omega arith
 count_le f (suc n) =
@@ -74,11 +76,13 @@ pub record IsCounts (programmes : List Prog) (types : ℕ) (counts : List ℕ) (
   pub each : (t : ℕ) → t < types
       → slice_index counts t ≡ count_below (λ q. kind_in programmes q == t) k
 
+-- the same at the next programme, as a sum
 counts_suc : (programmes : List Prog) (types k : ℕ) (counts : List ℕ)
     → IsCounts programmes types counts (suc k) → IsCounts programmes types counts (k + 1)
 counts_suc ps types k counts c = let e : suc k ≡ k + 1 = omega arith in
     subst (IsCounts ps types counts) e c
 
+-- one programme more counts for its type
 pub IsCounts-more : (programmes : List Prog) (types k : ℕ) (counts : List ℕ)
     → kind_in programmes k < types → IsCounts programmes types counts k
     → IsCounts programmes types
@@ -104,6 +108,7 @@ IsCounts-more ps types k counts l c =
           (cases_eq t u);
     })
 
+-- its local number is how many of its type came before
 pub IsLocalsUpto-more : (programmes : List Prog) (types k x : ℕ) (counts locals more : List ℕ)
     → kind_in programmes k < types → IsCounts programmes types counts k
     → IsLocalsUpto programmes locals k → x ≡ slice_index counts (kind_in programmes k)
@@ -123,6 +128,7 @@ IsLocalsUpto-more ps types k x counts locals more l c s e m = record {
       (cases_lt p k);
 }
 
+-- before the first programme nothing is counted
 pub IsCounts-none : (programmes : List Prog) (types : ℕ) (counts : List ℕ)
     → counts ≡ Rattle.std.proofs.Common.replicate types 0 → IsCounts programmes types counts 0
 IsCounts-none ps types counts e = record {

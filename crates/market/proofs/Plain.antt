@@ -1,5 +1,5 @@
--- The loops of the plain mechanism: one round's cuts and placement, candidate by candidate, and the rounds
--- until one is settled.
+-- The loops of the plain mechanism: one round's cuts and placement, candidate by candidate, and the
+-- rounds until one is settled.
 use Rattle.std.proofs.Common.{◌≡◌, ◌≢◌, ℕ, zero, suc, ◌+◌, ◌*◌, ◌<◌, ◌≤◌, Bool, true, false, cond, List, [], length, Option, refl, sym, ap, ◌∙◌, subst, arith, map, ⊎_elim}
 use Rattle.std.specs.Prelude.{slice_index, slice_index_or}
 use Rattle.std.proofs.lemmas.Bool.{cases_lt, cases_Bool, eq-eqb, ne_eqb, false≢true}
@@ -14,6 +14,7 @@ use Rattle.market.specs.declared.limits.TheConstants.{MAX_CANDIDATES, MAX_ENTRIE
 use Rattle.market.proofs.Turns.{one_more, no_more}
 use Rattle.market.proofs.Rounds.{next_cut-lt, next_cuts-at, next_cuts-le, cuts_after-suc, cutting_rounds-settles, first_total}
 
+-- tests that agree count the same
 pub count_agree : (f g : ℕ → Bool) (n : ℕ) → ((i : ℕ) → i < n → f i ≡ g i)
     → count_below f n ≡ count_below g n
 count_agree f g zero h = refl
@@ -24,6 +25,7 @@ count_agree f g (suc n) h =
 
 -- ---- the loop over rounds
 
+-- the next cuts are cuts
 pub IsCuts-next : (m : Problem) (cuts : List ℕ) → IsCuts m cuts
     → length (next_cuts m cuts) ≡ length m.lists → IsCuts m (next_cuts m cuts)
 IsCuts-next m cuts c n =
@@ -40,6 +42,7 @@ cuts_count f new old zero h = omega arith
 cuts_count f new old (suc n) h = let ih = cuts_count f new old n (λ i l. h i (omega arith)) in
     let here = h n (omega arith) in omega arith
 
+-- each cut takes at least one entry away
 cut_total : (m : Problem) (cuts : List ℕ)
     → entries_left m (next_cuts m cuts) + several_count m cuts ≤ entries_left m cuts
 unfolding entries_left several_count several_in has_several has_several_in
@@ -50,10 +53,12 @@ cut_total m cuts =
     let at = next_cuts-at m cuts i l in
     let le = next_cuts-le m cuts i in
     ⊎_elim
-    (λ t. let one = one_more (has_several m cuts i) t in let h = next_cut-lt m cuts i t in omega arith)
+    (λ t. let one = one_more (has_several m cuts i) t in let h = next_cut-lt m cuts i t in omega
+    arith)
     (λ f. let none = no_more (has_several m cuts i) f in omega arith)
     (cases_Bool (has_several m cuts i)))
 
+-- all cuts together take at most all entries away
 pub total-cuts : (m : Problem) (r : ℕ)
     → sum_below (λ k. several_count m (cuts_after m k)) r + entries_left m (cuts_after m r)
     ≤ entry_count m
@@ -64,11 +69,13 @@ total-cuts m (suc r) =
     let s = ap (entries_left m) (cuts_after-suc m r) in
     omega arith
 
+-- a sum of small numbers is small
 pub sum_bound : (f : ℕ → ℕ) (b n : ℕ) → ((i : ℕ) → i < n → f i ≤ b) → sum_below f n ≤ n * b
 sum_bound f b zero h = omega arith
 sum_bound f b (suc n) h = let ih = sum_bound f b n (λ i l. h i (omega arith)) in let here =
     h n (omega arith) in omega arith
 
+-- a market has few entries
 pub few_entries : (m : Problem) → IsValid m → entry_count m ≤ MAX_CANDIDATES * MAX_ENTRIES
 unfolding entry_count
 few_entries m v =
@@ -76,10 +83,12 @@ few_entries m v =
     let n = v.candidates in
     omega arith
 
+-- as many next cuts as candidates
 length-next : (m : Problem) (cuts : List ℕ) → length (next_cuts m cuts) ≡ length m.lists
 unfolding next_cuts cuts_in next_cut cut_in
 length-next m cuts = length-map-range_with_len (next_cut m cuts) 0 (length m.lists)
 
+-- whole lists are cuts
 pub whole_fit : (m : Problem) → IsCuts m (whole_cuts m)
 unfolding whole_cuts list_of
 whole_fit m = record {
@@ -99,6 +108,7 @@ pub record IsRoundsUpto (m : Problem) (r : ℕ) (cuts : List ℕ) (total : ℕ) 
   pub not_before : (k : ℕ) → k < r → is_settled m (cuts_after m k) ≡ false
   pub counted : total ≡ sum_below (λ k. several_count m (cuts_after m k)) r
 
+-- no settled round is passed
 pub rounds-le : (m : Problem) (r total : ℕ) (cuts : List ℕ) → IsRoundsUpto m r cuts total
     → r ≤ cutting_rounds m
 rounds-le m r total cuts u =
@@ -108,15 +118,18 @@ rounds-le m r total cuts u =
     (λ le. le)
     (cases_lt (cutting_rounds m) r)
 
+-- where nobody has several the round is settled
 settled-zero : (m : Problem) (cuts : List ℕ) → several_count m cuts ≡ 0 → is_settled m cuts ≡ true
 unfolding is_settled
 settled-zero m cuts e = eq-eqb (several_count m cuts) 0 e
 
+-- where somebody has it is not
 settled-not : (m : Problem) (cuts : List ℕ) → (several_count m cuts ≡ 0 → ⊥)
     → is_settled m cuts ≡ false
 unfolding is_settled
 settled-not m cuts ne = ne_eqb (several_count m cuts) 0 ne
 
+-- the first round in which nobody has several is the last
 pub rounds-last : (m : Problem) (r total : ℕ) (cuts : List ℕ) → IsRoundsUpto m r cuts total
     → several_count m cuts ≡ 0 → r ≡ cutting_rounds m
 rounds-last m r total cuts u z =
@@ -128,6 +141,7 @@ rounds-last m r total cuts u z =
     (λ ge. omega arith)
     (cases_lt r (cutting_rounds m))
 
+-- before the first round
 pub IsRoundsUpto-none : (m : Problem) (cuts : List ℕ) → cuts ≡ whole_cuts m
     → IsRoundsUpto m 0 cuts 0
 unfolding cuts_after
@@ -138,6 +152,7 @@ IsRoundsUpto-none m cuts e = record {
   counted = refl;
 }
 
+-- a round that cuts
 pub IsRoundsUpto-more : (m : Problem) (r total count : ℕ) (cuts next : List ℕ)
     → IsRoundsUpto m r cuts total → next ≡ next_cuts m cuts → count ≡ several_count m cuts
     → (count ≡ 0 → ⊥) → IsRoundsUpto m (r + 1) next (total + count)
@@ -165,9 +180,12 @@ rounds-fall m count cuts next e c nz =
     let p : count ≢ 0 = nz in
     omega arith
 
+-- a sum with one number more
 pub sum_next : (f : ℕ → ℕ) (k s x : ℕ) → s ≡ sum_below f k → x ≡ f k → s + x ≡ sum_below f (k + 1)
-sum_next f k s x e h = let n : k + 1 ≡ suc k = omega arith in let q = ap (sum_below f) n in omega arith
+sum_next f k s x e h = let n : k + 1 ≡ suc k = omega arith in let q = ap (sum_below f) n in omega
+    arith
 
+-- there are few rounds
 pub rounds_small : (m : Problem) → IsValid m → (r total : ℕ) (cuts : List ℕ)
     → IsRoundsUpto m r cuts total → r ≤ MAX_CANDIDATES * MAX_ENTRIES
 rounds_small m v r total cuts u =
@@ -176,8 +194,10 @@ rounds_small m v r total cuts u =
     let f = few_entries m v in
     omega (arith, s.bounded)
 
+-- there are few cuts
 pub total_small : (m : Problem) → IsValid m → (r total count : ℕ) (cuts : List ℕ)
-    → IsRoundsUpto m r cuts total → count ≡ several_count m cuts → total + count ≤ MAX_CANDIDATES * MAX_ENTRIES
+    → IsRoundsUpto m r cuts total → count ≡ several_count m cuts
+    → total + count ≤ MAX_CANDIDATES * MAX_ENTRIES
 total_small m v r total count cuts u c =
     let a = total-cuts m r in
     let b = cut_total m (cuts_after m r) in
@@ -186,14 +206,17 @@ total_small m v r total count cuts u c =
     let f = few_entries m v in
     omega arith
 
+-- an outcome with these parts
 same_outcome : (a : Outcome) (placement : List (Option ℕ)) (rounds cuts turns : ℕ)
     → placement ≡ a.placement → rounds ≡ a.rounds → cuts ≡ a.cuts → turns ≡ a.turns
     → record { placement = placement; rounds = rounds; cuts = cuts; turns = turns } ≡ a
 same_outcome a placement rounds cuts turns p r c t =
     λ i. record { placement = p i; rounds = r i; cuts = c i; turns = t i }
 
+-- what the last round gives is what the mechanism gives
 pub outcome_is : (m : Problem) (r total wide turns : ℕ) (cuts : List ℕ) (held : List (Option ℕ))
-    → IsRoundsUpto m r cuts total → several_count m cuts ≡ 0 → held ≡ best_programmes m cuts → wide ≡ r + 1
+    → IsRoundsUpto m r cuts total → several_count m cuts ≡ 0 → held ≡ best_programmes m cuts
+    → wide ≡ r + 1
     → turns ≡ turns_of_round m
     → record { placement = held; rounds = r + 1; cuts = total; turns = wide * turns } ≡ mechanism m
 unfolding mechanism mechanism_placement mechanism_rounds mechanism_cuts

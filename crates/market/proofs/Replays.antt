@@ -1,6 +1,5 @@
--- A round that starts from the kept choices of the round before it: the rows of a table, the seats that
--- the kept turns take, and the turns that are run. It is for the reruns of changed types, which no crate
--- uses yet.
+-- A round that starts from the kept choices of the round before it: the rows of a table, the seats
+-- that the kept turns take, and the turns that are run.
 use Rattle.std.proofs.Common.{◌≡◌, ◌≢◌, ℕ, zero, suc, ◌+◌, ◌<◌, ◌≤◌, Bool, cond, not, List, [], length, Option, Some, None, refl, sym, ap, ◌∙◌, subst, arith, get_or, map, set, replicate, ⊎_elim}
 use Rattle.std.specs.Prelude.{is_some, nat_lt, slice_get, slice_index, slice_index_or, unwrap_or}
 use Rattle.std.specs.List.{position_or_len, range_with_len}
@@ -13,7 +12,7 @@ use Rattle.market.specs.Problems.{Problem, IsValid, place_of, kind_of, list_of, 
 use Rattle.market.specs.Stability.{held_by}
 use Rattle.market.specs.Dictatorships.{pick, seats_taken}
 use Rattle.market.specs.Mechanism.{tentative, type_dictatorship, has_several, best_place, is_taken, next_cut, next_cuts, several_count, best_programmes, best_programme, best_in, cut_in, cuts_in, has_several_in, several_in}
-use Rattle.market.specs.LocalNumbers.{programmes_of, local_of, IsFill}
+use Rattle.market.specs.LocalNumbers.{programmes_of, local_of, IsFill, IsFillBefore}
 use Rattle.market.specs.Choices.{IsRound, programme_in, empty_table, IsTable, IsWithinCuts, best_programmes_in, FitsNumber}
 use Rattle.market.specs.Reruns.{is_beyond, is_cut_away, first_changed, changed_turn, IsRunUpto, kept_seats, IsKeptFill}
 use Rattle.market.proofs.Firsts.{place_get}
@@ -27,10 +26,12 @@ use Rattle.market.proofs.Reruns.{keeps_upto, no_turn_none}
 
 -- ---- a round's table against the definitions
 
+-- a round's table has a row for each type, with an entry for each candidate
 pub round-table : (m : Problem) (cuts : List ℕ) (table : List (List (Option ℕ)))
     → IsRound m cuts table → IsTable m table
 round-table m cuts table r = record { types = r.types; candidates = r.candidates }
 
+-- who has several choices in it has several tentative programmes
 pub round-several : (m : Problem) (cuts : List ℕ) (table : List (List (Option ℕ))) (i : ℕ)
     → IsRound m cuts table → i < length m.lists
     → has_several_in m (programme_in table) i ≡ has_several m cuts i
@@ -40,6 +41,7 @@ round-several m cuts table i r l =
     (λ t. is_some (tentative m cuts t i)) m.types
     (λ t lt. ap (λ (o : Option ℕ). is_some o) (r.each t i lt l)))
 
+-- the best choice is the best tentative programme
 pub round-best : (m : Problem) → IsValid m
     → (cuts : List ℕ) (table : List (List (Option ℕ))) (i : ℕ) → IsRound m cuts table
     → i < length m.lists → best_in m (programme_in table) i ≡ best_place m cuts i
@@ -50,6 +52,7 @@ round-best m v cuts table i r l =
     (λ j lj. let p = slice_index (list_of m i) j in ap (is_programme p)
     (r.each (kind_of m p) i (v.kinds p (entry_lt m v i j l lj)) l))
 
+-- a candidate's next cut, read from the table
 pub round-cut : (m : Problem) → IsValid m → (cuts : List ℕ) (table : List (List (Option ℕ))) (i : ℕ)
     → IsRound m cuts table → i < length m.lists
     → cut_in m (programme_in table) cuts i ≡ next_cut m cuts i
@@ -60,6 +63,7 @@ round-cut m v cuts table i r l =
     ∙ ap (λ (n : ℕ). cond (has_several m cuts i) (n + 1) (slice_index cuts i))
     (round-best m v cuts table i r l)
 
+-- the next cuts, read from the table
 pub round-cuts : (m : Problem) → IsValid m → (cuts : List ℕ) (table : List (List (Option ℕ)))
     → IsRound m cuts table → cuts_in m (programme_in table) cuts ≡ next_cuts m cuts
 unfolding cuts_in next_cuts next_cut cut_in
@@ -68,9 +72,11 @@ round-cuts m v cuts table r =
     (map (cut_in m (programme_in table) cuts) (range_with_len 0 (length m.lists))) (length m.lists)
     0
     (length-map-range_with_len (cut_in m (programme_in table) cuts) 0 (length m.lists))
-    (λ i l. get_or-map-range_with_len (cut_in m (programme_in table) cuts) 0 (length m.lists) i i 0 l
+    (λ i l. get_or-map-range_with_len (cut_in m (programme_in table) cuts) 0 (length m.lists) i i 0
+    l
     (omega arith) ∙ round-cut m v cuts table i r l)
 
+-- how many have several, read from the table
 pub round-count : (m : Problem) (cuts : List ℕ) (table : List (List (Option ℕ)))
     → IsRound m cuts table → several_in m (programme_in table) ≡ several_count m cuts
 unfolding several_in several_count has_several has_several_in
@@ -78,7 +84,9 @@ round-count m cuts table r =
     count_agree (has_several_in m (programme_in table)) (has_several m cuts) (length m.lists)
     (λ i l. round-several m cuts table i r l)
 
-pub round-best_programmes : (m : Problem) → IsValid m → (cuts : List ℕ) (table : List (List (Option ℕ)))
+-- what each gets, read from the table
+pub round-best_programmes : (m : Problem) → IsValid m → (cuts : List ℕ) (table : List (List (Option
+    ℕ)))
     → IsRound m cuts table → best_programmes_in m (programme_in table) ≡ best_programmes m cuts
 unfolding best_programmes_in best_programmes best_programme
 round-best_programmes m v cuts table r =
@@ -89,6 +97,7 @@ round-best_programmes m v cuts table r =
     (λ i l. get_or-map-range_with_len f 0 (length m.lists) i i None l (omega arith)
     ∙ ap (slice_get (list_of m i)) (round-best m v cuts table i r l))
 
+-- a choice is one of a type and a candidate that there are
 choice_past : (m : Problem) (table : List (List (Option ℕ))) (t i p : ℕ) → IsTable m table
     → programme_in table t i ≡ Some p → (t < m.types) × (i < length m.lists)
 choice_past m table t i p s e =
@@ -107,6 +116,7 @@ choice_past m table t i p s e =
           (cases_lt i (length m.lists)),
     )
 
+-- each choice of a round stands within the cut
 pub round-within : (m : Problem) (cuts : List ℕ) (table : List (List (Option ℕ)))
     → IsRound m cuts table → IsWithinCuts m table cuts
 round-within m cuts table r =
@@ -119,14 +129,17 @@ round-within m cuts table r =
       within = λ t i p e. (took t i p e).within;
     }
 
+-- whether a choice is cut away, read from the table
 away-agree : (m : Problem) → IsValid m → (cuts : List ℕ) (table : List (List (Option ℕ))) (t i : ℕ)
     → IsRound m cuts table → t < m.types → i < length m.lists
     → is_cut_away m (programme_in table) cuts t i ≡ is_cut_away m (tentative m cuts) cuts t i
 unfolding is_cut_away cut_in has_several_in best_in next_cut has_several best_place is_taken
 away-agree m v cuts table t i r lt l =
-    ap (λ (n : ℕ). is_beyond (list_of m i) n (programme_in table t i)) (round-cut m v cuts table i r l)
+    ap (λ (n : ℕ). is_beyond (list_of m i) n (programme_in table t i)) (round-cut m v cuts table i
+    r l)
     ∙ ap (is_beyond (list_of m i) (next_cut m cuts i)) (r.each t i lt l)
 
+-- the first changed turn, read from the table
 pub round-changed : (m : Problem) → IsValid m
     → (cuts : List ℕ) (table : List (List (Option ℕ))) (t : ℕ) → IsRound m cuts table → t < m.types
     → unwrap_or (changed_turn m (programme_in table) cuts t) (length (order_of m t))
@@ -140,7 +153,8 @@ round-changed m v cuts table t r lt =
     position_agree f g (order_of m t)
     (λ j lj. away-agree m v cuts table t (slice_index (order_of m t) j) r lt
     (v.order_entries t j lt lj)) in
-    let le = Rattle.std.proofs.lemmas.List.Sums.prefix_len-le-length (λ i. not (f i)) (order_of m t) in
+    let le = Rattle.std.proofs.lemmas.List.Sums.prefix_len-le-length (λ i. not (f i)) (order_of m
+    t) in
     ⊎_elim
     (λ l. ap (λ (b : Bool). unwrap_or (cond b (Some (position_or_len f (order_of m t))) None) n)
     (lt-ltb (position_or_len f (order_of m t)) n l) ∙ same)
@@ -152,6 +166,7 @@ round-changed m v cuts table t r lt =
 
 -- ---- the rows
 
+-- in an empty table no turn is run
 pub run-none : (m : Problem) (cuts : List ℕ) (t : ℕ) (table : List (List (Option ℕ)))
     → table ≡ empty_table m → t < m.types → IsRunUpto m cuts t 0 (slice_index_or table t [])
 unfolding empty_table
@@ -163,9 +178,11 @@ run-none m cuts t table e lt =
           ap (λ (xs : List (Option ℕ)). length xs) row
           ∙ length-replicate {A = Option ℕ} (length m.lists) None;
       run = λ i l h. absurd (omega arith);
-      idle = λ i l h. ap (λ (xs : List (Option ℕ)). get_or xs i None) row ∙ none_at (length m.lists) i;
+      idle = λ i l h. ap (λ (xs : List (Option ℕ)). get_or xs i None) row
+          ∙ none_at (length m.lists) i;
     }
 
+-- an empty table has a row for each type
 pub empty_table-count : (m : Problem) (table : List (List (Option ℕ))) → table ≡ empty_table m
     → length table ≡ m.types
 unfolding empty_table
@@ -186,6 +203,7 @@ run-kept m v cuts table t r lt =
       idle = λ i l h. r.each t i lt l ∙ no_turn_none m cuts t i h;
     }
 
+-- one turn more: its candidate gets its pick
 pub run-more : (m : Problem) → IsValid m
     → (cuts : List ℕ) (t k : ℕ) (row : List (Option ℕ)) (x : Option ℕ) → t < m.types
     → k < length (order_of m t) → IsRunUpto m cuts t k row
@@ -221,9 +239,11 @@ run-more m v cuts t k row x lt l f e =
           (cases_eq i c);
     }
 
+-- rows in which all turns are run are the table of the round
 pub round-rows : (m : Problem) (cuts : List ℕ) (table : List (List (Option ℕ)))
     → length table ≡ m.types
-    → ((t : ℕ) → t < m.types → IsRunUpto m cuts t (length (order_of m t)) (slice_index_or table t []))
+    → ((t : ℕ) → t < m.types → IsRunUpto m cuts t (length (order_of m t)) (slice_index_or table t
+    []))
     → IsRound m cuts table
 round-rows m cuts table n f = record {
   types = n;
@@ -237,10 +257,12 @@ round-rows m cuts table n f = record {
 
 -- ---- the seats of the kept choices
 
+-- no turn keeps no seat
 kept-zero : (m : Problem) (c : ℕ → ℕ → Option ℕ) (t p : ℕ) → kept_seats m c t 0 p ≡ 0
 unfolding kept_seats
 kept-zero m c t p = refl
 
+-- the seats that one turn more keeps
 kept-suc : (m : Problem) (c : ℕ → ℕ → Option ℕ) (t k p : ℕ)
     → kept_seats m c t (suc k) p
     ≡ kept_seats m c t k p + cond (is_programme p (c t (slice_index (order_of m t) k))) 1 0
@@ -259,6 +281,7 @@ kept_at m v cuts table t k j lt le l f =
     ∙ tentative-pick m cuts t i (omega arith)
     ∙ ap (pick (type_dictatorship m cuts t)) at
 
+-- where the kept choices are the picks, they keep the seats that are taken
 kept_seats-seats_taken : (m : Problem) (c : ℕ → ℕ → Option ℕ) (cuts : List ℕ) (t p k : ℕ)
     → ((j : ℕ) → j < k → c t (slice_index (order_of m t) j) ≡ pick (type_dictatorship m cuts t) j)
     → kept_seats m c t k p ≡ seats_taken (type_dictatorship m cuts t) k p
@@ -276,19 +299,15 @@ kept_seats-seats_taken m c cuts t p (suc k) h =
 pub kept_fills : (m : Problem) → IsValid m
     → (cuts fill : List ℕ) (table : List (List (Option ℕ))) (t k : ℕ) → t < m.types
     → k ≤ length (order_of m t) → IsRunUpto m cuts t k (slice_index_or table t [])
-    → IsKeptFill m (programme_in table) t k fill → (j : ℕ) → j < length (programmes_of m t)
-    → slice_index fill j ≡ seats_taken (type_dictatorship m cuts t) k (slice_index (programmes_of m t) j)
+    → IsKeptFill m (programme_in table) t k fill → IsFillBefore m cuts t k fill
 kept_fills m v cuts fill table t k lt le f s j l =
     s.each j l
     ∙ kept_seats-seats_taken m (programme_in table) cuts t (slice_index (programmes_of m t) j) k
     (λ i li. kept_at m v cuts table t k i lt le li f)
 
+-- these seats are a fill
 pub kept_fill-fits : (m : Problem) (cuts fill : List ℕ) (t k : ℕ)
-    → length fill ≡ length (programmes_of m t)
-    → ((j : ℕ) → j < length (programmes_of m t)
-    → slice_index fill j
-    ≡ seats_taken (type_dictatorship m cuts t) k (slice_index (programmes_of m t) j))
-    → IsFill m t fill
+    → length fill ≡ length (programmes_of m t) → IsFillBefore m cuts t k fill → IsFill m t fill
 kept_fill-fits m cuts fill t k n h = record {
   programmes = n;
   within = λ j l.
@@ -300,6 +319,7 @@ kept_fill-fits m cuts fill t k n h = record {
       omega arith;
 }
 
+-- a kept choice is a programme of the type
 pub kept_kind : (m : Problem) → IsValid m
     → (cuts : List ℕ) (table : List (List (Option ℕ))) (t k j p : ℕ) → t < m.types
     → k ≤ length (order_of m t) → j < k → IsRunUpto m cuts t k (slice_index_or table t [])
@@ -310,11 +330,14 @@ kept_kind m v cuts table t k j p lt le l f e =
     let at = turn_at m v t j lt (omega arith) in
     let li = v.order_entries t j lt (omega arith) in
     let took = tentative-takes m cuts t i p (sym (f.run i li (omega arith)) ∙ e) in
-    let b = v.list_entries i (place_of p (list_of m i)) li took.listed in
-    (subst (λ (q : ℕ). q < length m.programmes) (place_get p (list_of m i) 0 took.listed) b, took.kind)
+    let b = v.list_entries i (place_of p (list_of m i)) li took.listed in (
+      subst (λ (q : ℕ). q < length m.programmes) (place_get p (list_of m i) 0 took.listed) b,
+      took.kind,
+    )
 
 -- ---- counting the kept choices
 
+-- before the first turn nothing is kept
 pub IsKeptFill-none : (m : Problem) (c : ℕ → ℕ → Option ℕ) (t : ℕ) (fill : List ℕ)
     → fill ≡ replicate (length (programmes_of m t)) 0 → IsKeptFill m c t 0 fill
 IsKeptFill-none m c t fill e = record {
@@ -324,15 +347,18 @@ IsKeptFill-none m c t fill e = record {
       ∙ sym (kept-zero m c t (slice_index (programmes_of m t) j));
 }
 
+-- the same at the next turn, as a sum
 kept_next : (m : Problem) (c : ℕ → ℕ → Option ℕ) (t k : ℕ) (fill : List ℕ)
     → IsKeptFill m c t (suc k) fill → IsKeptFill m c t (k + 1) fill
 kept_next m c t k fill f = let e : suc k ≡ k + 1 = omega arith in
     subst (λ (n : ℕ). IsKeptFill m c t n fill) e f
 
+-- the place of a programme among its type is its local number
 member-number : (m : Problem) (t j p : ℕ) → j < length (programmes_of m t)
     → p ≡ slice_index (programmes_of m t) j → j ≡ local_of m p
 member-number m t j p l e = sym (local_member m t j l) ∙ ap (local_of m) (sym e)
 
+-- a turn that keeps a programme keeps a seat of it
 pub IsKeptFill-take : (m : Problem) (c : ℕ → ℕ → Option ℕ) (t k p : ℕ) (fill : List ℕ)
     → p < length m.programmes → kind_of m p ≡ t → c t (slice_index (order_of m t) k) ≡ Some p
     → IsKeptFill m c t k fill
@@ -360,7 +386,8 @@ IsKeptFill-take m c t k p fill l kp e f =
           omega arith)
           (λ ne.
           let w = get_or-set_other fill q j (slice_index fill q + 1) 0 ne in
-          let other : p ≢ slice_index (programmes_of m t) j = λ z. ne (member-number m t j p lj z) in
+          let other : p ≢ slice_index (programmes_of m t) j = λ z. ne (member-number m t j p lj z)
+          in
           let none = no_more (is_programme (slice_index (programmes_of m t) j)
           (c t (slice_index (order_of m t) k)))
           (ap (is_programme (slice_index (programmes_of m t) j)) e
@@ -369,6 +396,7 @@ IsKeptFill-take m c t k p fill l kp e f =
           (cases_eq j q);
     })
 
+-- a turn that keeps none keeps no seat
 pub IsKeptFill-pass : (m : Problem) (c : ℕ → ℕ → Option ℕ) (t k : ℕ) (fill : List ℕ)
     → c t (slice_index (order_of m t) k) ≡ None → IsKeptFill m c t k fill
     → IsKeptFill m c t (k + 1) fill
@@ -384,6 +412,7 @@ IsKeptFill-pass m c t k fill e f =
           omega arith;
     })
 
+-- no more seats are kept than there are turns
 pub kept-le : (m : Problem) (c : ℕ → ℕ → Option ℕ) (t k p : ℕ) → kept_seats m c t k p ≤ k
 unfolding kept_seats
 kept-le m c t k p =

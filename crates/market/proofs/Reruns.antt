@@ -1,6 +1,5 @@
--- What a cut leaves: a turn whose choice stands within the new cut, with the same earlier choices, keeps
--- its choice. So up to the first changed turn the next round makes the choices of this one. It is for the
--- reruns of changed types, which no crate uses yet.
+-- What a cut leaves: a turn whose choice stands within the new cut, with the same earlier choices,
+-- keeps its choice. So up to the first changed turn the next round makes the choices of this one.
 use Rattle.std.proofs.Common.{◌≡◌, ℕ, zero, suc, ◌+◌, ◌<◌, ◌≤◌, Bool, false, not, ◌&&◌, List, [], ◌∷◌, ◌++◌, length, Option, Some, None, refl, sym, ap, ◌∙◌, subst, arith, get_or, map, take, replicate, ⊎_elim}
 use Rattle.std.specs.Prelude.{find, nat_lt, slice_index}
 use Rattle.std.proofs.lemmas.Bool.{cases_lt, cases_Bool, false≢true, ltb-true}
@@ -20,6 +19,7 @@ use Rattle.market.proofs.Valid.{kind_lt}
 
 -- ---- the first that passes in a shorter front
 
+-- what is not found in a front is not found in a shorter one
 find_fewer : (f : ℕ → Bool) (xs : List ℕ) (c d : ℕ) → c ≤ d → (o : Option ℕ)
     → find f (take c xs) ≡ o → find f (take d xs) ≡ None → o ≡ None
 find_fewer f xs c d l None e n = refl
@@ -28,6 +28,7 @@ find_fewer f xs c d l (Some q) e n =
     let h = find_first_take f xs d q w.passes (omega (arith, w.within)) w.listed in
     absurd (none-some h.entry (sym n ∙ h.found))
 
+-- what is found in a front and stands in a shorter one is found there
 find_kept : (f : ℕ → Bool) (xs : List ℕ) (c d p : ℕ) → c ≤ d → find f (take d xs) ≡ Some p
     → place_of p xs < c → find f (take c xs) ≡ Some p
 find_kept f xs c d p l e within =
@@ -40,6 +41,7 @@ find_kept f xs c d p l e within =
     let equal : place_of h.entry xs ≡ place_of p xs = omega (arith, h.no_later) in
     h.found ∙ ap Some (place_same h.entry p xs q.listed equal)
 
+-- so both fronts find the same
 by_found : (f : ℕ → Bool) (xs : List ℕ) (c d : ℕ) → c ≤ d
     → ((p : ℕ) → find f (take d xs) ≡ Some p → place_of p xs < c) → (o : Option ℕ)
     → find f (take d xs) ≡ o → find f (take c xs) ≡ o
@@ -61,6 +63,7 @@ offers m t i earlier p =
     && nat_lt (slice_index (replicate (length m.programmes) 0) p + count_of p earlier)
     (slice_index (map (λ (q : Prog). q.quota) m.programmes) p)
 
+-- a pick by the seats taken before, in the candidate's own list
 pick-after : (m : Problem) (cuts : List ℕ) (t k : ℕ) → k < length (order_of m t)
     → pick (type_dictatorship m cuts t) k
     ≡ find (offers m t (slice_index (order_of m t) k) (picks (type_dictatorship m cuts t) k))
@@ -79,6 +82,7 @@ abbrev pub StandsWithin : Problem → List ℕ → List ℕ → ℕ → ℕ → 
 StandsWithin m older newer t i = (p : ℕ) → tentative m older t i ≡ Some p
     → place_of p (list_of m i) < slice_index newer i
 
+-- where the seats taken before are the same and the choice is kept, the pick is the same
 pub kept_pick : (m : Problem) → IsValid m → (older newer : List ℕ) (t k : ℕ)
     → ((i : ℕ) → slice_index newer i ≤ slice_index older i) → k < length (order_of m t)
     → StandsWithin m older newer t (slice_index (order_of m t) k)
@@ -92,7 +96,8 @@ kept_pick m v older newer t k shorter l within e =
     let took = tentative-pick m older t i own ∙ ap (pick (type_dictatorship m older t)) at
     ∙ pick-after m older t k l in
     pick-after m newer t k l
-    ∙ ap (λ (xs : List (Option ℕ)). find (offers m t i xs) (take (slice_index newer i) (list_of m i))) e
+    ∙ ap (λ (xs : List (Option ℕ)). find (offers m t i xs) (take (slice_index newer i) (list_of m
+    i))) e
     ∙ find_shorter f (list_of m i) (slice_index newer i) (slice_index older i) (shorter i)
     (λ p h. within p (took ∙ h))
     ∙ sym (pick-after m older t k l)
@@ -107,7 +112,8 @@ kept_picks m v older newer t zero shorter l within =
 kept_picks m v older newer t (suc k) shorter l within =
     let new = type_dictatorship m newer t in
     let old = type_dictatorship m older t in
-    let ih = kept_picks m v older newer t k shorter (omega arith) (λ j lj. within j (omega arith)) in
+    let ih = kept_picks m v older newer t k shorter (omega arith) (λ j lj. within j (omega arith))
+    in
     let p = kept_pick m v older newer t k shorter (omega arith) (within k (omega arith)) ih in
     picks-suc new k ∙ ap (λ (xs : List (Option ℕ)). xs ++ pick new k ∷ []) ih
     ∙ ap (λ (o : Option ℕ). picks old k ++ o ∷ []) p ∙ sym (picks-suc old k)
@@ -127,11 +133,13 @@ kept_tentative m older newer t k i l before e =
 
 -- ---- the cut of one round
 
+-- the next cut by the tentative programmes
 next_cut-in : (m : Problem) (cuts : List ℕ) (i : ℕ)
     → cut_in m (tentative m cuts) cuts i ≡ next_cut m cuts i
 unfolding cut_in next_cut has_several has_several_in best_place best_in is_taken
 next_cut-in m cuts i = refl
 
+-- what is not cut away stands within the cut
 not_beyond : (list : List ℕ) (cut p : ℕ) (o : Option ℕ) → is_beyond list cut o ≡ false → o ≡ Some p
     → place_of p list < cut
 not_beyond list cut p None b e = absurd (none-some p e)
@@ -156,12 +164,14 @@ stands-before m v cuts t j l lj p e =
     let n = next_cuts-at m cuts i li in
     omega arith
 
+-- the first changed turn is at most the number of turns
 pub first-le : (m : Problem) (c : ℕ → ℕ → Option ℕ) (cuts : List ℕ) (t : ℕ)
     → first_changed m c cuts t ≤ length (order_of m t)
 unfolding first_changed
 first-le m c cuts t = prefix_len-le-length (λ i. not (is_cut_away m c cuts t i)) (order_of m t)
 
--- the law of reruns: up to the first changed turn the next round's dictatorship makes the choices of this one's
+-- the law of reruns: up to the first changed turn the next round's dictatorship makes the choices
+-- of this one's
 pub record KeepsUpto (m : Problem) (cuts : List ℕ) (t : ℕ) : Type 0 where
   pub picks' : picks (type_dictatorship m (next_cuts m cuts) t)
       (first_changed m (tentative m cuts) cuts t)
@@ -172,15 +182,18 @@ pub record KeepsUpto (m : Problem) (cuts : List ℕ) (t : ℕ) : Type 0 where
   pub untouched : first_changed m (tentative m cuts) cuts t ≡ length (order_of m t) → (i : ℕ)
       → tentative m (next_cuts m cuts) t i ≡ tentative m cuts t i
 
+-- who has no turn takes nothing
 no_turn : (m : Problem) (cuts : List ℕ) (t i : ℕ) → length (order_of m t) ≤ turn_of m t i
     → (o : Option ℕ) → tentative m cuts t i ≡ o → o ≡ None
 no_turn m cuts t i h None e = refl
 no_turn m cuts t i h (Some p) e = let l = tentative-turn m cuts t i p e in absurd (omega arith)
 
+-- the same as an equation
 pub no_turn_none : (m : Problem) (cuts : List ℕ) (t i : ℕ) → length (order_of m t) ≤ turn_of m t i
     → tentative m cuts t i ≡ None
 no_turn_none m cuts t i h = no_turn m cuts t i h (tentative m cuts t i) refl
 
+-- up to the first changed turn the next round picks what this one picked
 pub keeps_upto : (m : Problem) → IsValid m → (cuts : List ℕ) (t : ℕ) → KeepsUpto m cuts t
 keeps_upto m v cuts t =
     let k = first_changed m (tentative m cuts) cuts t in

@@ -1,5 +1,5 @@
--- Who is cut after a round, and where; and that the rounds end. Who takes several loses an entry, so the
--- entries left fall from round to round until nobody does.
+-- Who is cut after a round, and where; and that the rounds end. Who takes several loses an entry,
+-- so the entries left fall from round to round until nobody does.
 use Rattle.std.proofs.Common.{◌≡◌, ℕ, zero, suc, ◌+◌, ◌<◌, ◌≤◌, Bool, true, false, cond, List, [], length, Option, Some, refl, sym, ap, ◌∙◌, subst, arith, ⊎_elim, map}
 use Rattle.std.specs.Prelude.{find, slice_index, is_some, if◌then◌else◌}
 use Rattle.std.specs.List.{range_with_len}
@@ -16,6 +16,7 @@ use Rattle.market.proofs.Turns.{is_programme-true, is_programme-from, some_from}
 use Rattle.market.proofs.Counts.{Passes, count_one, count_two, count_some, count_some_two, sum_lt, sum_same}
 use Rattle.market.proofs.Tentatives.{tentative-takes}
 
+-- something is some
 is_some_from : (o : Option ℕ) (p : ℕ) → o ≡ Some p → is_some o ≡ true
 is_some_from o p e = ap (λ (x : Option ℕ). is_some x) e
 
@@ -31,6 +32,7 @@ pub record TakesTwo (m : Problem) (cuts : List ℕ) (i : ℕ) : Type 0 where
   pub takes_first : tentative m cuts first_kind i ≡ Some first
   pub takes_second : tentative m cuts second_kind i ≡ Some second
 
+-- who has several takes programmes in two types
 pub several-takes : (m : Problem) (cuts : List ℕ) (i : ℕ) → has_several m cuts i ≡ true
     → TakesTwo m cuts i
 unfolding has_several has_several_in
@@ -49,6 +51,7 @@ several-takes m cuts i e =
       takes_second = b.1;
     }
 
+-- who takes programmes in two types has several
 several_two : (m : Problem) (cuts : List ℕ) (i t u p q : ℕ) → t < u → u < m.types
     → tentative m cuts t i ≡ Some p → tentative m cuts u i ≡ Some q → has_several m cuts i ≡ true
 unfolding has_several has_several_in
@@ -71,11 +74,13 @@ one_kind m cuts i t u p q no' lt lu e f =
 
 -- ---- the best programme taken
 
+-- what is taken is the tentative programme of its type
 pub is_taken-true : (m : Problem) (cuts : List ℕ) (i p : ℕ) → is_taken m cuts i p ≡ true
     → tentative m cuts (kind_of m p) i ≡ Some p
 unfolding is_taken
 is_taken-true m cuts i p e = is_programme-true p (tentative m cuts (kind_of m p) i) e
 
+-- a tentative programme is taken
 pub is_taken-from : (m : Problem) (cuts : List ℕ) (t i p : ℕ) → tentative m cuts t i ≡ Some p
     → is_taken m cuts i p ≡ true
 unfolding is_taken
@@ -83,13 +88,15 @@ is_taken-from m cuts t i p e =
     is_programme-from p (tentative m cuts (kind_of m p) i)
     (ap (λ (u : ℕ). tentative m cuts u i) (tentative-takes m cuts t i p e).kind ∙ e)
 
+-- the best programme is the first of the list that is taken
 pub best_programme-find : (m : Problem) (cuts : List ℕ) (i : ℕ)
     → best_programme m cuts i ≡ find (is_taken m cuts i) (list_of m i)
 unfolding best_programme best_place best_in is_taken
 best_programme-find m cuts i = sym (find_at (is_taken m cuts i) (list_of m i))
 
 -- what is placed is taken in its type
-pub best_programme-takes : (m : Problem) (cuts : List ℕ) (i p : ℕ) → best_programme m cuts i ≡ Some p
+pub best_programme-takes : (m : Problem) (cuts : List ℕ) (i p : ℕ)
+    → best_programme m cuts i ≡ Some p
     → tentative m cuts (kind_of m p) i ≡ Some p
 best_programme-takes m cuts i p e =
     is_taken-true m cuts i p
@@ -106,6 +113,7 @@ pub record BestBy (m : Problem) (cuts : List ℕ) (i p : ℕ) : Type 0 where
   pub is_best : IsBest m cuts i best
   pub no_later : place_of best (list_of m i) ≤ place_of p (list_of m i)
 
+-- its place is the best place
 place_of_best : (m : Problem) (cuts : List ℕ) (i b : ℕ)
     → find (is_taken m cuts i) (list_of m i) ≡ Some b
     → best_place m cuts i ≡ place_of b (list_of m i)
@@ -114,6 +122,7 @@ place_of_best m cuts i b e =
     first_at (is_taken m cuts i) (list_of m i) b (find_passes (is_taken m cuts i) (list_of m i) b e)
     e
 
+-- who takes a programme has a best one, no later in the list
 pub best_by : (m : Problem) (cuts : List ℕ) (t i p : ℕ) → tentative m cuts t i ≡ Some p
     → BestBy m cuts i p
 best_by m cuts t i p e =
@@ -132,14 +141,17 @@ best_by m cuts t i p e =
 
 -- ---- the next cuts
 
+-- the next cut of a candidate
 pub next_cuts-at : (m : Problem) (cuts : List ℕ) (i : ℕ) → i < length m.lists
     → slice_index (next_cuts m cuts) i ≡ next_cut m cuts i
 unfolding next_cuts cuts_in next_cut cut_in
-next_cuts-at m cuts i l = get_or-map-range_with_len (next_cut m cuts) 0 (length m.lists) i i 0 l refl'
+next_cuts-at m cuts i l = get_or-map-range_with_len (next_cut m cuts) 0 (length m.lists) i i 0 l
+    refl'
   where
     refl' : 0 + i ≡ i
     refl' = omega arith
 
+-- there is none past the last candidate
 pub next_cuts-past : (m : Problem) (cuts : List ℕ) (i : ℕ) → length m.lists ≤ i
     → slice_index (next_cuts m cuts) i ≡ 0
 unfolding next_cuts cuts_in next_cut cut_in
@@ -147,15 +159,19 @@ next_cuts-past m cuts i l =
     let e = length-map-range_with_len (next_cut m cuts) 0 (length m.lists) in
     get_or_past (map (next_cut m cuts) (range_with_len 0 (length m.lists))) i 0 (omega arith)
 
+-- who has several keeps the list up to and with the best of them
 pub next_cut-several : (m : Problem) (cuts : List ℕ) (i : ℕ) → has_several m cuts i ≡ true
     → next_cut m cuts i ≡ best_place m cuts i + 1
 unfolding next_cut cut_in has_several has_several_in best_place best_in
-next_cut-several m cuts i e = ap (λ (b : Bool). cond b (best_place m cuts i + 1) (slice_index cuts i)) e
+next_cut-several m cuts i e = ap (λ (b : Bool). cond b (best_place m cuts i + 1) (slice_index cuts
+    i)) e
 
+-- who has not keeps the cut
 pub next_cut-same : (m : Problem) (cuts : List ℕ) (i : ℕ) → has_several m cuts i ≡ false
     → next_cut m cuts i ≡ slice_index cuts i
 unfolding next_cut cut_in has_several has_several_in best_place best_in
-next_cut-same m cuts i e = ap (λ (b : Bool). cond b (best_place m cuts i + 1) (slice_index cuts i)) e
+next_cut-same m cuts i e = ap (λ (b : Bool). cond b (best_place m cuts i + 1) (slice_index cuts i))
+    e
 
 -- who takes several loses an entry
 pub next_cut-lt : (m : Problem) (cuts : List ℕ) (i : ℕ) → has_several m cuts i ≡ true
@@ -186,6 +202,7 @@ next_cut-lt m cuts i e =
     absurd (omega (arith, r.apart)))
     (cases_lt (next_cut m cuts i) (slice_index cuts i))
 
+-- a cut does not grow
 pub next_cut-le : (m : Problem) (cuts : List ℕ) (i : ℕ) → next_cut m cuts i ≤ slice_index cuts i
 next_cut-le m cuts i =
     ⊎_elim
@@ -193,6 +210,7 @@ next_cut-le m cuts i =
     (λ f. let e = next_cut-same m cuts i f in omega arith)
     (cases_Bool (has_several m cuts i))
 
+-- so no cut of the list does
 pub next_cuts-le : (m : Problem) (cuts : List ℕ) (i : ℕ)
     → slice_index (next_cuts m cuts) i ≤ slice_index cuts i
 next_cuts-le m cuts i =
@@ -203,6 +221,7 @@ next_cuts-le m cuts i =
 
 -- ---- the rounds end
 
+-- in a settled round nobody has several
 pub settled-none : (m : Problem) (cuts : List ℕ) (i : ℕ) → is_settled m cuts ≡ true
     → i < length m.lists → has_several m cuts i ≡ false
 unfolding is_settled several_count several_in has_several has_several_in
@@ -214,6 +233,7 @@ settled-none m cuts i e l =
     (λ f. f)
     (cases_Bool (has_several m cuts i))
 
+-- in a round that is not somebody has
 unsettled : (m : Problem) (cuts : List ℕ) → is_settled m cuts ≡ false
     → Passes (has_several m cuts) (length m.lists)
 unfolding is_settled several_count several_in has_several has_several_in
@@ -232,32 +252,40 @@ total-falls m cuts e =
     sum_lt (λ i. slice_index (next_cuts m cuts) i) (λ i. slice_index cuts i) (length m.lists)
     r.number (λ i h. next_cuts-le m cuts i) r.below (omega arith)
 
+-- the cuts after one round more
 pub cuts_after-suc : (m : Problem) (r : ℕ) → cuts_after m (suc r) ≡ next_cuts m (cuts_after m r)
 unfolding cuts_after
 cuts_after-suc m r = refl
 
+-- the cuts before the first round
 pub cuts_after-zero : (m : Problem) (i : ℕ)
     → slice_index (cuts_after m zero) i ≡ length (list_of m i)
 unfolding cuts_after whole_cuts list_of
 cuts_after-zero m i = get_or-map_past (λ (list : List ℕ). length list) m.lists i []
 
+-- the first settled round, one round on
 settled_step : (m : Problem) (n r : ℕ)
-    → settled_from m (suc n) r ≡ (if is_settled m (cuts_after m r) then r else settled_from m n (suc r))
+    → settled_from m (suc n) r ≡ (if is_settled m (cuts_after m r) then r else settled_from m n
+    (suc r))
 unfolding settled_from
 settled_step m n r = refl
 
+-- where no round is left to look at
 settled_end : (m : Problem) (r : ℕ) → settled_from m zero r ≡ r
 unfolding settled_from
 settled_end m r = refl
 
+-- where this round is settled
 settled_yes : (m : Problem) (n r : ℕ) → is_settled m (cuts_after m r) ≡ true
     → settled_from m (suc n) r ≡ r
 settled_yes m n r e = settled_step m n r ∙ ap (λ (b : Bool). cond b r (settled_from m n (suc r))) e
 
+-- where it is not
 settled_no : (m : Problem) (n r : ℕ) → is_settled m (cuts_after m r) ≡ false
     → settled_from m (suc n) r ≡ settled_from m n (suc r)
 settled_no m n r e = settled_step m n r ∙ ap (λ (b : Bool). cond b r (settled_from m n (suc r))) e
 
+-- a round that is not settled cuts an entry away
 falls : (m : Problem) (r : ℕ) → is_settled m (cuts_after m r) ≡ false
     → entries_left m (cuts_after m (suc r)) < entries_left m (cuts_after m r)
 falls m r e =
@@ -271,6 +299,7 @@ pub record Settles (m : Problem) (from found n : ℕ) : Type 0 where
   pub bounded : found ≤ from + n
   pub not_before : (r : ℕ) → from ≤ r → r < found → is_settled m (cuts_after m r) ≡ false
 
+-- within as many rounds as there are entries one is settled
 settles : (m : Problem) (n r : ℕ) → entries_left m (cuts_after m r) ≤ n
     → Settles m r (settled_from m n r) n
 settles m zero r l =
@@ -298,16 +327,19 @@ settles m (suc n) r l =
     }))
     (cases_Bool (is_settled m (cuts_after m r)))
 
+-- at first all entries are left
 pub first_total : (m : Problem) → entries_left m (cuts_after m zero) ≡ entry_count m
 unfolding entries_left entry_count
 first_total m =
     sum_same (λ i. slice_index (cuts_after m zero) i) (λ i. length (list_of m i)) (length m.lists)
     (λ i l. cuts_after-zero m i)
 
+-- the round after those that cut is settled
 pub cutting_rounds-settles : (m : Problem) → Settles m 0 (cutting_rounds m) (entry_count m)
 unfolding cutting_rounds
 cutting_rounds-settles m = let e = first_total m in settles m (entry_count m) 0 (omega arith)
 
+-- the rounds end
 pub rounds_end : (m : Problem) → HasLastRound m
 unfolding mechanism_rounds
 rounds_end m =

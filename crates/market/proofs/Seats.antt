@@ -1,5 +1,5 @@
--- Seats kept in an array, against the choices counted: for each programme its fill, and the turns so far
--- that took it.
+-- Seats kept in an array, against the choices counted: for each programme its fill, and the turns
+-- so far that took it.
 use Rattle.std.proofs.Common.{◌≡◌, ℕ, suc, ◌+◌, ◌<◌, ◌≤◌, Bool, not, List, [], ◌∷◌, ◌++◌, length, Some, refl, sym, ap, ◌∙◌, subst, arith, set, map, ⊎_elim}
 use Rattle.std.specs.Prelude.{slice_index, slice_get, nat_lt}
 use Rattle.std.specs.List.{position_or_len, range_with_len}
@@ -18,15 +18,18 @@ use Rattle.market.proofs.Turns.{seats_taken-zero, seats_taken-suc, one_more, no_
 abbrev pub has_room : Dictatorship → List ℕ → ℕ → Bool
 has_room d seats p = nat_lt (slice_index seats p) (slice_index d.quota p)
 
+-- before the first turn the fills are taken
 pub IsSeatsAt-start : (d : Dictatorship) (seats : List ℕ) → IsValidDictatorship d → seats ≡ d.fill
     → IsSeatsAt d 0 seats
 IsSeatsAt-start d seats v e =
     record {
       count = ap (λ (xs : List ℕ). length xs) e ∙ v.fills;
-      each = λ p l. let z = seats_taken-zero d p in let f = ap (λ (xs : List ℕ). slice_index xs p) e in
+      each = λ p l. let z = seats_taken-zero d p in let f = ap (λ (xs : List ℕ). slice_index xs p)
+          e in
           omega arith;
     }
 
+-- tests that agree stop at the same place
 pub position_agree : (f g : ℕ → Bool) (xs : List ℕ)
     → ((j : ℕ) → j < length xs → f (slice_index xs j) ≡ g (slice_index xs j))
     → position_or_len f xs ≡ position_or_len g xs
@@ -58,16 +61,19 @@ room-at d k place seats e l =
     subst (λ (n : ℕ). slice_index seats (slice_index list n)
     < slice_index d.quota (slice_index list n)) (sym e) r
 
+-- the same at the next turn, as a sum
 next : (d : Dictatorship) (k : ℕ) (seats : List ℕ) → IsSeatsAt d (suc k) seats
     → IsSeatsAt d (k + 1) seats
 next d k seats s = let e : suc k ≡ k + 1 = omega arith in subst (λ (n : ℕ). IsSeatsAt d n seats) e s
 
+-- the pick of a turn that chooses an entry
 pick-at : (d : Dictatorship) (k place : ℕ) → place ≡ choice d k → place < length (list_at d k)
     → pick d k ≡ Some (slice_index (list_at d k) place)
 unfolding pick
 pick-at d k place e l =
     ap (slice_get (list_at d k)) (sym e) ∙ slice_get-get_or (list_at d k) place 0 l
 
+-- a turn that takes a programme takes a seat of it
 pub seats-take : (d : Dictatorship) (k place : ℕ) (seats : List ℕ) → IsValidDictatorship d
     → k < length d.lists → IsSeatsAt d k seats → place ≡ choice d k → place < length (list_at d k)
     → IsSeatsAt d (k + 1) (set seats (slice_index (list_at d k) place)
@@ -100,6 +106,7 @@ seats-take d k place seats v l s e lp =
           (cases_eq p q);
     })
 
+-- a turn that takes none takes no seat
 pub seats-pass : (d : Dictatorship) (k place : ℕ) (seats : List ℕ) → IsSeatsAt d k seats
     → place ≡ choice d k → length (list_at d k) ≤ place → IsSeatsAt d (k + 1) seats
 unfolding pick
@@ -124,6 +131,7 @@ choices-more d k place found more f m e =
     m ∙ ap (λ (xs : List ℕ). xs ++ place ∷ []) f
     ∙ ap (λ (x : ℕ). map (choice d) (range_with_len 0 k) ++ x ∷ []) e ∙ sym r
 
+-- after all turns these are the choices
 pub choices-all : (d : Dictatorship) (n : ℕ) → n ≡ length d.lists
     → map (choice d) (range_with_len 0 n) ≡ choices d
 unfolding choices

@@ -14,12 +14,14 @@ pub record IsFilled (count : ℕ) (order table : List ℕ) (k : ℕ) : Type 0 wh
   pub written : (i : ℕ) → i < count → place_of i order < k → slice_index table i ≡ place_of i order
   pub unwritten : (i : ℕ) → i < count → k ≤ place_of i order → slice_index table i ≡ length order
 
+-- before the first turn nobody has one
 pub IsFilled-none : (count n : ℕ) (order table : List ℕ) → n ≡ length order
     → table ≡ replicate count n → IsFilled count order table 0
 IsFilled-none count n order table h e = record {
   candidates = ap (λ (xs : List ℕ). length xs) e ∙ length-replicate count n;
   written = λ i l p. absurd (omega arith);
-  unwritten = λ i l p. ap (λ (xs : List ℕ). slice_index xs i) e ∙ get_or-replicate count i n 0 l ∙ h;
+  unwritten = λ i l p. ap (λ (xs : List ℕ). slice_index xs i) e ∙ get_or-replicate count i n 0 l
+      ∙ h;
 }
 
 -- in a list without two equal entries an entry stands at its place
@@ -30,7 +32,9 @@ place_at xs k d l =
     (λ j lj. ne_eqb (slice_index xs j) (slice_index xs k) (d j k lj l))
     (λ lk. eq-eqb (slice_index xs k) (slice_index xs k) refl)
 
-pub IsFilled-more : (count : ℕ) (order table : List ℕ) (k : ℕ) → HasNoRepeats order → k < length order
+-- one turn more is written for its candidate
+pub IsFilled-more : (count : ℕ) (order table : List ℕ) (k : ℕ) → HasNoRepeats order
+    → k < length order
     → slice_index order k < count → IsFilled count order table k
     → IsFilled count order (set table (slice_index order k) k) (k + 1)
 IsFilled-more count order table k d l b f =
@@ -57,9 +61,11 @@ IsFilled-more count order table k d l b f =
           (cases_eq i c);
     }
 
+-- a place is at most the list's length
 pub place-le : (i : ℕ) (order : List ℕ) → place_of i order ≤ length order
 place-le i order = prefix_len-le-length (λ y. not (y == i)) order
 
+-- after all turns this is the table
 pub IsTurnTable-all : (count : ℕ) (order table : List ℕ) (k : ℕ) → k ≡ length order
     → IsFilled count order table k → IsTurnTable count order table
 IsTurnTable-all count order table k e f = record {

@@ -1,6 +1,6 @@
--- How many of the first turns take a programme, against how many hold it. Where different turns are of
--- different candidates the tally is at most the number of holders, and where each holder has a turn it is
--- at least that: by induction on the turns, with one holder cleared at each.
+-- How many of the first turns take a programme, against how many hold it. Where different turns are
+-- of different candidates the tally is at most the number of holders, and where each holder has a
+-- turn it is at least that: by induction on the turns, with one holder cleared at each.
 use Rattle.std.proofs.Common.{◌≡◌, ◌≢◌, ℕ, zero, suc, ◌+◌, ◌<◌, ◌≤◌, false, cond, List, [], ◌∷◌, length, Option, Some, None, refl, sym, ap, ◌∙◌, subst, arith, get_or, set, ⊎_elim}
 use Rattle.std.proofs.lemmas.Bool.{cases_lt, cases_Bool}
 use Rattle.std.proofs.lemmas.List.{get_or-set_same, get_or-set_other, set_past, get_or_past}
@@ -16,11 +16,14 @@ abbrev pub tally : (ℕ → Option ℕ) → ℕ → ℕ → ℕ
 tally h zero p = 0
 tally h (suc n) p = tally h n p + cond (is_programme p (h n)) 1 0
 
+-- the seats taken, as a tally of the picks
 pub seats_taken-tally : (d : Dictatorship) (k p : ℕ) → seats_taken d k p ≡ tally (pick d) k p
 seats_taken-tally d zero p = seats_taken-zero d p
 seats_taken-tally d (suc k) p =
-    seats_taken-suc d k p ∙ ap (λ (n : ℕ). n + cond (is_programme p (pick d k)) 1 0) (seats_taken-tally d k p)
+    seats_taken-suc d k p ∙ ap (λ (n : ℕ). n + cond (is_programme p (pick d k)) 1 0)
+    (seats_taken-tally d k p)
 
+-- more turns take no fewer
 pub tally-mono : (h : ℕ → Option ℕ) (j n p : ℕ) → j ≤ n → tally h j p ≤ tally h n p
 tally-mono h zero zero p l = omega arith
 tally-mono h zero (suc n) p l = omega arith
@@ -53,6 +56,7 @@ pub record Gap (g h : ℕ → Option ℕ) (n p : ℕ) : Type 0 where
   pub has : h turn ≡ Some p
   pub has_not : is_programme p (g turn) ≡ false
 
+-- where fewer are tallied, some turn differs
 pub tally_gap : (g h : ℕ → Option ℕ) (n p : ℕ) → tally g n p < tally h n p → Gap g h n p
 tally_gap g h zero p l = absurd (omega arith)
 tally_gap g h (suc n) p l =
@@ -76,6 +80,7 @@ tally_gap g h (suc n) p l =
 
 -- ---- one holder taken out
 
+-- one holder fewer is counted one fewer
 pub clear_count : (held : List (Option ℕ)) (i p : ℕ)
     → count_of p (set held i None) + cond (is_programme p (held_by held i)) 1 0 ≡ count_of p held
 clear_count held i p =
@@ -88,10 +93,12 @@ clear_count held i p =
     omega arith)
     (cases_lt i (length held))
 
+-- the others hold what they held
 pub clear_other : (held : List (Option ℕ)) (i j : ℕ) → j ≢ i
     → held_by (set held i None) j ≡ held_by held j
 clear_other held i j ne = get_or-set_other held i j None None ne
 
+-- who is taken out holds nothing
 clear_same : (held : List (Option ℕ)) (i : ℕ) → held_by (set held i None) i ≡ None
 clear_same held i =
     ⊎_elim
@@ -100,12 +107,14 @@ clear_same held i =
     ∙ get_or_past held i None past)
     (cases_lt i (length held))
 
+-- who holds something was not taken out
 clear_holder : (held : List (Option ℕ)) (i j p : ℕ) → held_by (set held i None) j ≡ Some p → j ≢ i
 clear_holder held i j p h e =
     none-some p (sym (ap (held_by (set held i None)) e ∙ clear_same held i) ∙ h)
 
 -- ---- a count over turns and the count of holders
 
+-- what the candidate of a turn holds
 abbrev pub at_turn : List (Option ℕ) → (ℕ → ℕ) → ℕ → Option ℕ
 at_turn held o j = held_by held (o j)
 
@@ -139,6 +148,7 @@ pub record HasTurn (o : ℕ → ℕ) (n i : ℕ) : Type 0 where
   pub before : turn < n
   pub is_theirs : o turn ≡ i
 
+-- a turn that is not the last is one before it
 fewer_turns : (o : ℕ → ℕ) (n i : ℕ) → HasTurn o (suc n) i → i ≢ o n → HasTurn o n i
 fewer_turns o n i r ne =
     ⊎_elim

@@ -1,5 +1,5 @@
--- What a candidate takes in a type, against the candidate's own list: the first entry within the cut that
--- is of the type and has a seat left at the candidate's turn.
+-- What a candidate takes in a type, against the candidate's own list: the first entry within the
+-- cut that is of the type and has a seat left at the candidate's turn.
 use Rattle.std.proofs.Common.{◌≡◌, ℕ, zero, suc, ◌<◌, ◌≤◌, Bool, true, ◌&&◌, List, [], ◌∷◌, length, Option, Some, None, refl, sym, ap, ◌∙◌, arith, get_or, ⊎_elim, map, take, replicate}
 use Rattle.std.specs.Prelude.{find, ◌==◌, slice_index}
 use Rattle.std.proofs.lemmas.Bool.{cases_lt, eqb-true, eq-eqb, ne_eqb, and_parts, and_from}
@@ -16,6 +16,7 @@ use Rattle.market.proofs.Turns.{is_open, is_open-true, is_open-from, pick-find, 
 
 -- ---- turns
 
+-- the turn of the candidate at a place is the place
 pub turn_at : (m : Problem) → IsValid m → (t k : ℕ) → t < m.types → k < length (order_of m t)
     → turn_of m t (slice_index (order_of m t) k) ≡ k
 unfolding turn_of
@@ -25,11 +26,13 @@ turn_at m v t k lt lk =
     (λ j l. ne_eqb (slice_index (order_of m t) j) x (v.order_distinct t lt j k l lk))
     (λ l. eq-eqb x x refl)
 
+-- the candidate at the turn of a candidate is the candidate
 pub candidate_at : (m : Problem) (t i : ℕ) → turn_of m t i < length (order_of m t)
     → slice_index (order_of m t) (turn_of m t i) ≡ i
 unfolding turn_of
 candidate_at m t i l = place_get i (order_of m t) 0 l
 
+-- a pick among the first ones
 pub get-picks : (d : Dictatorship) (n k : ℕ) → k < n → get_or (picks d n) k None ≡ pick d k
 get-picks d zero k l = absurd (omega arith)
 get-picks d (suc n) k l =
@@ -45,12 +48,14 @@ get-picks d (suc n) k l =
 
 -- ---- the dictatorship of a type
 
+-- the quotas of a type's dictatorship
 pub type-quota : (m : Problem) (cuts : List ℕ) (t p : ℕ)
     → slice_index (type_dictatorship m cuts t).quota p ≡ quota_of m p
 unfolding type_dictatorship quota_of
 type-quota m cuts t p =
     get_or-map_past (λ (q : Prog). q.quota) m.programmes p (record { kind = 0; quota = 0 })
 
+-- zero anywhere
 pub zeros : (n p : ℕ) → slice_index (replicate n 0) p ≡ 0
 zeros n p =
     ⊎_elim
@@ -58,16 +63,19 @@ zeros n p =
     (λ past. let e = length-replicate {A = ℕ} n 0 in get_or_past (replicate n 0) p 0 (omega arith))
     (cases_lt p n)
 
+-- its fills
 pub type-fill : (m : Problem) (cuts : List ℕ) (t p : ℕ)
     → slice_index (type_dictatorship m cuts t).fill p ≡ 0
 unfolding type_dictatorship
 type-fill m cuts t p = zeros (length m.programmes) p
 
+-- a turn's list in it
 pub type-list : (m : Problem) (cuts : List ℕ) (t k : ℕ) → k < length (order_of m t)
     → list_at (type_dictatorship m cuts t) k ≡ turn_list m cuts t (slice_index (order_of m t) k)
 unfolding type_dictatorship list_at
 type-list m cuts t k l = get_or-map (turn_list m cuts t) (order_of m t) k 0 [] l
 
+-- past the last turn there is none
 pub type-list_past : (m : Problem) (cuts : List ℕ) (t k : ℕ) → length (order_of m t) ≤ k
     → list_at (type_dictatorship m cuts t) k ≡ []
 unfolding type_dictatorship list_at
@@ -77,10 +85,12 @@ type-list_past m cuts t k l =
 
 -- ---- offers: the only lemmas that know which programmes a turn is offered
 
+-- what is offered is of the type
 pub offered-kind : (m : Problem) (t i p : ℕ) → is_offered m t i p ≡ true → kind_of m p ≡ t
 unfolding is_offered
 offered-kind m t i p e = eqb-true (kind_of m p) t e
 
+-- what is of the type is offered
 pub offered-from : (m : Problem) (t i p : ℕ) → kind_of m p ≡ t → is_offered m t i p ≡ true
 unfolding is_offered
 offered-from m t i p e = eq-eqb (kind_of m p) t e
@@ -93,13 +103,16 @@ offered-is m t i p q e = ap (λ (x : Prog). x.kind == t) (sym e)
 
 -- ---- what a candidate takes
 
+-- the seats taken before a candidate's turn
 unfoldable pub seats_before : Problem → List ℕ → ℕ → ℕ → ℕ → ℕ
 seats_before m cuts t i p = seats_taken (type_dictatorship m cuts t) (turn_of m t i) p
 
 -- the test by which the turn of i picks
 unfoldable pub would_pick : Problem → List ℕ → ℕ → ℕ → ℕ → Bool
-would_pick m cuts t i p = is_offered m t i p && is_open (type_dictatorship m cuts t) (turn_of m t i) p
+would_pick m cuts t i p = is_offered m t i p && is_open (type_dictatorship m cuts t) (turn_of m t
+    i) p
 
+-- a candidate's tentative programme is the pick of the turn
 pub tentative-pick : (m : Problem) (cuts : List ℕ) (t i : ℕ)
     → turn_of m t i < length (order_of m t)
     → tentative m cuts t i ≡ pick (type_dictatorship m cuts t) (turn_of m t i)
@@ -107,6 +120,7 @@ unfolding tentative
 tentative-pick m cuts t i l =
     get-picks (type_dictatorship m cuts t) (length (order_of m t)) (turn_of m t i) l
 
+-- who has one has a turn
 pub tentative-turn : (m : Problem) (cuts : List ℕ) (t i p : ℕ) → tentative m cuts t i ≡ Some p
     → turn_of m t i < length (order_of m t)
 unfolding tentative
@@ -129,7 +143,8 @@ tentative-find m cuts t i l =
     let k = turn_of m t i in
     tentative-pick m cuts t i l
     ∙ pick-find d k
-    ∙ ap (find (is_open d k)) (type-list m cuts t k l ∙ ap (turn_list m cuts t) (candidate_at m t i l))
+    ∙ ap (find (is_open d k)) (type-list m cuts t k l ∙ ap (turn_list m cuts t) (candidate_at m t i
+    l))
     ∙ find-filter (is_open d k) (is_offered m t i) (take (slice_index cuts i) (list_of m i))
 
 pub record Takes (m : Problem) (cuts : List ℕ) (t i p : ℕ) : Type 0 where
@@ -140,6 +155,7 @@ pub record Takes (m : Problem) (cuts : List ℕ) (t i p : ℕ) : Type 0 where
   pub within : place_of p (list_of m i) < slice_index cuts i
   pub room : seats_before m cuts t i p < quota_of m p
 
+-- what is taken is listed within the cut, of the type, and had a seat left
 pub tentative-takes : (m : Problem) (cuts : List ℕ) (t i p : ℕ) → tentative m cuts t i ≡ Some p
     → Takes m cuts t i p
 unfolding would_pick seats_before
@@ -167,6 +183,7 @@ pub record TakesBy (m : Problem) (cuts : List ℕ) (t i p : ℕ) : Type 0 where
   pub takes : tentative m cuts t i ≡ Some entry
   pub no_later : place_of entry (list_of m i) ≤ place_of p (list_of m i)
 
+-- so is the first such entry
 pub takes_by : (m : Problem) (cuts : List ℕ) (t i p : ℕ) → Takes m cuts t i p → TakesBy m cuts t i p
 unfolding would_pick seats_before
 takes_by m cuts t i p r =

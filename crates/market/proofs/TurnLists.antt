@@ -16,6 +16,7 @@ pub record IsRestAt (order rest : List ℕ) (from k : ℕ) : Type 0 where
   pub inside : from + k < length order
   pub same : slice_index rest k ≡ slice_index order (from + k)
 
+-- an entry of the rest of an order
 pub rest_at : (order part : List ℕ) (from k : ℕ) → part ≡ order
     → k < length (take (length part - from) (drop from part))
     → IsRestAt order (take (length part - from) (drop from part)) from k
@@ -51,7 +52,8 @@ turn_below m cuts t k i cut f h l ei ec =
 
 -- a turn's list adds no more items than a list may have entries
 pub few_more : (m : Problem) (cuts : List ℕ) (t i k : ℕ) (items items' xs : List ℕ) → IsValid m
-    → i < length m.lists → xs ≡ local_list m cuts t i → items' ≡ items ++ xs → length items ≤ MAX_ENTRIES * k
+    → i < length m.lists → xs ≡ local_list m cuts t i → items' ≡ items ++ xs
+    → length items ≤ MAX_ENTRIES * k
     → length items' ≤ MAX_ENTRIES * (k + 1)
 few_more m cuts t i k items items' xs v li e ei few =
     let a = ap (λ (ys : List ℕ). length ys) ei ∙ length-append items xs in

@@ -1,5 +1,5 @@
--- What a serial dictatorship does, turn by turn: what is picked was open, and by induction on the turns
--- no programme is filled past its quota.
+-- What a serial dictatorship does, turn by turn: what is picked was open, and by induction on the
+-- turns no programme is filled past its quota.
 use Rattle.std.proofs.Common.{◌≡◌, ℕ, zero, suc, ◌+◌, ◌<◌, ◌≤◌, Bool, true, false, cond, [], ◌∷◌, ◌++◌, length, Option, Some, None, refl, sym, ap, ◌∙◌, arith, length-append, ⊎_elim}
 use Rattle.std.specs.Prelude.{find, is_some, slice_index}
 use Rattle.std.proofs.lemmas.Bool.{ltb-true, lt-ltb, eqb-true, eq-eqb, cases_Bool, false≢true}
@@ -13,11 +13,13 @@ use Rattle.market.proofs.Firsts.{find_passes}
 unfoldable pub is_open : Dictatorship → ℕ → ℕ → Bool
 is_open d k p = has_seat d (picks d k) p
 
+-- what is open has a seat left
 pub is_open-true : (d : Dictatorship) (k p : ℕ) → is_open d k p ≡ true
     → slice_index d.fill p + seats_taken d k p < slice_index d.quota p
 unfolding is_open has_seat seats_taken
 is_open-true d k p e = ltb-true _ _ e
 
+-- what has a seat left is open
 pub is_open-from : (d : Dictatorship) (k p : ℕ)
     → slice_index d.fill p + seats_taken d k p < slice_index d.quota p → is_open d k p ≡ true
 unfolding is_open has_seat seats_taken
@@ -28,14 +30,17 @@ pub pick-find : (d : Dictatorship) (k : ℕ) → pick d k ≡ find (is_open d k)
 unfolding pick choice first_open is_open
 pick-find d k = sym (find_at (has_seat d (picks d k)) (list_at d k))
 
+-- the picks of one turn more
 pub picks-suc : (d : Dictatorship) (k : ℕ) → picks d (suc k) ≡ picks d k ++ pick d k ∷ []
 unfolding picks with_next pick choice
 picks-suc d k = refl
 
+-- no turn, no pick
 pub picks-zero : (d : Dictatorship) → picks d zero ≡ []
 unfolding picks
 picks-zero d = refl
 
+-- a pick for each turn
 pub length-picks : (d : Dictatorship) (k : ℕ) → length (picks d k) ≡ k
 length-picks d zero = ap length (picks-zero d)
 length-picks d (suc k) =
@@ -43,6 +48,7 @@ length-picks d (suc k) =
     let ih = length-picks d k in
     ap length (picks-suc d k) ∙ (omega arith)
 
+-- no turn takes no seat
 pub seats_taken-zero : (d : Dictatorship) (p : ℕ) → seats_taken d zero p ≡ 0
 unfolding seats_taken
 seats_taken-zero d p = ap (count_of p) (picks-zero d)
@@ -55,18 +61,23 @@ seats_taken-suc d k p =
     ap (count_of p) (picks-suc d k)
     ∙ sum_by_push (λ o. cond (is_programme p o) 1 0) (picks d k) (pick d k)
 
+-- what passes counts one
 pub one_more : (b : Bool) → b ≡ true → cond {A = ℕ} b 1 0 ≡ 1
 one_more b e = ap (λ (x : Bool). cond {A = ℕ} x 1 0) e
 
+-- what fails counts nothing
 pub no_more : (b : Bool) → b ≡ false → cond {A = ℕ} b 1 0 ≡ 0
 no_more b e = ap (λ (x : Bool). cond {A = ℕ} x 1 0) e
 
+-- a programme is itself
 pub is_programme-same : (p : ℕ) → is_programme p (Some p) ≡ true
 is_programme-same p = eq-eqb p p refl
 
+-- the programme held is the programme
 pub is_programme-from : (p : ℕ) (o : Option ℕ) → o ≡ Some p → is_programme p o ≡ true
 is_programme-from p o e = ap (is_programme p) e ∙ is_programme-same p
 
+-- what is the programme is held
 pub is_programme-true : (p : ℕ) (o : Option ℕ) → is_programme p o ≡ true → o ≡ Some p
 is_programme-true p None e = absurd (false≢true e)
 is_programme-true p (Some q) e = ap Some (eqb-true q p e)
@@ -76,6 +87,7 @@ pub some_from : (o : Option ℕ) → is_some o ≡ true → (p : ℕ) × (o ≡ 
 some_from None e = absurd (false≢true e)
 some_from (Some p) e = (p, refl)
 
+-- one turn more takes no fewer seats
 pub seats_taken-grows : (d : Dictatorship) (k p : ℕ) → seats_taken d k p ≤ seats_taken d (suc k) p
 seats_taken-grows d k p = let e = seats_taken-suc d k p in omega arith
 

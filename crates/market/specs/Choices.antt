@@ -33,13 +33,14 @@ abbrev pub FitsNumber : Option ℕ → Type 0
 FitsNumber None = Unit {0}
 FitsNumber (Some p) = p + 1 < 2 ^ 32
 
--- each choice is a programme of its type, of a candidate who has a turn in it, and stands within the
--- candidate's cut
-pub record IsWithinCuts (m : Problem) (table : List (List (Option ℕ))) (cuts : List ℕ) : Type 0 where
-  pub kind : (t i p : ℕ) → programme_in table t i ≡ Some p → kind_of m p ≡ t
-  pub turn : (t i p : ℕ) → programme_in table t i ≡ Some p → turn_of m t i < length (order_of m t)
-  pub within : (t i p : ℕ) → programme_in table t i ≡ Some p
-      → place_of p (list_of m i) < slice_index cuts i
+-- each choice is a programme of its type, of a candidate who has a turn in it, and stands within
+-- the candidate's cut
+pub record IsWithinCuts (m : Problem) (table : List (List (Option ℕ))) (cuts : List ℕ) : Type 0
+  where
+    pub kind : (t i p : ℕ) → programme_in table t i ≡ Some p → kind_of m p ≡ t
+    pub turn : (t i p : ℕ) → programme_in table t i ≡ Some p → turn_of m t i < length (order_of m t)
+    pub within : (t i p : ℕ) → programme_in table t i ≡ Some p
+        → place_of p (list_of m i) < slice_index cuts i
 
 -- the best choice of each candidate
 unfoldable pub best_programmes_in : Problem → (ℕ → ℕ → Option ℕ) → List (Option ℕ)

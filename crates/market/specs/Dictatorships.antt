@@ -4,8 +4,8 @@ use Rattle.std.specs.List.{position_or_len, range_with_len}
 use Rattle.market.specs.declared.limits.TheConstants.{MAX_PROGRAMMES, MAX_CANDIDATES, MAX_ENTRIES, MAX_QUOTA}
 use Rattle.market.specs.Counting.{count_of}
 
--- for each programme its quota and its fill, which is the seats taken before the first turn; for each
--- turn its list
+-- for each programme its quota and its fill, which is the seats taken before the first turn; for
+-- each turn its list
 pub record Dictatorship : Type 0 where
   pub quota : List ℕ
   pub fill : List ℕ

@@ -8,9 +8,9 @@ use Rattle.market.specs.Problems.{Problem}
 abbrev pub prog : ℕ → ℕ → Prog
 prog t q = record { kind = t; quota = q }
 
--- two programmes of two types with a seat each, and two candidates who each want first the programme
--- in which the other has the better rank; the mechanism gives each the second wish, and the exchange of
--- the two is stable as well
+-- two programmes of two types with a seat each, and two candidates who each want first the
+-- programme in which the other has the better rank; the mechanism gives each the second wish, and
+-- the exchange of the two is stable as well
 abbrev pub exchange : Problem
 exchange =
     record {
@@ -21,8 +21,8 @@ exchange =
       ranks = (1 ∷ 2 ∷ []) ∷ (1 ∷ 2 ∷ []) ∷ [];
     }
 
--- the first candidate is best in both types, takes both seats and is cut: the seat that this frees goes
--- to the second
+-- the first candidate is best in both types, takes both seats and is cut: the seat that this frees
+-- goes to the second
 abbrev pub freed_seat : Problem
 freed_seat =
     record {

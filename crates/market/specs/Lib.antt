@@ -21,8 +21,11 @@ pub mod Reruns
 pub mod Examples
 -- counts and sums
 pub mod Counting
--- what a market and a dictatorship keep in memory, for speed
+-- the tables that a market keeps beside its parts
 pub mod Tables
+-- lists that lie one after another
 pub mod FlatLists
+-- the lists of a type in turn order, which a market keeps
 pub mod TypeLists
+-- the two forms in which a dictatorship keeps its lists
 pub mod DictLists

@@ -34,7 +34,8 @@ pub record IsFill (m : Problem) (t : ℕ) (fill : List ℕ) : Type 0 where
 abbrev pub IsFillBefore : Problem → List ℕ → ℕ → ℕ → List ℕ → Type 0
 IsFillBefore m cuts t from fill =
     (j : ℕ) → j < length (programmes_of m t)
-    → slice_index fill j ≡ seats_taken (type_dictatorship m cuts t) from (slice_index (programmes_of m t) j)
+    → slice_index fill j
+    ≡ seats_taken (type_dictatorship m cuts t) from (slice_index (programmes_of m t) j)
 
 -- each turn makes the choice that it makes in the type's own dictatorship, which begins at turn 0
 abbrev pub ChoosesAlike : Problem → List ℕ → ℕ → ℕ → Dictatorship → Type 0

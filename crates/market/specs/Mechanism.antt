@@ -13,7 +13,8 @@ use Rattle.market.specs.Problems.{Problem, kind_of, list_of, order_of, turn_of}
 unfoldable pub is_offered : Problem → ℕ → ℕ → ℕ → Bool
 is_offered m t i p = kind_of m p == t
 
--- the list of a candidate's turn in a type: the preference list up to the cut, restricted to the type
+-- the list of a candidate's turn in a type: the preference list up to the cut, restricted to the
+-- type
 unfoldable pub turn_list : Problem → List ℕ → ℕ → ℕ → List ℕ
 turn_list m cuts t i = filter (is_offered m t i) (take (slice_index cuts i) (list_of m i))
 
@@ -107,8 +108,8 @@ entry_count m = sum_below (λ i. length (list_of m i)) (length m.lists)
 unfoldable pub entries_left : Problem → List ℕ → ℕ
 entries_left m cuts = sum_below (λ i. slice_index cuts i) (length m.lists)
 
--- the number of rounds that cut a list: those before the first settled one, which comes within as many
--- rounds as there are entries
+-- the number of rounds that cut a list: those before the first settled one, which comes within as
+-- many rounds as there are entries
 unfoldable pub cutting_rounds : Problem → ℕ
 cutting_rounds m = settled_from m (entry_count m) 0
 
@@ -148,8 +149,8 @@ mechanism m =
       turns = mechanism_rounds m * turns_of_round m;
     }
 
--- the rounds end: at most one round more than there are list entries, the last one settled, and each
--- earlier one cutting an entry away
+-- the rounds end: at most one round more than there are list entries, the last one settled, and
+-- each earlier one cutting an entry away
 pub record HasLastRound (m : Problem) : Type 0 where
   pub bounded : mechanism_rounds m ≤ entry_count m + 1
   pub last : IsTrue (is_settled m (cuts_after m (cutting_rounds m)))

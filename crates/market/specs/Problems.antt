@@ -84,8 +84,8 @@ pub record IsAcceptable (m : Problem) (i p : ℕ) : Type 0 where
   pub listed : place_of p (list_of m i) < length (list_of m i)
   pub admitted : IsTrue (admits m p i)
 
--- the parts fit together: indexes in range, nothing listed twice, ranks that rise strictly along the
--- turn order, and all within the limits
+-- the parts fit together: indexes in range, nothing listed twice, ranks that rise strictly along
+-- the turn order, and all within the limits
 pub record IsValid (m : Problem) : Type 0 where
   pub types : m.types ≤ MAX_TYPES
   pub programmes : length m.programmes ≤ MAX_PROGRAMMES

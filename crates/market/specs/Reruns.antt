@@ -1,5 +1,5 @@
--- Which turns a round has to run again: in each type those from the first whose choice was cut away. Only
--- the worked examples use this yet.
+-- Which turns a round has to run again: in each type those from the first whose choice was cut
+-- away.
 use Rattle.std.specs.Prelude.{◌≡◌, ℕ, zero, suc, ◌-◌, ◌<◌, ◌≤◌, Bool, false, List, length, Option, Some, None, nat_lt, not, if◌then◌else◌, slice_index, slice_index_or}
 use Rattle.std.specs.List.{position, position_or_len}
 use Rattle.market.specs.Counting.{count_below, sum_below, is_programme}
@@ -16,13 +16,13 @@ is_beyond list cut (Some p) = not (nat_lt (place_of p list) cut)
 unfoldable pub is_cut_away : Problem → (ℕ → ℕ → Option ℕ) → List ℕ → ℕ → ℕ → Bool
 is_cut_away m c cuts t i = is_beyond (list_of m i) (cut_in m c cuts i) (c t i)
 
--- the first changed turn of a type: the least whose choice was cut away, or the number of turns where
--- none was
+-- the first changed turn of a type: the least whose choice was cut away, or the number of turns
+-- where none was
 unfoldable pub first_changed : Problem → (ℕ → ℕ → Option ℕ) → List ℕ → ℕ → ℕ
 first_changed m c cuts t = position_or_len (is_cut_away m c cuts t) (order_of m t)
 
--- the first turn of the type that round r runs: turn 0 in the first round, and then the first that the
--- last cuts changed
+-- the first turn of the type that round r runs: turn 0 in the first round, and then the first that
+-- the last cuts changed
 unfoldable pub first_run : Problem → ℕ → ℕ → ℕ
 first_run m zero t = 0
 first_run m (suc r) t = first_changed m (tentative m (cuts_after m r)) (cuts_after m r) t
@@ -35,7 +35,7 @@ round_turns m r = sum_below (λ t. length (order_of m t) - first_run m r t) m.ty
 unfoldable pub placement_turns : Problem → ℕ
 placement_turns m = sum_below (round_turns m) (mechanism_rounds m)
 
--- ---- for the reruns of changed types, which no crate uses yet
+-- ---- a round that starts from the kept choices of the one before
 
 -- the first changed turn of a type, or none
 unfoldable pub changed_turn : Problem → (ℕ → ℕ → Option ℕ) → List ℕ → ℕ → Option ℕ

@@ -17,7 +17,8 @@ pub record IsPlacement (m : Problem) (held : List (Option ℕ)) : Type 0 where
 abbrev pub IsBefore : List ℕ → ℕ → ℕ → Type 0
 IsBefore list p q = (place_of p list < place_of q list) × (place_of q list < length list)
 
--- p is preferred to what is held: it stands before that in the list, or is listed where nothing is held
+-- p is preferred to what is held: it stands before that in the list, or is listed where nothing is
+-- held
 abbrev pub Prefers : List ℕ → ℕ → Option ℕ → Type 0
 Prefers list p (Some q) = IsBefore list p q
 Prefers list p None = place_of p list < length list

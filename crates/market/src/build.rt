@@ -1,5 +1,5 @@
-// The tables that a market keeps: the turn of each candidate, the programmes of each type, and their
-// numbers among themselves.
+// The tables that a market keeps: the turn of each candidate, the programmes of each type, and
+// their numbers among themselves.
 
 ghost use Rattle.std.specs.Prelude.{◌≡◌, ◌<◌, length, IfOk};
 ghost use Rattle.market.specs.Problems.{order_of};

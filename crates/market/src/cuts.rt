@@ -8,8 +8,8 @@ use crate::Market;
 use std::alloc::{AllocError, Global};
 use std::marker::Model;
 
-/// For each candidate how many entries of the preference list are left, from its front. A byte each,
-/// since a list is short and a round looks many of them up out of order.
+/// For each candidate how many entries of the preference list are left, from its front. A byte
+/// each, since a list is short and a round looks many of them up out of order.
 #[derive(Drop)]
 pub struct Cuts {
     lengths: Vec<u8>,

@@ -1,5 +1,5 @@
-// Worked examples: the small markets of `specs/Examples.antt` as values, and what the definitions give
-// on them, computed by the checker. Who doubts a definition can follow them by hand.
+// Worked examples: the small markets of `specs/Examples.antt` as values, and what the definitions
+// give on them, computed by the checker. Who doubts a definition can follow them by hand.
 
 ghost use Rattle.std.specs.Prelude.{◌≡◌, [], ◌∷◌, Option, IfOk};
 ghost use Rattle.market.specs.Problems.{IsValid};
@@ -80,6 +80,7 @@ pub fn examples_are_valid()
 
 /// Each candidate gets the second wish: the better ranked one in each type takes its seat, and
 /// nobody has several. One round, no cut, four turns.
+#[tactic(auto, unfolding(crate::proofs::Computes::computes))]
 pub fn exchange_placement()
     ensures placement { (mechanism exchange).placement ≡ Option.Some 1 ∷ Option.Some 0 ∷ [] }
     ensures rounds { (mechanism exchange).rounds ≡ 1 }
@@ -90,6 +91,7 @@ pub fn exchange_placement()
 
 /// The first candidate takes both seats and is cut; the second then takes the seat that this frees.
 /// Two rounds, one cut, eight turns of whole rounds; six where only what changed is run again.
+#[tactic(auto, unfolding(crate::proofs::Computes::computes))]
 pub fn freed_seat_placement()
     ensures placement { (mechanism freed_seat).placement ≡ Option.Some 0 ∷ Option.Some 1 ∷ [] }
     ensures rounds { (mechanism freed_seat).rounds ≡ 2 }
@@ -100,6 +102,7 @@ pub fn freed_seat_placement()
 
 /// One cut leads to the next. Three rounds, two cuts, eighteen turns of whole rounds; eleven where
 /// only what changed is run again: six, then three of the second type, then two of the first.
+#[tactic(auto, unfolding(crate::proofs::Computes::computes))]
 pub fn three_rounds_placement()
     ensures placement { (mechanism three_rounds).placement
         ≡ Option.Some 0 ∷ Option.Some 2 ∷ Option.Some 1 ∷ [] }
@@ -110,6 +113,7 @@ pub fn three_rounds_placement()
 {}
 
 /// The first turn takes the only programme it lists; the second, which lists it first, the other.
+#[tactic(auto, unfolding(crate::proofs::Computes::computes))]
 pub fn two_turns_choices()
     ensures { choices two_turns ≡ 0 ∷ 1 ∷ [] }
 {}

@@ -268,7 +268,8 @@ impl Market {
         requires from { from_turn ≤ length (order_of self.now kind) }
         ensures valid { IsValid self.now }
         ensures lists { IfOk result (λ lists. lists
-            ≡ map (local_turn_list self.now cuts.now kind) (drop from_turn (order_of self.now kind))) }
+            ≡ map (local_turn_list self.now cuts.now kind)
+            (drop from_turn (order_of self.now kind))) }
     {
         let order = self.order(kind);
         let rest = &order[from_turn as usize..];

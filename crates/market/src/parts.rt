@@ -22,7 +22,8 @@ impl Model for Parts {
 
     ghost Value = { Problem };
 
-    ghost view = { λ m. problem m.types m.programmes.items m.lists.items m.orders.items m.ranks.items };
+    ghost view = { λ m.
+        problem m.types m.programmes.items m.lists.items m.orders.items m.ranks.items };
 
     ghost invariant = { λ m.
         IsValid (problem m.types m.programmes.items m.lists.items m.orders.items m.ranks.items) };

@@ -51,7 +51,8 @@ impl Tentative {
         requires candidate { candidate < length (slice_index_or self.old kind []) }
         requires fits { FitsNumber choice }
         ensures { self.new
-            ≡ slice_set self.old kind (slice_set (slice_index_or self.old kind []) candidate choice) }
+            ≡ slice_set self.old kind
+            (slice_set (slice_index_or self.old kind []) candidate choice) }
     {
         let row = &mut self.rows[kind as usize];
         row.write(candidate, encoded(choice));

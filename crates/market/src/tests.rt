@@ -97,8 +97,14 @@ fn built_by_two<R: Threads + Sync>(rt: &R, alloc: Global) -> Result<Market, Allo
     let programmes = vec![in alloc; Prog { kind: 0, quota: 1 }, Prog { kind: 1, quota: 1 }]?;
     let list = List::from_slice(alloc, &[1, 0])?;
     let lists = vec![in alloc; list]?;
-    let orders = vec![in alloc; List::from_slice(alloc, &[0])?, List::from_slice(alloc, &[0])?]?;
-    let ranks = vec![in alloc; List::from_slice(alloc, &[7])?, List::from_slice(alloc, &[7])?]?;
+    let orders = vec![in alloc;
+        List::from_slice(alloc, &[0])?,
+        List::from_slice(alloc, &[0])?,
+    ]?;
+    let ranks = vec![in alloc;
+        List::from_slice(alloc, &[7])?,
+        List::from_slice(alloc, &[7])?,
+    ]?;
     Market::build_by(rt, alloc, 2, 2, programmes, lists, orders, ranks)
 }
 

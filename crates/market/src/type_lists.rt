@@ -10,8 +10,8 @@ use crate::parts::Parts;
 use std::alloc::{AllocError, Global};
 use std::marker::Model;
 
-/// The lists of a type's turns, restricted to the type and whole: local numbers, and beside each its
-/// place in the preference list, so that a cut keeps those whose place is below it.
+/// The lists of a type's turns, restricted to the type and whole: local numbers, and beside each
+/// its place in the preference list, so that a cut keeps those whose place is below it.
 #[derive(Drop)]
 pub struct TypeLists {
     items: Vec<u32>,

@@ -1,8 +1,8 @@
 -- Whoever was cut has a tentative programme, in each round from then on.
 --
--- A candidate is cut just after the best of several tentative programmes. That one is kept, since the
--- cut lies behind it; and since shorter lists free seats, the candidate takes it or a better one again.
--- So a list that is cut is never read to its end in vain.
+-- A candidate is cut just after the best of several tentative programmes. That one is kept, since
+-- the cut lies behind it; and since shorter lists free seats, the candidate takes it or a better
+-- one again. So a list that is cut is never read to its end in vain.
 use Rattle.std.proofs.Common.{◌≡◌, ℕ, zero, suc, ◌<◌, List, length, Some, sym, ap, ◌∙◌, subst, arith, ⊎_elim}
 use Rattle.std.specs.Prelude.{slice_index}
 use Rattle.std.proofs.lemmas.Bool.{cases_Bool}
@@ -49,6 +49,7 @@ takes_next m cuts t i p l e =
     b.1.takes b.2 in
     record { kind = kind_of m b.0; programme = r.entry; takes = r.takes }
 
+-- in each round whoever is cut takes a programme
 pub cut_takes : (m : Problem) (r : ℕ) → CutTakes m (cuts_after m r)
 cut_takes m zero i l short = let whole = cuts_after-zero m i in absurd (omega arith)
 cut_takes m (suc r) i l short =

@@ -1,10 +1,11 @@
--- Shorter lists free seats: where every list of one dictatorship begins the list of another, and the
--- rest is equal, each programme has at every turn at most as many seats taken.
+-- Shorter lists free seats: where every list of one dictatorship begins the list of another, and
+-- the rest is equal, each programme has at every turn at most as many seats taken.
 --
--- By induction on the turns. Let the newer turn take a programme that the older one does not. Had as
--- many seats of it been taken in both, it would have been open in the older one too; whatever stands
--- before it in the list was full in the newer one, so, by the induction, in the older one, and the
--- older turn would have taken it. So fewer seats of it had been taken, and one more is no more.
+-- By induction on the turns. Let the newer turn take a programme that the older one does not. Had
+-- as many seats of it been taken in both, it would have been open in the older one too; whatever
+-- stands before it in the list was full in the newer one, so, by the induction, in the older one,
+-- and the older turn would have taken it. So fewer seats of it had been taken, and one more is no
+-- more.
 use Rattle.std.proofs.Common.{◌≡◌, ℕ, zero, suc, ◌<◌, ◌≤◌, Bool, true, false, cond, List, [], ◌∷◌, ◌++◌, length, Option, Some, refl, sym, ap, ◌∙◌, subst, arith, take, drop, ⊎_elim}
 use Rattle.std.specs.Prelude.{find, filter, slice_index}
 use Rattle.std.proofs.lemmas.Bool.{cases_lt, cases_Bool, false≢true}
@@ -29,7 +30,8 @@ free_step true false x p long short sub e o ih = absurd (false≢true (sub refl)
 free_step false true x p long short sub e o ih = absurd (false≢true (o (same_Some x p e)))
 free_step false false x p long short sub e o ih = ih e
 
--- let each entry that passes f pass g: what g finds in a list, f finds in a longer one, if it passes f
+-- let each entry that passes f pass g: what g finds in a list, f finds in a longer one, if it
+-- passes f
 find_free : (f g : ℕ → Bool) → ((x : ℕ) → f x ≡ true → g x ≡ true) → (xs rest : List ℕ) (p : ℕ)
     → find g xs ≡ Some p → f p ≡ true → find f (xs ++ rest) ≡ Some p
 find_free f g sub [] rest p e o = absurd (none-some p e)
@@ -112,6 +114,7 @@ same_quota : (m : Problem) (cuts shorter : List ℕ) (t : ℕ)
 unfolding type_dictatorship
 same_quota m cuts shorter t = refl
 
+-- cuts leave the fills of a type's dictatorship as they are
 same_fill : (m : Problem) (cuts shorter : List ℕ) (t : ℕ)
     → (type_dictatorship m shorter t).fill ≡ (type_dictatorship m cuts t).fill
 unfolding type_dictatorship

@@ -1,8 +1,8 @@
 -- Who holds a programme in the placement of a round, and which turn took it.
 --
 -- What a candidate holds is the best of the tentative programmes, and the turn that took it is the
--- candidate's. Different holders have different turns, so a programme has at most as many holders as
--- seats were taken. Where nobody has several, each seat taken has its holder.
+-- candidate's. Different holders have different turns, so a programme has at most as many holders
+-- as seats were taken. Where nobody has several, each seat taken has its holder.
 use Rattle.std.proofs.Common.{◌≡◌, ℕ, ◌+◌, ◌<◌, ◌≤◌, true, List, length, Some, None, sym, ap, ◌∙◌, arith, map, ⊎_elim}
 use Rattle.std.specs.Prelude.{slice_index}
 use Rattle.std.specs.List.{range_with_len}
@@ -37,14 +37,17 @@ best_programme-past : (m : Problem) (cuts : List ℕ) (i : ℕ) → length m.lis
 unfolding best_programmes
 best_programme-past m cuts i l =
     let e = length-map-range_with_len (best_programme m cuts) 0 (length m.lists) in
-    get_or_past (map (best_programme m cuts) (range_with_len 0 (length m.lists))) i None (omega arith)
+    get_or_past (map (best_programme m cuts) (range_with_len 0 (length m.lists))) i None (omega
+    arith)
 
+-- an entry for each candidate
 length-placed : (m : Problem) (cuts : List ℕ) → length (best_programmes m cuts) ≡ length m.lists
 unfolding best_programmes
 length-placed m cuts = length-map-range_with_len (best_programme m cuts) 0 (length m.lists)
 
 -- who holds a programme takes it in its type
-pub holder-takes : (m : Problem) (cuts : List ℕ) (i p : ℕ) → held_by (best_programmes m cuts) i ≡ Some p
+pub holder-takes : (m : Problem) (cuts : List ℕ) (i p : ℕ) → held_by (best_programmes m cuts) i ≡
+    Some p
     → tentative m cuts (kind_of m p) i ≡ Some p
 holder-takes m cuts i p e =
     ⊎_elim
@@ -73,7 +76,8 @@ settled-holds m v cuts t i p s l e =
 module _ (m : Problem) (v : IsValid m) (cuts : List ℕ) where
   -- the holders of a programme have a turn in its type
   holder_turn : (p i : ℕ) → held_by (best_programmes m cuts) i ≡ Some p
-      → HasTurn (λ j. slice_index (order_of m (kind_of m p)) j) (length (order_of m (kind_of m p))) i
+      → HasTurn (λ j. slice_index (order_of m (kind_of m p)) j) (length (order_of m (kind_of m p)))
+      i
   holder_turn p i e =
       let x = tentative-takes m cuts (kind_of m p) i p (holder-takes m cuts i p e) in
       record {
@@ -103,7 +107,8 @@ module _ (m : Problem) (v : IsValid m) (cuts : List ℕ) where
       let n = length (order_of m t) in
       let o = λ (j : ℕ). slice_index (order_of m t) j in
       let a = count-le-tally o p n (best_programmes m cuts) (holder_turn p) in
-      let b = tally-le (at_turn (best_programmes m cuts) o) (pick d) n p (λ j l h. held-picked p j l h) in
+      let b = tally-le (at_turn (best_programmes m cuts) o) (pick d) n p (λ j l h. held-picked p j
+      l h) in
       let c = seats_taken-tally d n p in
       let z = type-fill m cuts t p in
       let q = type-quota m cuts t p in
@@ -123,7 +128,8 @@ module _ (m : Problem) (v : IsValid m) (cuts : List ℕ) where
 
   -- where nobody takes several, the seats taken before a turn have holders
   pub seats-held : is_settled m cuts ≡ true → (p k : ℕ) → k ≤ length (order_of m (kind_of m p))
-      → seats_taken (type_dictatorship m cuts (kind_of m p)) k p ≤ count_of p (best_programmes m cuts)
+      → seats_taken (type_dictatorship m cuts (kind_of m p)) k p ≤ count_of p (best_programmes m
+      cuts)
   seats-held s p k l =
       let t = kind_of m p in
       let d = type_dictatorship m cuts t in

@@ -1,10 +1,10 @@
 -- The placement of the mechanism is stable.
 --
--- Let a programme be acceptable to a candidate and preferred to what the candidate holds. It was full at
--- the candidate's turn in the last round: else the turn would have taken it or one listed before it,
--- since it stands within the cut (a candidate who was cut holds a programme, and the cut lies behind
--- that one). The seats taken before the turn are held by candidates with earlier turns, so the programme
--- has neither a free seat nor a holder of worse rank.
+-- Let a programme be acceptable to a candidate and preferred to what the candidate holds. It was
+-- full at the candidate's turn in the last round: else the turn would have taken it or one listed
+-- before it, since it stands within the cut (a candidate who was cut holds a programme, and the cut
+-- lies behind that one). The seats taken before the turn are held by candidates with earlier turns,
+-- so the programme has neither a free seat nor a holder of worse rank.
 use Rattle.std.proofs.Common.{◌≡◌, ℕ, ◌<◌, ◌≤◌, true, List, length, Option, Some, None, refl, sym, ◌∙◌, subst, arith, ⊎_elim}
 use Rattle.std.specs.Prelude.{slice_index}
 use Rattle.std.proofs.lemmas.Bool.{cases_lt}
@@ -25,8 +25,10 @@ use Rattle.stable_laws.proofs.Holders.{best_programme-within, holder-takes, is_p
 -- it stands within the cut
 preferred-within : (m : Problem) (cuts : List ℕ) → CutTakes m cuts → (i p : ℕ)
     → place_of p (list_of m i) < length (list_of m i)
-    → Prefers (list_of m i) p (best_programme m cuts i) → place_of p (list_of m i) < slice_index cuts i
-preferred-within m cuts cut i p listed preferred = by_placed (best_programme m cuts i) refl preferred
+    → Prefers (list_of m i) p (best_programme m cuts i) → place_of p (list_of m i) < slice_index
+    cuts i
+preferred-within m cuts cut i p listed preferred = by_placed (best_programme m cuts i) refl
+    preferred
   where
     by_placed : (o : Option ℕ) → best_programme m cuts i ≡ o → Prefers (list_of m i) p o
         → place_of p (list_of m i) < slice_index cuts i
@@ -39,7 +41,8 @@ preferred-within m cuts cut i p listed preferred = by_placed (best_programme m c
         (λ whole. omega arith)
         (cases_lt (slice_index cuts i) (length (list_of m i)))
     by_placed (Some b) something pref =
-        let x = tentative-takes m cuts (kind_of m b) i b (best_programme-takes m cuts i b something) in
+        let x = tentative-takes m cuts (kind_of m b) i b (best_programme-takes m cuts i b
+        something) in
         omega (arith, x.within, pref.0)
 
 -- no tentative programme is as good
@@ -53,13 +56,15 @@ nothing_as_good m cuts i p t q preferred takes no_later =
 
 module _ (m : Problem) (v : IsValid m) (cuts : List ℕ) (cut : CutTakes m cuts) where
   -- it has no seat left at the candidate's turn, where it is acceptable
-  full-at : (i p : ℕ) → IsAcceptable m i p → Prefers (list_of m i) p (held_by (best_programmes m cuts) i)
+  full-at : (i p : ℕ) → IsAcceptable m i p → Prefers (list_of m i) p (held_by (best_programmes m
+      cuts) i)
       → quota_of m p ≤ seats_before m cuts (kind_of m p) i p
   full-at i p acceptable preferred =
       let t = kind_of m p in
       let listed = acceptable.listed in
       let candidate = candidate_lt m i (place_of p (list_of m i)) listed in
-      let pref = subst (Prefers (list_of m i) p) (best_programme-within m cuts i candidate) preferred in
+      let pref = subst (Prefers (list_of m i) p) (best_programme-within m cuts i candidate)
+      preferred in
       ⊎_elim
       (λ room.
       let as_good =
@@ -105,6 +110,7 @@ module _ (m : Problem) (v : IsValid m) (cuts : List ℕ) (cut : CutTakes m cuts)
   settled-stable settled =
       record { placement = is_placement m v cuts; unblocked = unblocked settled }
 
+-- the mechanism's placement is stable
 pub stable : (m : Problem) → IsValid m → IsStable m (mechanism_placement m)
 unfolding mechanism_placement
 stable m v =

@@ -1,5 +1,5 @@
--- What two markets share that differ in quotas alone: lists, turns, who is acceptable, and who has the
--- better rank.
+-- What two markets share that differ in quotas alone: lists, turns, who is acceptable, and who has
+-- the better rank.
 use Rattle.std.proofs.Common.{◌≡◌, ℕ, ◌<◌, List, [], length, sym, ap, ◌∙◌, subst, arith}
 use Rattle.std.specs.Prelude.{slice_index_or}
 use Rattle.market.specs.Problems.{Problem, IsValid, IsAcceptable, place_of, kind_of, list_of, order_of, turn_of, rank_of}

@@ -1,13 +1,13 @@
--- In every stable placement, of the same market or of one with more seats, each candidate holds what
--- the mechanism gives or a programme listed higher.
+-- In every stable placement, of the same market or of one with more seats, each candidate holds
+-- what the mechanism gives or a programme listed higher.
 --
--- No turn of any round takes a programme that its candidate prefers to what the candidate holds in the
--- other placement. By induction on rounds, and on turns within a round. So far no cut has removed what
--- the other placement gives, since each cut lies behind a tentative programme. Let a turn be the first to
--- take a programme p that its candidate prefers. As the pair does not block the other placement, all
--- seats of p are held there by candidates of better rank, whose turns come before. One of these did not
--- take p, although it had a seat left and stood in the list: so it took one that it prefers to p, at an
--- earlier turn.
+-- No turn of any round takes a programme that its candidate prefers to what the candidate holds in
+-- the other placement. By induction on rounds, and on turns within a round. So far no cut has
+-- removed what the other placement gives, since each cut lies behind a tentative programme. Let a
+-- turn be the first to take a programme p that its candidate prefers. As the pair does not block
+-- the other placement, all seats of p are held there by candidates of better rank, whose turns come
+-- before. One of these did not take p, although it had a seat left and stood in the list: so it
+-- took one that it prefers to p, at an earlier turn.
 use Rattle.std.proofs.Common.{◌≡◌, ℕ, zero, suc, ◌<◌, ◌≤◌, Bool, cond, List, length, Option, Some, None, refl, sym, ap, ◌∙◌, subst, arith, ⊎_elim, inl, inr}
 use Rattle.std.specs.Prelude.{slice_index, ◌⊎◌}
 use Rattle.std.proofs.lemmas.Bool.{cases_lt, cases_eq, cases_Bool, false≢true}
@@ -40,6 +40,7 @@ record HasFrom (h : ℕ → Option ℕ) (k n p : ℕ) : Type 0 where
   below : turn < n
   has : h turn ≡ Some p
 
+-- where more are tallied, a later turn takes it
 has_from : (h : ℕ → Option ℕ) (k n p : ℕ) → tally h k p < tally h n p → HasFrom h k n p
 has_from h k zero p l = absurd (omega arith)
 has_from h k (suc n) p l =
@@ -52,7 +53,12 @@ has_from h k (suc n) p l =
     (λ t.
     ⊎_elim
     (λ early. let mono = tally-mono h (suc n) k p early in absurd (omega arith))
-    (λ late. record { turn = n; from = late; below = omega arith; has = is_programme-true p (h n) t })
+    (λ late. record {
+      turn = n;
+      from = late;
+      below = omega arith;
+      has = is_programme-true p (h n) t;
+    })
     (cases_lt n k))
     (λ f. let none = ap (λ (b : Bool). cond {A = ℕ} b 1 0) f in absurd (omega arith))
     (cases_Bool (is_programme p (h n))))
@@ -64,7 +70,8 @@ module _ (m w : Problem) (v : IsValid m) (vw : IsValid w) (wide : Widens m w)
     (other : List (Option ℕ)) (st : IsStable w other) where
   -- what the other placement gives stands within the cuts
   KeepsOther : List ℕ → Type 0
-  KeepsOther cuts = (i q : ℕ) → held_by other i ≡ Some q → place_of q (list_of m i) < slice_index cuts i
+  KeepsOther cuts = (i q : ℕ) → held_by other i ≡ Some q → place_of q (list_of m i) < slice_index
+      cuts i
 
   -- the candidate's turn takes nothing that is preferred to what the other placement gives
   TakesLeast : List ℕ → ℕ → ℕ → Type 0
@@ -125,7 +132,8 @@ module _ (m w : Problem) (v : IsValid m) (vw : IsValid w) (wide : Widens m w)
         ⊎_elim
         (λ same.
         let own = candidate_at m t i turn in
-        absurd (not_held (ap (held_by other) (sym own) ∙ ap (λ (j : ℕ). held_by other (o j)) same ∙ r.has)))
+        absurd (not_held (ap (held_by other) (sym own) ∙ ap (λ (j : ℕ). held_by other (o j)) same
+        ∙ r.has)))
         (λ ne.
         let later : k < turn_of m t (o r.turn) = omega (arith, r.from) in
         let has_turn : turn_of m t (o r.turn) < n = omega (arith, r.below) in
@@ -140,7 +148,8 @@ module _ (m w : Problem) (v : IsValid m) (vw : IsValid w) (wide : Widens m w)
 
   -- ---- one round
 
-  -- who holds p in the other placement takes p, where it has a seat left and the turn takes nothing better
+  -- who holds p in the other placement takes p, where it has a seat left and the turn takes nothing
+  -- better
   takes_too : (cuts : List ℕ) → KeepsOther cuts → (c p : ℕ) → TakesLeast cuts (kind_of m p) c
       → held_by other c ≡ Some p → seats_before m cuts (kind_of m p) c p < quota_of m p
       → tentative m cuts (kind_of m p) c ≡ Some p
@@ -158,13 +167,15 @@ module _ (m w : Problem) (v : IsValid m) (vw : IsValid w) (wide : Widens m w)
         within = keeps c p holds;
         room = room;
       }) in
-      let no_sooner = subst (HoldsAtLeast (list_of m c) (Some r.entry)) holds (least r.entry r.takes) in
+      let no_sooner = subst (HoldsAtLeast (list_of m c) (Some r.entry)) holds (least r.entry
+      r.takes) in
       let same = place_same p r.entry (list_of m c) own (omega (arith, r.no_later)) in
       r.takes ∙ ap Some (sym same)
 
   -- a turn that takes p takes nothing preferred, if no earlier turn of the type does
   step : (cuts : List ℕ) → KeepsOther cuts → (i p : ℕ)
-      → ((c : ℕ) → turn_of m (kind_of m p) c < turn_of m (kind_of m p) i → TakesLeast cuts (kind_of m p) c)
+      → ((c : ℕ) → turn_of m (kind_of m p) c < turn_of m (kind_of m p) i
+      → TakesLeast cuts (kind_of m p) c)
       → tentative m cuts (kind_of m p) i ≡ Some p
       → HoldsAtLeast (list_of m i) (Some p) (held_by other i)
   unfolding seats_before
@@ -182,14 +193,20 @@ module _ (m w : Problem) (v : IsValid m) (vw : IsValid w) (wide : Widens m w)
           let holders = holders_before i p x.listed x.turn preferred in
           let gap = tally_gap (pick d) (at_turn other o) k p (omega (arith, x.room)) in
           let j = gap.turn in
-          let has_turn : j < length (order_of m (kind_of m p)) = omega (arith, gap.before, x.turn) in
+          let has_turn : j < length (order_of m (kind_of m p)) = omega (arith, gap.before, x.turn)
+          in
           let at = turn_at m v (kind_of m p) j (kind_lt m v (kind_of m p) j has_turn) has_turn in
           let earlier : turn_of m (kind_of m p) (o j) < k = omega (arith, gap.before) in
           let fewer = tally-mono (pick d) (turn_of m (kind_of m p) (o j)) k p (omega arith) in
           let seats_then = seats_taken-tally d (turn_of m (kind_of m p) (o j)) p in
-          let too = takes_too cuts keeps (o j) p (before (o j) earlier) gap.has (omega (arith, x.room)) in
-          let own : turn_of m (kind_of m p) (o j) < length (order_of m (kind_of m p)) = omega arith in
-          let took = ap (pick d) (sym at) ∙ sym (tentative-pick m cuts (kind_of m p) (o j) own) ∙ too in
+          let too = takes_too cuts keeps (o j) p (before (o j) earlier) gap.has (omega (
+            arith,
+            x.room,
+          )) in
+          let own : turn_of m (kind_of m p) (o j) < length (order_of m (kind_of m p)) = omega arith
+          in
+          let took = ap (pick d) (sym at) ∙ sym (tentative-pick m cuts (kind_of m p) (o j) own)
+          ∙ too in
           false≢true (sym gap.has_not ∙ is_programme-from p (pick d j) took)
 
       by_held : (h : Option ℕ) → held_by other i ≡ h
@@ -206,7 +223,8 @@ module _ (m w : Problem) (v : IsValid m) (vw : IsValid w) (wide : Widens m w)
           (cases_lt (place_of p (list_of m i)) (place_of q (list_of m i)))
 
   -- so no turn does
-  all_least : (cuts : List ℕ) → KeepsOther cuts → (t n i : ℕ) → turn_of m t i < n → TakesLeast cuts t i
+  all_least : (cuts : List ℕ) → KeepsOther cuts → (t n i : ℕ) → turn_of m t i < n
+      → TakesLeast cuts t i
   unfolding TakesLeast
   all_least cuts keeps t zero i l p takes = absurd (omega arith)
   all_least cuts keeps t (suc n) i l p takes =
@@ -233,7 +251,8 @@ module _ (m w : Problem) (v : IsValid m) (vw : IsValid w) (wide : Widens m w)
       let cuts = cuts_after m r in
       let keeps = keeps_other r in
       let candidate = candidate_lt m i (place_of q (list_of m i)) (other-listed i q holds) in
-      let cut = ap (λ (c : List ℕ). slice_index c i) (cuts_after-suc m r) ∙ next_cuts-at m cuts i candidate in
+      let cut = ap (λ (c : List ℕ). slice_index c i) (cuts_after-suc m r)
+      ∙ next_cuts-at m cuts i candidate in
       ⊎_elim
       (λ several.
       let two = several-takes m cuts i several in
@@ -254,7 +273,8 @@ module _ (m w : Problem) (v : IsValid m) (vw : IsValid w) (wide : Widens m w)
   unfolding mechanism_placement TakesLeast
   worst i = by_given (held_by (best_programmes m (cuts_after m (cutting_rounds m))) i) refl
     where
-      by_given : (o : Option ℕ) → held_by (best_programmes m (cuts_after m (cutting_rounds m))) i ≡ o
+      by_given : (o : Option ℕ) → held_by (best_programmes m (cuts_after m (cutting_rounds m))) i ≡
+          o
           → HoldsAtLeast (list_of m i) o (held_by other i)
       by_given None e = tt
       by_given (Some p) e =
@@ -264,6 +284,7 @@ module _ (m w : Problem) (v : IsValid m) (vw : IsValid w) (wide : Widens m w)
 
 -- ---- the same market
 
+-- a market is as wide as itself
 same_width : (m : Problem) → Widens m m
 same_width m =
     record {
@@ -275,6 +296,7 @@ same_width m =
       quotas = λ p. omega arith;
     }
 
+-- the mechanism's placement is stable, and no stable one gives a candidate less
 pub worst_of_stable : (m : Problem) → IsValid m → IsWorstStable m (mechanism_placement m)
 worst_of_stable m v =
     record { stable = stable m v; worst = λ other s. worst m m v v (same_width m) other s }

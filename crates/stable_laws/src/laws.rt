@@ -28,8 +28,9 @@ pub fn mechanism_stable(market: &Market)
     let _ = market.type_count();
 }
 
-/// In each placement that is stable in a market with as many seats or more, and with the rest equal,
-/// each candidate holds what the mechanism gives in this market, or a programme listed higher.
+/// In each placement that is stable in a market with as many seats or more, and with the rest
+/// equal, each candidate holds what the mechanism gives in this market, or a programme listed
+/// higher.
 pub fn mechanism_worst(market: &Market, wider: &Market, other: &Placement)
     requires wider { Widens market.now wider.now }
     requires stable { IsStable wider.now other.now }
@@ -40,8 +41,8 @@ pub fn mechanism_worst(market: &Market, wider: &Market, other: &Placement)
     let _ = wider.type_count();
 }
 
-/// Both at once, over one market: the mechanism's placement is stable, and in every stable placement
-/// each candidate holds the same programme or one listed higher.
+/// Both at once, over one market: the mechanism's placement is stable, and in every stable
+/// placement each candidate holds the same programme or one listed higher.
 pub fn worst_stable(market: &Market)
     ensures { IsWorstStable market.now (mechanism_placement market.now) }
 {

@@ -1,3 +1,3 @@
--- The definitions. What the cuts of a round are, and which turn they change first, stands in market.
--- what the cuts of a round have touched
+-- The definitions. What the cuts of a round are, and which turn they change first, stands in
+-- market. what the cuts of a round have touched
 pub mod Touches

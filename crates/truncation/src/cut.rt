@@ -50,7 +50,8 @@ fn note_types(
     ensures several { touched.new.several ≡ touched.old.several }
     ensures types { length touched.new.first ≡ MAX_TYPES }
     ensures first { (t : ℕ) → t < market.now.types → slice_index_or touched.new.first t Option.None
-        ≡ noted (is_beyond (list_of market.now candidate) cut (programme_in tentative.now t candidate))
+        ≡ noted
+        (is_beyond (list_of market.now candidate) cut (programme_in tentative.now t candidate))
         (slice_index_or touched.old.first t Option.None) (turn_of market.now t candidate) }
 {
     let list = market.list(candidate);

@@ -1,5 +1,5 @@
-//! Cuts the lists of the candidates who take several programmes in a round, and says from which turn
-//! on each type has to run again.
+//! Cuts the lists of the candidates who take several programmes in a round, and says from which
+//! turn on each type has to run again.
 #![tactic(auto)]
 
 // What a round's cuts have touched: how many lists, and the first changed turn of each type.

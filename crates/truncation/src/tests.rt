@@ -1,7 +1,6 @@
 // The cuts of a round in which nobody has several choices: each list and each type is left alone.
 // Rounds that cut are shown where rounds are run.
 
-
 use crate::{Touched, cut_lists};
 use market::examples::three_rounds;
 use market::{Cuts, Tentative};

@@ -88,13 +88,7 @@ fn earlier(first: Option<u32>, turn: u32) -> u32
     ensures { result ≡ least_turn first turn }
 {
     match first {
-        Some(other) => {
-            if other < turn {
-                other
-            } else {
-                turn
-            }
-        }
+        Some(other) => { if other < turn { other } else { turn } }
         None => turn,
     }
 }

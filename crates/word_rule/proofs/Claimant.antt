@@ -109,14 +109,15 @@ module _ (key : RoundKey) where
       let told = b.behind in
       let kept =
       event_keeps key s h id x y words Claims live same may (length-set s.words 0 next) is
-      (omega arith) (omega arith) in (
+      (omega arith) (omega arith) in
+      let range = seat_in_range key _ kept id y (live_after key s id x y live same) in (
         y,
         keeps,
         tt,
         kept,
         record {
           seat = refl;
-          range = seat_in_range key _ kept id y (live_after key s id x y live same);
+          range = range;
           earlier = earlier d (table_core key s) x.core may.0 fit.own;
         },
       )
@@ -156,16 +157,9 @@ module _ (key : RoundKey) where
       let told = (h.each id x live).behind in
       let kept =
       event_keeps key s h id x y words (Reads k j) live same may (length-set s.words i found) leads
-      (omega arith) (omega arith) in (
-        y,
-        keeps,
-        tt,
-        kept,
-        record {
-          seat = refl;
-          range = seat_in_range key _ kept id y (live_after key s id x y live same);
-        },
-      )
+      (omega arith) (omega arith) in
+      let range = seat_in_range key _ kept id y (live_after key s id x y live same) in
+      (y, keeps, tt, kept, record { seat = refl; range = range })
 
   -- a post of the place found to the turn's cell
   pub post_allowed : (slots id : ℕ) (me : SeatMe) (i k j word : ℕ) (met : Bool) → 0 < me.0.share
@@ -195,13 +189,6 @@ module _ (key : RoundKey) where
       let told = (h.each id x live).behind in
       let kept =
       event_keeps key s h id x y words (Posts k j met) live same may (length-set s.words i word)
-      leads (omega arith) (omega arith) in (
-        y,
-        keeps,
-        tt,
-        kept,
-        record {
-          seat = refl;
-          range = seat_in_range key _ kept id y (live_after key s id x y live same);
-        },
-      )
+      leads (omega arith) (omega arith) in
+      let range = seat_in_range key _ kept id y (live_after key s id x y live same) in
+      (y, keeps, tt, kept, record { seat = refl; range = range })

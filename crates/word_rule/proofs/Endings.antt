@@ -5,7 +5,7 @@ use Rattle.atomic_table.specs.Table.{State, Seen, Final}
 use Rattle.std.proofs.lemmas.Option.{get_or_from_slice_get}
 use mathlib.Core.Option.{some}
 use lib.ListN.{get_elem?}
-use Rattle.market.specs.Dictatorships.{Dictatorship, IsValidDictatorship, has_seat, first_open, chosen, choice}
+use Rattle.market.specs.Dictatorships.{Dictatorship, IsValidDictatorship, has_seat, first_open, picks, choice}
 use Rattle.market.proofs.Seats.{place-small}
 use Rattle.interleaving_core.specs.declared.parts.Cell.TheVariants.{Committed}
 use Rattle.interleaving_core.specs.Core.{turn_count}
@@ -60,7 +60,7 @@ module _ (key : RoundKey) where
 choice_small : (d : Dictatorship) (k : ℕ) → IsValidDictatorship d → k < length d.lists
     → choice d k ≤ 48
 unfolding choice first_open
-choice_small d k valid inside = place-small d k (has_seat d (chosen d k)) valid inside
+choice_small d k valid inside = place-small d k (has_seat d (picks d k)) valid inside
 
 -- so the cells before the mark's number are committed, each at its choice
 pub ends_committed : (words : List ℕ) (d : Dictatorship) (released count : ℕ) → Ends words d released

@@ -16,7 +16,7 @@ use Rattle.interleaving_core.specs.declared.parts.Phase.TheVariants.{Idle, Seate
 use Rattle.interleaving_core.specs.Core.{View, turn_count, entry, quota_of, seats_of, cell_at, is_committed, hold_at}
 use Rattle.interleaving_core.specs.Events.{Action, Takes, Looks, Weighs, Seats, Seals, Releases, IsAllowed, with_hold, after_take, phase_after_look, phase_after_weigh, after}
 use Rattle.interleaving_core.specs.Sound.{bit, some_bit, empty_bit, turn_bit, hold_bit, claim_bit}
-use Rattle.market.proofs.Turns.{taken-le-quota}
+use Rattle.market.proofs.Turns.{seats_taken-le-quota}
 use Rattle.interleaving_core.proofs.Places.{sum_zero, terms_le}
 use Rattle.interleaving_core.proofs.Holder.{seats_now}
 use Rattle.word_rule.specs.Layout.{is_held, cell_of, core_of, programme_count}
@@ -24,7 +24,7 @@ use Rattle.word_rule.specs.Views.{SeatKnows, SeatMe, with_core, other_view, core
 use Rattle.word_rule.specs.Rule.{IsLive, IsSoundTable, share_of, table_core}
 use Rattle.word_rule.specs.Holder.{posted_place, tried, TellsTake, look_by, TellsLook, weigh_by, TellsWeigh, seat_by, TellsSeat, seal_by, TellsSeal, released_with, TellsRelease}
 use Rattle.word_rule.specs.declared.rule.RoundKey.{RoundKey}
-use Rattle.word_rule.proofs.CoreViews.{there, place, at_place, whose}
+use Rattle.word_rule.proofs.CoreViews.{live_there, place, at_place, whose}
 use Rattle.word_rule.proofs.Layouts.{shows_committed, or_one, reads_seats, reads_cell, writes_mark, writes_seats, writes_cell}
 use Rattle.word_rule.proofs.Keeps.{IsSameSeat, live_after, seat_in_range, seat_fits, table_after, event_keeps}
 
@@ -148,7 +148,7 @@ module _ (key : RoundKey) where
       → Allows (IsSoundTable key) slots id me 1 (λ n. bit_or n 1) (TellsTake me)
   take_allowed slots id me some alone may s h homes at fits =
       let x = me.0 in
-      let live : IsLive s.views id x = record { there = there s.views id x at; live = some } in
+      let live = live_there s.views id x at some in
       let found = get_or s.words 1 0 in
       let b = is_held found in
       let y = tried x b (found / 2) in
@@ -171,14 +171,15 @@ module _ (key : RoundKey) where
       let mine = h.each id x live in
       let dict = ap (λ (z : Dictatorship). turn_count z) mine.dict in
       let behind = h.sound.mark.behind in
-      let within = h.sound.mark.within in (
+      let within = h.sound.mark.within in
+      let range = seat_in_range key _ kept id y (live_after key s id x y live same) in (
         y,
         keeps,
         tt,
         kept,
         record {
           seat = refl;
-          range = seat_in_range key _ kept id y (live_after key s id x y live same);
+          range = range;
           within = omega arith;
           free = λ every. free_with_all s h id x live (every ∙ mine.workers) may.1;
         },
@@ -190,7 +191,7 @@ module _ (key : RoundKey) where
       → i ≡ 2 + programme_count d + k → Allows (IsSoundTable key) slots id me i (λ n. n) (TellsLook me)
   look_allowed slots id me i k some alone may is s h homes at fits =
       let x = me.0 in
-      let live : IsLive s.views id x = record { there = there s.views id x at; live = some } in
+      let live = live_there s.views id x at some in
       let found = get_or s.words i 0 in
       let v = look_by x.core x.core.hold found in
       let seen_view : Cell → View = λ c. with_hold x.core (hold_at k (phase_after_look c)) in
@@ -203,14 +204,15 @@ module _ (key : RoundKey) where
       ap (λ (u : View). core_of d s.words (set (core_views s.views) (place s.views id) u)) (by ∙ ap seen_view (sym seen)) in
       let kept = load_keeps s h id i x v (Looks k) live same may leads in
       let mine = h.each id x live in
-      let count = ((seat_fits key s h id x live).hold _ may.0).committed in (
+      let count = ((seat_fits key s h id x live).hold _ may.0).committed in
+      let range = seat_in_range key _ kept id y (live_after key s id x y live same) in (
         y,
         keeps,
         tt,
         kept,
         record {
           seat = refl;
-          range = seat_in_range key _ kept id y (live_after key s id x y live same);
+          range = range;
           uncommitted = ap is_committed (sym seen) ∙ h.sound.cells.above k (omega arith);
           posted = λ every done.
               subst (λ (c : Cell). IsSome (posted_place c)) seen
@@ -224,7 +226,7 @@ module _ (key : RoundKey) where
       → Allows (IsSoundTable key) slots id me i (λ n. n) (TellsWeigh me)
   weigh_allowed slots id me i k j some alone may is s h homes at fits =
       let x = me.0 in
-      let live : IsLive s.views id x = record { there = there s.views id x at; live = some } in
+      let live = live_there s.views id x at some in
       let found = get_or s.words i 0 in
       let p = entry d k j in
       let v = weigh_by x.dict x.core x.core.hold found in
@@ -240,13 +242,9 @@ module _ (key : RoundKey) where
       let leads : core_of d s.words (set (core_views s.views) (place s.views id) v)
       ≡ after d (table_core key s) (place s.views id) x.core (Weighs k j) =
       ap (λ (u : View). core_of d s.words (set (core_views s.views) (place s.views id) u)) (by ∙ ap seen_view seen) in
-      let kept = load_keeps s h id i x v (Weighs k j) live same may leads in (
-        with_core x v,
-        keeps,
-        tt,
-        kept,
-        record { seat = refl; range = seat_in_range key _ kept id (with_core x v) (live_after key s id x (with_core x v) live same) },
-      )
+      let kept = load_keeps s h id i x v (Weighs k j) live same may leads in
+      let range = seat_in_range key _ kept id (with_core x v) (live_after key s id x (with_core x v) live same) in
+      (with_core x v, keeps, tt, kept, record { seat = refl; range = range })
 
   -- a seat taken of the entry at the holder's place
   pub seat_allowed : (slots id : ℕ) (me : SeatMe) (i k j : ℕ) → 0 < me.0.share
@@ -254,7 +252,7 @@ module _ (key : RoundKey) where
       → Allows (IsSoundTable key) slots id me i (λ n. (n + 1) % 2 ^ 64) (TellsSeat me)
   seat_allowed slots id me i k j some alone may is s h homes at fits =
       let x = me.0 in
-      let live : IsLive s.views id x = record { there = there s.views id x at; live = some } in
+      let live = live_there s.views id x at some in
       let found = get_or s.words i 0 in
       let p = entry d k j in
       let v = seat_by x.dict x.core x.core.hold found in
@@ -269,7 +267,7 @@ module _ (key : RoundKey) where
       let seen : found ≡ seats_of (table_core key s) p =
       ap (λ (z : ℕ). get_or s.words z 0) is ∙ sym (reads_seats d s.words (core_views s.views) p inside) in
       let now = seats_now d (table_core key s) h.sound (place s.views id) x.core (at_place s.views id x live) _ may (λ q. refl) p inside in
-      let most = taken-le-quota d p (h.valid.filled p inside) k in
+      let most = seats_taken-le-quota d p (h.valid.filled p inside) k in
       let quota = h.valid.quotas p inside in
       let next = (found + 1) % 2 ^ 64 in
       let up : next ≡ found + 1 = mod-eq_of_lt (let l : found + 1 < 2 ^ 64 = omega arith in l) in
@@ -284,14 +282,15 @@ module _ (key : RoundKey) where
       let mark : get_or (set s.words i next) 1 0 ≡ get_or s.words 1 0 =
       get_or-set_other s.words i 1 next 0 (λ e. omega arith) in
       let kept = mark_stays s h id x y (set s.words i next) (Seats k j) live same may (length-set s.words i next) leads
-      (ap (λ (z : ℕ). z / 2) mark) refl in (
+      (ap (λ (z : ℕ). z / 2) mark) refl in
+      let range = seat_in_range key _ kept id y (live_after key s id x y live same) in (
         y,
         keeps,
         tt,
         kept,
         record {
           seat = refl;
-          range = seat_in_range key _ kept id y (live_after key s id x y live same);
+          range = range;
           small = omega arith;
         },
       )
@@ -303,7 +302,7 @@ module _ (key : RoundKey) where
       → Allows (IsSoundTable key) slots id me i (λ _. word) (λ _. TellsSeal me)
   seal_allowed slots id me i k j word phase some alone may inside is shows s h homes at fits =
       let x = me.0 in
-      let live : IsLive s.views id x = record { there = there s.views id x at; live = some } in
+      let live = live_there s.views id x at some in
       let v = seal_by x.core x.core.hold in
       let by : v ≡ with_hold x.core (hold_at (k + 1) Idle) = ap (seal_by x.core) may.0 in
       let y = with_core x v in
@@ -319,13 +318,9 @@ module _ (key : RoundKey) where
       let mark : get_or (set s.words i word) 1 0 ≡ get_or s.words 1 0 =
       get_or-set_other s.words i 1 word 0 (λ e. omega arith) in
       let kept = mark_stays s h id x y (set s.words i word) (Seals k j phase) live same may (length-set s.words i word) leads
-      (ap (λ (z : ℕ). z / 2) mark) refl in (
-        y,
-        keeps,
-        tt,
-        kept,
-        record { seat = refl; range = seat_in_range key _ kept id y (live_after key s id x y live same) },
-      )
+      (ap (λ (z : ℕ). z / 2) mark) refl in
+      let range = seat_in_range key _ kept id y (live_after key s id x y live same) in
+      (y, keeps, tt, kept, record { seat = refl; range = range })
 
   -- a release with the number of committed turns
   pub release_allowed : (slots id : ℕ) (me : SeatMe) (k word : ℕ) (phase : Phase) → 0 < me.0.share
@@ -333,7 +328,7 @@ module _ (key : RoundKey) where
       → Allows (IsSoundTable key) slots id me 1 (λ _. word) (λ _. TellsRelease me word)
   release_allowed slots id me k word phase some alone may shows s h homes at fits =
       let x = me.0 in
-      let live : IsLive s.views id x = record { there = there s.views id x at; live = some } in
+      let live = live_there s.views id x at some in
       let y = released_with x (word / 2) in
       let same : IsSameSeat x y = record { number = refl; share = refl; dict = refl; workers = refl; alone = λ more. (alone more, alone more) } in
       let wide = h.wide in
@@ -347,10 +342,6 @@ module _ (key : RoundKey) where
       let count = ((seat_fits key s h id x live).hold _ may.0).committed in
       let behind = h.sound.mark.behind in
       let kept = event_keeps key s h id x y (set s.words 1 word) (Releases k phase) live same may (length-set s.words 1 word) leads
-      (omega arith) (omega arith) in (
-        y,
-        keeps,
-        tt,
-        kept,
-        record { seat = refl; range = seat_in_range key _ kept id y (live_after key s id x y live same) },
-      )
+      (omega arith) (omega arith) in
+      let range = seat_in_range key _ kept id y (live_after key s id x y live same) in
+      (y, keeps, tt, kept, record { seat = refl; range = range })

@@ -4,8 +4,8 @@ use Rattle.std.proofs.Common.{◌≡◌, ℕ, zero, suc, ◌<◌, Bool, true, fa
 use Rattle.std.specs.List.{sum_by}
 use Rattle.std.proofs.lemmas.List.{ext_get_or, replicate-append-replicate}
 use Rattle.std.proofs.lemmas.List.Sums.{sum_by-cons}
-use Rattle.market.specs.Dictatorships.{Dictatorship, choice, taken}
-use Rattle.market.proofs.Turns.{taken-zero}
+use Rattle.market.specs.Dictatorships.{Dictatorship, choice, seats_taken}
+use Rattle.market.proofs.Turns.{seats_taken-zero}
 use Rattle.interleaving_core.specs.declared.parts.Cell.{Cell}
 use Rattle.interleaving_core.specs.declared.parts.Cell.TheVariants.{Empty, Committed}
 use Rattle.interleaving_core.specs.Core.{View, Core, fresh_view, turn_count}
@@ -77,7 +77,7 @@ shows_opening key s h fresh =
     let long = sound.seats.each_programme in
     let nobody : sum_by (seat_bit d p) c.views ≡ 0 =
     ap (sum_by (seat_bit d p)) views ∙ sum_replicate (seat_bit d p) key.workers fresh_view refl in
-    let takes : taken d sound.count p ≡ 0 = ap (λ (k : ℕ). taken d k p) none ∙ taken-zero d p in
+    let takes : seats_taken d sound.count p ≡ 0 = ap (λ (k : ℕ). seats_taken d k p) none ∙ seats_taken-zero d p in
     let counted = sound.seats.counts p (omega arith) in
     omega arith) in
     λ k. record {

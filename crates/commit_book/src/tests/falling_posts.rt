@@ -1,6 +1,6 @@
 // A round of 128 turns and 64 seats: twice all seats draw, and then post in falling order.
 
-ghost use Rattle.std.specs.Prelude.{◌≡◌, ◌≤◌, IfOk, true, false};
+ghost use Rattle.std.specs.Prelude.{◌≡◌, IfOk};
 ghost use Rattle.word_rule.specs.Rounds.{knows, dict_of, shares_of, AreOver};
 ghost use Rattle.commit_book.specs.Seats.{IsWorking, AreWorking};
 
@@ -24,29 +24,6 @@ fn many_turns(alloc: Global) -> Result<Dict, AllocError> {
     Ok(Dict::from_parts(quota, fill, lists))
 }
 
-// The last seat draws this turn, the seat before it the next one, and so on. They come back in the
-// order of their turns.
-fn draw_all(
-    alloc: Global,
-    rt: &impl Abort,
-    round: &SharedRound,
-    mut seats: Vec<WorkSeat>,
-    first: u32,
-) -> Result<Vec<WorkSeat>, AllocError>
-    requires ready { AreWorking round.now seats.items }
-    requires first { first ≤ 64 }
-    ensures ready { IfOk result (λ drawn. AreWorking round.now drawn.items) }
-    ensures shares { IfOk result (λ drawn. shares_of drawn.items ≡ shares_of seats.items) }
-{
-    let mut drawn = Vec::with_capacity(alloc, seats.len())?;
-    while let Some(mut me) = seats.pop() {
-        assert!(rt; drawn.len() < 64);
-        draws(rt, round, &mut me, first + drawn.len() as u32);
-        drawn.push(me)?;
-    }
-    Ok(drawn)
-}
-
 // The seat reads its turn's list up to the first entry with a seat left, posts the turn there, and
 // commits what it then can.
 fn works(rt: &impl Abort, round: &SharedRound, dict: &Dict, me: &mut WorkSeat) -> Option<u32>
@@ -64,27 +41,51 @@ fn works(rt: &impl Abort, round: &SharedRound, dict: &Dict, me: &mut WorkSeat) -
     commits(rt, round, dict, me)
 }
 
-// From the last turn to the first each seat posts its turn. The first turn's cell stays empty until
-// the end, so that nothing is committed before, and then all.
-fn post_all(
+// What each seat does, from the last to the first: it draws this turn or the next ones, or posts its
+// turn. The first turn's cell stays empty until the end, so that nothing is committed before, and then
+// all.
+fn acts(
+    rt: &impl Abort,
+    round: &SharedRound,
+    dict: &Dict,
+    me: &mut WorkSeat,
+    draws_from: Option<u32>,
+    before: u32,
+)
+    requires ready { IsWorking round.now me.old }
+    requires dict { dict.now ≡ dict_of round.now }
+    ensures ready { IsWorking round.now me.new }
+    ensures share { (knows me.new).share ≡ (knows me.old).share }
+{
+    if let Some(first) = draws_from {
+        draws(rt, round, me, first.saturating_add(before));
+        return;
+    }
+    let committed = if before == 63 { 64 } else { 0 };
+    assert_eq!(rt; works(rt, round, dict, me), Some(committed));
+}
+
+// Each seat acts, from the last to the first. They come back in the order in which they acted.
+fn act_all(
     alloc: Global,
     rt: &impl Abort,
     round: &SharedRound,
     dict: &Dict,
-    mut drawn: Vec<WorkSeat>,
+    mut seats: Vec<WorkSeat>,
+    draws_from: Option<u32>,
 ) -> Result<Vec<WorkSeat>, AllocError>
-    requires ready { AreWorking round.now drawn.items }
+    requires ready { AreWorking round.now seats.items }
     requires dict { dict.now ≡ dict_of round.now }
-    ensures ready { IfOk result (λ seats. AreWorking round.now seats.items) }
-    ensures shares { IfOk result (λ seats. shares_of seats.items ≡ shares_of drawn.items) }
+    ensures ready { IfOk result (λ acted. AreWorking round.now acted.items) }
+    ensures shares { IfOk result (λ acted. shares_of acted.items ≡ shares_of seats.items) }
 {
-    let mut seats = Vec::with_capacity(alloc, drawn.len())?;
-    while let Some(mut me) = drawn.pop() {
-        let committed = if drawn.is_empty() { 64 } else { 0 };
-        assert_eq!(rt; works(rt, round, dict, &mut me), Some(committed));
-        seats.push(me)?;
+    let mut acted = Vec::with_capacity(alloc, seats.len())?;
+    while let Some(mut me) = seats.pop() {
+        assert!(rt; acted.len() < 64);
+        acts(rt, round, dict, &mut me, draws_from, acted.len() as u32);
+        acted.push(me)?;
     }
-    Ok(seats)
+    Ok(acted)
 }
 
 // Each seat finds that no turn is left.
@@ -137,10 +138,10 @@ fn turns_posted_in_falling_order_are_committed_in_order(rt: HostRuntime) -> Resu
     let alloc = rt.alloc();
     let dict = many_turns(alloc)?;
     let (round, seats) = open_round(alloc, &dict, 64)?;
-    let drawn = draw_all(alloc, &rt, &round, seats, 0)?;
-    let seats = post_all(alloc, &rt, &round, &dict, drawn)?;
-    let drawn = draw_all(alloc, &rt, &round, seats, 64)?;
-    let seats = post_all(alloc, &rt, &round, &dict, drawn)?;
+    let drawn = act_all(alloc, &rt, &round, &dict, seats, Some(0))?;
+    let seats = act_all(alloc, &rt, &round, &dict, drawn, None)?;
+    let drawn = act_all(alloc, &rt, &round, &dict, seats, Some(64))?;
+    let seats = act_all(alloc, &rt, &round, &dict, drawn, None)?;
     let over = end_all(alloc, &rt, &round, seats)?;
     let mut me = join_all(&round, over);
     assert_eq!(&rt; commits(&rt, &round, &dict, &mut me), Some(0));

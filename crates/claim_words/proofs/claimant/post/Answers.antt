@@ -1,4 +1,4 @@
-use Rattle.std.proofs.Common.{arith, ap, ◌∙◌, length, refl}
+use Rattle.std.proofs.Common.{arith, ap, ◌∙◌, length}
 use Rattle.word_rule.proofs.Claimant.{post_allowed}
 use Rattle.claim_words.proofs.Claims.{next_post}
 use Rattle.claim_words.proofs.claimant.post.Goals as goal

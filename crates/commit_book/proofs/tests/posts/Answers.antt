@@ -12,7 +12,7 @@ pub list-places-requires : goal.list-places-requires
 list-places-requires g c =
     let me = c.args.me.now in
     let x = c.in-Some.claim in
-    let same = c.requires.seat.dict ∙ sym c.requires.dict in
+    let same = c.requires.seat.0.dict ∙ sym c.requires.seat.1 in
     let turn = me.in_range.claimed x.turn x.passed x.met (sym me.claim_is ∙ c.in-Some.is) in
     let turns = ap (λ (d : Dictatorship). turn_count d) same in
     omega arith
@@ -26,7 +26,7 @@ post-requires-clause-may g c =
     let ends : (x.met ≡ true) ⊎ (x.passed ≡ length (list_at d x.turn)) =
     elim c.else-not-claim.branch [
       | else-not-claim-via-then-not-claim+else-claim-places w ↦
-          let same = c.requires.seat.dict ∙ sym c.requires.dict in
+          let same = c.requires.seat.0.dict ∙ sym c.requires.seat.1 in
           let passed = me.in_range.passed x.turn x.passed x.met claim in
           let places = ap (λ (z : Dictatorship). length (list_at z x.turn)) same in
           let list = ap length c.list-places.ensures in

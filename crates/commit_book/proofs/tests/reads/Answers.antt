@@ -7,7 +7,7 @@ pub list-places-requires : goal.list-places-requires
 list-places-requires g c =
     let me = c.args.me.now in
     let x = c.in-Some.claim in
-    let same = c.requires.seat.dict ∙ sym c.requires.dict in
+    let same = c.requires.seat.0.dict ∙ sym c.requires.seat.1 in
     let turn = me.in_range.claimed x.turn x.passed x.met (sym me.claim_is ∙ c.in-Some.is) in
     let turns = ap (λ (d : Dictatorship). turn_count d) same in
     omega arith
@@ -16,7 +16,7 @@ pub overflow_cast-claim : goal.overflow_cast-claim
 overflow_cast-claim g c =
     let me = c.args.me.now in
     let x = c.in-Some.claim in
-    let same = c.requires.seat.dict ∙ sym c.requires.dict in
+    let same = c.requires.seat.0.dict ∙ sym c.requires.seat.1 in
     let passed = me.in_range.passed x.turn x.passed x.met (sym me.claim_is ∙ c.in-Some.is) in
     let places = ap (λ (d : Dictatorship). length (list_at d x.turn)) same in
     let list = ap length c.list-places.ensures in
@@ -27,7 +27,7 @@ pub read_entry-requires-clause-may : goal.read_entry-requires-clause-may
 read_entry-requires-clause-may g c =
     let me = c.args.me.now in
     let x = c.in-Some.claim in
-    let same = c.requires.seat.dict ∙ sym c.requires.dict in
+    let same = c.requires.seat.0.dict ∙ sym c.requires.seat.1 in
     let places = ap (λ (d : Dictatorship). length (list_at d x.turn)) same in
     let list = ap length c.list-places.ensures in
     let left = c.if-claim-places.false in

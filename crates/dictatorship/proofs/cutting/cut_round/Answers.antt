@@ -1,5 +1,4 @@
-use Rattle.std.proofs.Common.{◌≡◌, ℕ, ◌+◌, ◌<◌, ◌∙◌, ap, sym, subst, length, List, arith, set}
-use Rattle.market.specs.Problems.{list_of}
+use Rattle.std.proofs.Common.{ℕ, ◌+◌, ◌<◌, ◌∙◌, ap, sym, subst, length, List, arith, set}
 use Rattle.market.specs.Mechanism.{has_several_in}
 use Rattle.market.specs.Choices.{programme_in}
 use Rattle.market.proofs.Members.{count_le}

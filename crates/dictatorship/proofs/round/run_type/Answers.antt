@@ -1,7 +1,6 @@
-use Rattle.std.proofs.Common.{◌≡◌, ℕ, ◌+◌, ◌-◌, ◌∙◌, ap, sym, subst, length, List, [], arith, rules, replicate}
+use Rattle.std.proofs.Common.{◌≡◌, ℕ, ◌+◌, ◌∙◌, ap, sym, subst, length, List, [], arith, rules, replicate}
 use Rattle.std.specs.Prelude.{slice_index_or}
 use Rattle.std.proofs.lemmas.List.{get_or_read}
-use Rattle.market.specs.Problems.{order_of}
 use Rattle.market.specs.Dictatorships.{Dictatorship}
 use Rattle.market.specs.LocalNumbers.{local_dictatorship, IsFillBefore}
 use Rattle.market.specs.Reruns.{IsRunUpto}

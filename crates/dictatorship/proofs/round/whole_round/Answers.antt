@@ -1,4 +1,4 @@
-use Rattle.std.proofs.Common.{◌≡◌, ℕ, ◌<◌, ◌≤◌, sym, subst, length, [], List, Option, arith, ⊎_elim}
+use Rattle.std.proofs.Common.{ℕ, sym, subst, length, [], arith, ⊎_elim}
 use Rattle.std.specs.Prelude.{slice_index_or}
 use Rattle.std.proofs.lemmas.Bool.{cases_eq}
 use Rattle.market.specs.Problems.{order_of}

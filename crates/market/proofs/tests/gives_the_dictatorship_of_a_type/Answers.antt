@@ -40,11 +40,13 @@ turn_lists-requires-clause-cuts g c =
 
 pub set-requires-clause-candidate : goal.set-requires-clause-candidate
 set-requires-clause-candidate g c =
-    (room c.in_ok-market.market c.in_ok-cuts.cuts c.in_ok-cuts.ensures.cuts c.in_ok-market.ensures).0
+    (room c.in_ok-market.market c.in_ok-cuts.cuts c.in_ok-cuts.ensures.cuts
+    c.in_ok-market.ensures).0
 
 pub set-requires-clause-shorter : goal.set-requires-clause-shorter
 set-requires-clause-shorter g c =
-    (room c.in_ok-market.market c.in_ok-cuts.cuts c.in_ok-cuts.ensures.cuts c.in_ok-market.ensures).1
+    (room c.in_ok-market.market c.in_ok-cuts.cuts c.in_ok-cuts.ensures.cuts
+    c.in_ok-market.ensures).1
 
 pub cut-requires : goal.cut-requires
 cut-requires g c =

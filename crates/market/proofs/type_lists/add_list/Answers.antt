@@ -1,24 +1,16 @@
-use Rattle.std.proofs.Common.{◌≡◌, ℕ, ◌<◌, ◌∷◌, [], ◌++◌, ◌∙◌, ap, List, Vec, Global, arith, map, length}
+use Rattle.std.proofs.Common.{ℕ, ◌∷◌, [], ◌++◌, ◌∙◌, ap, List, Vec, Global, arith, map, length}
 use Rattle.std.specs.Prelude.{slice_index, filter}
 use Rattle.std.proofs.lemmas.Bool.{eq-eqb, ne_eqb}
 use Rattle.std.proofs.lemmas.List.{take_all}
-use Rattle.market.specs.Problems.{Problem, IsValid, list_of}
+use Rattle.market.specs.Problems.{list_of}
 use Rattle.market.specs.Mechanism.{is_offered}
 use Rattle.market.specs.LocalNumbers.{local_of}
 use Rattle.market.specs.TypeLists.{places_from, type_items, type_places}
+use Rattle.market.proofs.Dicts.{read_lt}
 use Rattle.market.proofs.Tentatives.{offered-is}
 use Rattle.market.proofs.Below.{places_more, places_same, items_more, items_same}
 use Rattle.market.proofs.type_lists.add_list.Goals as goal
 use Rattle.market.proofs.type_lists.add_list.Goals.{then-programme-kind+in_ok-push+in_ok-push-2, else-programme-kind}
-
--- an entry of the list is a programme
-entry_fits : (m : Problem) → IsValid m → (i k : ℕ) (list : List ℕ) → i < length m.lists
-    → list ≡ list_of m i → k < length list → slice_index list k < length m.programmes
-entry_fits m v i k list li e l =
-    let n = ap (λ (xs : List ℕ). length xs) e in
-    let x = ap (λ (xs : List ℕ). slice_index xs k) e in
-    let h = v.list_entries i k li (omega arith) in
-    omega arith
 
 pub loop-place-preserved : goal.loop-place-preserved
 loop-place-preserved c =
@@ -29,8 +21,8 @@ loop-place-preserved c =
     let i = c.args.candidate in
     let p = slice_index xs k in
     let l = c.loop-place-test.true in
-    let lp = entry_fits m c.list-list.ensures.valid i k xs c.requires.candidate
-    c.list-list.ensures.list l in
+    let lp = read_lt xs (list_of m i) (length m.programmes) c.list-list.ensures.list
+    (λ j lj. c.list-list.ensures.valid.list_entries i j c.requires.candidate lj) k l in
     let test = offered-is m t i p c.programme.result c.programme.ensures in
     let f = is_offered m t i in
     elim c.if-programme-kind.branch [

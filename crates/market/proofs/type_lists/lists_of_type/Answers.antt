@@ -1,26 +1,19 @@
-use Rattle.std.proofs.Common.{◌≡◌, ℕ, ◌<◌, ◌∙◌, refl, ap, sym, List, length, take, arith}
+use Rattle.std.proofs.Common.{ℕ, ◌∙◌, refl, ap, sym, List, length, take, arith}
 use Rattle.std.specs.Prelude.{slice_index}
 use Rattle.std.proofs.lemmas.List.{length-append, length-map}
-use Rattle.market.specs.Problems.{Problem, IsValid, order_of}
+use Rattle.market.specs.Problems.{order_of}
 use Rattle.market.specs.TypeLists.{type_items, type_places}
-use Rattle.market.proofs.Dicts.{order-le}
+use Rattle.market.proofs.Dicts.{order-le, read_lt}
 use Rattle.market.proofs.Below.{flat_next, length-type_items, length-type_places}
 use Rattle.market.proofs.type_lists.lists_of_type.Goals as goal
 
--- a candidate of the order is one of the market
-candidate_fits : (m : Problem) → IsValid m → (t k : ℕ) (order : List ℕ) → t < m.types
-    → order ≡ order_of m t → k < length order → slice_index order k < length m.lists
-candidate_fits m v t k order lt e l =
-    let n = ap (λ (xs : List ℕ). length xs) e in
-    let x = ap (λ (xs : List ℕ). slice_index xs k) e in
-    let h = v.order_entries t k lt (omega arith) in
-    omega arith
-
 pub add_list-requires-clause-candidate : goal.add_list-requires-clause-candidate
 add_list-requires-clause-candidate c =
-    candidate_fits c.args.parts.now c.order-order.ensures.valid c.args.kind
-    c.loop-candidate.candidate-index c.order-order.result.now c.requires.kind
-    c.order-order.ensures.order c.loop-candidate-test.true
+    let m = c.args.parts.now in
+    read_lt c.order-order.result.now (order_of m c.args.kind) (length m.lists)
+    c.order-order.ensures.order
+    (λ j lj. c.order-order.ensures.valid.order_entries c.args.kind j c.requires.kind lj)
+    c.loop-candidate.candidate-index c.loop-candidate-test.true
 
 pub overflow_cast-len : goal.overflow_cast-len
 overflow_cast-len c =
@@ -29,8 +22,8 @@ overflow_cast-len c =
     let k = c.loop-candidate.candidate-index in
     let order = c.order-order.result.now in
     let i = slice_index order k in
-    let li = candidate_fits m v c.args.kind k order c.requires.kind c.order-order.ensures.order
-    c.loop-candidate-test.true in
+    let li = read_lt order (order_of m c.args.kind) (length m.lists) c.order-order.ensures.order
+    (λ j lj. v.order_entries c.args.kind j c.requires.kind lj) k c.loop-candidate-test.true in
     let len = ap (λ (ys : List ℕ). length ys) c.in_ok-add_list.ensures.items
     ∙ length-append c.loop-candidate.items.items (type_items m c.args.kind i) in
     let short = v.list_lengths i li in
@@ -49,8 +42,8 @@ loop-candidate-preserved c =
     let k = c.loop-candidate.candidate-index in
     let order = c.order-order.result.now in
     let i = slice_index order k in
-    let li = candidate_fits m v t k order c.requires.kind c.order-order.ensures.order
-    c.loop-candidate-test.true in
+    let li = read_lt order (order_of m t) (length m.lists) c.order-order.ensures.order
+    (λ j lj. v.order_entries t j c.requires.kind lj) k c.loop-candidate-test.true in
     let xs = type_items m t i in
     let qs = type_places m t i in
     let items = c.loop-candidate.items.items in

@@ -1,4 +1,4 @@
-use Rattle.std.proofs.Common.{◌≡◌, ℕ, ◌+◌, ◌<◌, ◌∙◌, ap, sym, subst, length, List, Option, None, arith, set, get_or}
+use Rattle.std.proofs.Common.{◌≡◌, ℕ, ◌+◌, ◌<◌, ◌∙◌, ap, sym, subst, length, List, Option, None, arith, get_or}
 use Rattle.std.specs.Prelude.{slice_index_or}
 use Rattle.std.proofs.lemmas.List.{length-replicate}
 use Rattle.market.specs.declared.limits.TheConstants.{MAX_TYPES}
@@ -25,7 +25,8 @@ loop-candidate-init c =
           ∙ length-replicate {A = Option ℕ} MAX_TYPES None;
       first = λ t l.
           IsFirstUpto-none m ch c.args.cuts.now t (slice_index_or none.result.first t None)
-          (ap (λ (xs : List (Option ℕ)). get_or xs t None) none.ensures.first ∙ none_at MAX_TYPES t);
+          (ap (λ (xs : List (Option ℕ)). get_or xs t None) none.ensures.first
+          ∙ none_at MAX_TYPES t);
     }
 
 pub overflow_add-cut : goal.overflow_add-cut

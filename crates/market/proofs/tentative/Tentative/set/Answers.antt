@@ -12,7 +12,8 @@ returns c =
     let n = ap (λ (xs : List (List (Option ℕ))). length xs) c.self.view_is in
     let k = length-map rows (map decode) in
     let lt : kind < length rows = omega (arith, c.requires.kind) in
-    let row = get_or_read rows kind c.index_mut-row.result.now lt c.index_mut-row.ensures.value [] in
+    let row = get_or_read rows kind c.index_mut-row.result.now lt c.index_mut-row.ensures.value []
+    in
     let new : map decode c.write.new.self
     ≡ set (get_or (map (map decode) rows) kind []) at c.args.choice
     = ap (map decode) c.write.ensures
