@@ -1,0 +1,93 @@
+use Rattle.std.proofs.Common.{◌∙◌, arith}
+use Rattle.market.proofs.Plain.{rounds_small, total_small}
+use Rattle.market.proofs.Replays.{round-within, round-count}
+use Rattle.round_rerun.proofs.Replaying.{replay-none, replay-within, replay-more, replay-fall, replay-last}
+use Rattle.round_rerun.proofs.placing.place_rounds.Goals as goal
+
+pub rounds-init : goal.rounds-init
+rounds-init g c = record {
+  replay = replay-none c.args.market.now c.in_ok-cuts.ensures.valid c.in_ok-cuts.cuts
+      c.in_ok-tentative.tentative c.all-touched.result.first c.in_ok-cuts.ensures.cuts
+      c.in_ok-tentative.ensures.none c.all-touched.ensures.first;
+  steps = omega arith;
+}
+
+pub run_round-requires-clause-within : goal.run_round-requires-clause-within
+run_round-requires-clause-within g c κs within = replay-within c.args.market.now c.rounds.rounds
+    c.rounds.cuts c.rounds.total c.rounds.tentative c.rounds.touched.first c.rounds.done
+    c.rounds.invariant.replay
+
+pub cut_lists-touched-requires-clause-within : goal.cut_lists-touched-requires-clause-within
+cut_lists-touched-requires-clause-within g c = round-within c.args.market.now c.rounds.cuts
+    c.run_round.new.tentative c.in_ok-done.ensures.round
+
+pub overflow_add-result : goal.overflow_add-result
+overflow_add-result g c = let h = rounds_small c.args.market.now c.in_ok-cuts.ensures.valid
+    c.rounds.rounds c.rounds.total c.rounds.cuts c.rounds.invariant.replay.rounds in omega arith
+
+pub overflow_add-rounds : goal.overflow_add-rounds
+overflow_add-rounds g c = let h = rounds_small c.args.market.now c.in_ok-cuts.ensures.valid
+    c.rounds.rounds c.rounds.total c.rounds.cuts c.rounds.invariant.replay.rounds in omega arith
+
+pub overflow_add-total : goal.overflow_add-total
+overflow_add-total g c =
+    let m = c.args.market.now in
+    let h = total_small m c.in_ok-cuts.ensures.valid c.rounds.rounds c.rounds.total
+    c.several-count.result c.rounds.cuts c.rounds.invariant.replay.rounds (c.several-count.ensures
+    ∙ c.cut_lists-touched.ensures.several ∙ round-count m c.rounds.cuts c.run_round.new.tentative
+    c.in_ok-done.ensures.round) in
+    omega arith
+
+pub returns-then-count-eq0-clause-placement : goal.returns-then-count-eq0-clause-placement
+returns-then-count-eq0-clause-placement g c =
+    (replay-last c.args.market.now c.in_ok-cuts.ensures.valid c.rounds.rounds c.rounds.cuts
+    c.rounds.total c.several-count.result c.rounds.tentative c.run_round.new.tentative
+    c.rounds.touched.first c.rounds.done c.in_ok-done.field-0 c.from_vec.result
+    c.rounds.invariant.replay c.in_ok-done.ensures.round c.in_ok-done.ensures.count
+    (c.several-count.ensures ∙ c.cut_lists-touched.ensures.several) c.if-count-eq0.true
+    (c.from_vec.ensures ∙ c.in_ok-held.ensures)).placement
+
+pub returns-then-count-eq0-clause-rounds : goal.returns-then-count-eq0-clause-rounds
+returns-then-count-eq0-clause-rounds g c =
+    (replay-last c.args.market.now c.in_ok-cuts.ensures.valid c.rounds.rounds c.rounds.cuts
+    c.rounds.total c.several-count.result c.rounds.tentative c.run_round.new.tentative
+    c.rounds.touched.first c.rounds.done c.in_ok-done.field-0 c.from_vec.result
+    c.rounds.invariant.replay c.in_ok-done.ensures.round c.in_ok-done.ensures.count
+    (c.several-count.ensures ∙ c.cut_lists-touched.ensures.several) c.if-count-eq0.true
+    (c.from_vec.ensures ∙ c.in_ok-held.ensures)).rounds'
+
+pub returns-then-count-eq0-clause-cuts : goal.returns-then-count-eq0-clause-cuts
+returns-then-count-eq0-clause-cuts g c =
+    (replay-last c.args.market.now c.in_ok-cuts.ensures.valid c.rounds.rounds c.rounds.cuts
+    c.rounds.total c.several-count.result c.rounds.tentative c.run_round.new.tentative
+    c.rounds.touched.first c.rounds.done c.in_ok-done.field-0 c.from_vec.result
+    c.rounds.invariant.replay c.in_ok-done.ensures.round c.in_ok-done.ensures.count
+    (c.several-count.ensures ∙ c.cut_lists-touched.ensures.several) c.if-count-eq0.true
+    (c.from_vec.ensures ∙ c.in_ok-held.ensures)).cuts'
+
+pub returns-then-count-eq0-clause-reruns : goal.returns-then-count-eq0-clause-reruns
+returns-then-count-eq0-clause-reruns g c =
+    (replay-last c.args.market.now c.in_ok-cuts.ensures.valid c.rounds.rounds c.rounds.cuts
+    c.rounds.total c.several-count.result c.rounds.tentative c.run_round.new.tentative
+    c.rounds.touched.first c.rounds.done c.in_ok-done.field-0 c.from_vec.result
+    c.rounds.invariant.replay c.in_ok-done.ensures.round c.in_ok-done.ensures.count
+    (c.several-count.ensures ∙ c.cut_lists-touched.ensures.several) c.if-count-eq0.true
+    (c.from_vec.ensures ∙ c.in_ok-held.ensures)).turns'
+
+pub rounds-smaller : goal.rounds-smaller
+rounds-smaller g c = replay-fall c.args.market.now c.in_ok-cuts.ensures.valid c.rounds.cuts
+    c.cut_lists-touched.new.cuts c.several-count.result c.run_round.new.tentative
+    c.in_ok-done.ensures.round c.cut_lists-touched.ensures.cuts (c.several-count.ensures
+    ∙ c.cut_lists-touched.ensures.several) c.if-count-eq0.false
+
+pub rounds-preserved : goal.rounds-preserved
+rounds-preserved g c = record {
+  replay = replay-more c.args.market.now c.in_ok-cuts.ensures.valid c.rounds.rounds c.rounds.cuts
+      c.cut_lists-touched.new.cuts c.rounds.total c.several-count.result c.rounds.tentative
+      c.run_round.new.tentative c.rounds.touched.first c.cut_lists-touched.result.first
+      c.rounds.done c.in_ok-done.field-0 c.rounds.invariant.replay c.in_ok-done.ensures.round
+      c.in_ok-done.ensures.count c.in_ok-done.ensures.few c.cut_lists-touched.ensures.cuts
+      (c.several-count.ensures ∙ c.cut_lists-touched.ensures.several)
+      c.cut_lists-touched.ensures.first c.if-count-eq0.false;
+  steps = omega (arith, c.rounds.invariant.steps, c.in_ok-done.ensures.turns);
+}

@@ -1,0 +1,3 @@
+-- The definitions. Which turns a placement runs stands in market.
+-- the turns of one round
+pub mod Runs

@@ -1,0 +1,121 @@
+// One type of a round, from a turn on.
+
+ghost use Rattle.std.specs.Prelude.{◌≡◌, ℕ, ◌+◌, ◌-◌, ◌<◌, ◌≤◌, [], length, slice_index, slice_index_or, IfOk, Option, unwrap_or};
+ghost use Rattle.interleaving_core.specs.declared.limits.TheConstants.{MAX_WORKERS};
+ghost use Rattle.market.specs.Problems.{order_of, kind_of};
+ghost use Rattle.market.specs.Mechanism.{IsCuts};
+ghost use Rattle.market.specs.Choices.{programme_in};
+ghost use Rattle.market.specs.Reruns.{IsRunUpto, IsKeptFill};
+
+use gate_workers::{Gate, run_team};
+use market::{Cuts, Market, Steps, Tentative};
+use std::alloc::{AllocError, Global};
+use std::sync::ledger::Ledger;
+use std::thread::Threads;
+
+/// Runs the turns of a type that is touched from its first turn to run on, and says how many they
+/// are. Of a type that is not touched nothing is run.
+pub fn run_touched<R: Threads + Sync, G: Gate, L: Ledger>(
+    rt: &R,
+    alloc: Global,
+    workers: u32,
+    gate: &G,
+    market: &Market,
+    kind: u32,
+    cuts: &Cuts,
+    first: Option<u32>,
+    tentative: &mut Tentative,
+    turns: &mut Steps<L>,
+) -> Result<u32, AllocError>
+    requires workers { (0 < workers) × (workers ≤ MAX_WORKERS) }
+    requires kind { kind < market.now.types }
+    requires cuts { IsCuts market.now cuts.now }
+    requires from { unwrap_or first (length (order_of market.now kind))
+        ≤ length (order_of market.now kind) }
+    requires types { length tentative.old ≡ market.now.types }
+    requires kept { IsRunUpto market.now cuts.now kind
+        (unwrap_or first (length (order_of market.now kind)))
+        (slice_index_or tentative.old kind []) }
+    ensures types { IfOk result (λ _. length tentative.new ≡ market.now.types) }
+    ensures row { IfOk result (λ _. IsRunUpto market.now cuts.now kind
+        (length (order_of market.now kind)) (slice_index_or tentative.new kind [])) }
+    ensures others { IfOk result (λ _. (t : ℕ) → (t ≡ kind → ⊥)
+        → slice_index_or tentative.new t [] ≡ slice_index_or tentative.old t []) }
+    ensures count { IfOk result (λ n. n ≡ length (order_of market.now kind)
+        - unwrap_or first (length (order_of market.now kind))) }
+    ensures turns { IfOk result (λ n. turns.new ≡ turns.old + n) }
+{
+    match first {
+        Some(from) => run_type(
+            rt, alloc, workers, gate, market, kind, cuts, from, tentative, turns,
+        ),
+        None => Ok(0),
+    }
+}
+
+// Runs the turns of a type from a turn on, by a team, and says how many they are.
+fn run_type<R: Threads + Sync, G: Gate, L: Ledger>(
+    rt: &R,
+    alloc: Global,
+    workers: u32,
+    gate: &G,
+    market: &Market,
+    kind: u32,
+    cuts: &Cuts,
+    from: u32,
+    tentative: &mut Tentative,
+    turns: &mut Steps<L>,
+) -> Result<u32, AllocError>
+    requires workers { (0 < workers) × (workers ≤ MAX_WORKERS) }
+    requires kind { kind < market.now.types }
+    requires cuts { IsCuts market.now cuts.now }
+    requires from { from ≤ length (order_of market.now kind) }
+    requires types { length tentative.old ≡ market.now.types }
+    requires kept { IsRunUpto market.now cuts.now kind from (slice_index_or tentative.old kind []) }
+    ensures types { IfOk result (λ _. length tentative.new ≡ market.now.types) }
+    ensures row { IfOk result (λ _. IsRunUpto market.now cuts.now kind
+        (length (order_of market.now kind)) (slice_index_or tentative.new kind [])) }
+    ensures others { IfOk result (λ _. (t : ℕ) → (t ≡ kind → ⊥)
+        → slice_index_or tentative.new t [] ≡ slice_index_or tentative.old t []) }
+    ensures count { IfOk result (λ n. n ≡ length (order_of market.now kind) - from) }
+    ensures turns { IfOk result (λ n. turns.new ≡ turns.old + n) }
+{
+    // Its clause says that the market is valid.
+    let _ = market.type_count();
+    let fill = kept_fill(alloc, market, kind, from, tentative)?;
+    let dict = market.dict(alloc, kind, cuts, from, &fill)?;
+    let words = run_team(rt, alloc, &dict, workers, gate, turns)?;
+    for turn in 0..dict.turns() {
+        tentative.write_turn(market, cuts, kind, from, &dict, turn, words.choice(turn));
+    }
+    Ok(dict.turns())
+}
+
+// The seats of each programme of a type that the kept choices of its first turns have taken.
+fn kept_fill(
+    alloc: Global,
+    market: &Market,
+    kind: u32,
+    from: u32,
+    tentative: &Tentative,
+) -> Result<Vec<u32>, AllocError>
+    requires kind { kind < market.now.types }
+    requires types { length tentative.now ≡ market.now.types }
+    requires row { length (slice_index_or tentative.now kind []) ≡ length market.now.lists }
+    requires from { from ≤ length (order_of market.now kind) }
+    requires programmes { (j p : ℕ) → j < from
+        → programme_in tentative.now kind (slice_index (order_of market.now kind) j) ≡ Option.Some p
+        → (p < length market.now.programmes) × (kind_of market.now p ≡ kind) }
+    ensures { IfOk result (λ fill.
+        IsKeptFill market.now (programme_in tentative.now) kind from fill.items) }
+{
+    let order = market.order(kind);
+    let mut fill = vec![in alloc; 0u32; market.type_programmes(kind).len()]?;
+    for turn in 0..from {
+        if let Some(programme) = tentative.choice(kind, order[turn as usize]) {
+            let number = market.local(programme);
+            fill[number as usize] += 1;
+        }
+    }
+    Ok(fill)
+}
