@@ -1,6 +1,14 @@
 -- What a shelf holds, and what its calls do.
 use Rattle.std.specs.Prelude.{◌≡◌, ℕ, ◌+◌, ◌-◌, ◌^◌, ◌<◌, ◌≤◌, ◌⊎◌, min, max, List, [], ◌++◌, length, take, Option, Some, None, Result, Ok, Err, IsSome, ⊤}
 
+-- the most bytes that a file may have
+abbrev pub file_limit : ℕ
+file_limit = 2 ^ 30
+
+-- how many bytes of a file are taken at once
+abbrev pub piece_size : ℕ
+piece_size = 2 ^ 16
+
 -- the bytes held under each name
 abbrev pub Files : Type 0
 Files = List ℕ → Option (List ℕ)
@@ -31,9 +39,13 @@ abbrev pub Takes : {E : Type 0} → Option (List ℕ) → Option (List ℕ) → 
 Takes old new (Ok n) into = TakesCount old new n into
 Takes old new (Err _) into = new ≡ None
 
+-- the tally after n more bytes, which stands still at its last value
+abbrev pub tally_with : ℕ → ℕ → ℕ
+tally_with tally n = max tally (min (tally + n) (2 ^ 64 - 1))
+
 -- the tally after an answer
 abbrev pub tally_after : {E : Type 0} → ℕ → Result ℕ E → ℕ
-tally_after tally (Ok n) = max tally (min (tally + n) (2 ^ 64 - 1))
+tally_after tally (Ok n) = tally_with tally n
 tally_after tally (Err _) = tally
 
 -- these bytes were taken of the named file, and this is the rest

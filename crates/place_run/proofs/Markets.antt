@@ -18,8 +18,8 @@ use Rattle.programme_table.specs.Table.{Programmes, codes_of, prog_of}
 use Rattle.candidate_table.specs.Table.{Candidates, IsPreferenceList, numbers_of}
 use Rattle.rank_lists.specs.RankTables.{RankTable, ranks_table}
 use Rattle.rank_lists.specs.Soundness.{IsSound}
-use Rattle.place_run.specs.Steps.{IsPlaced}
-use Rattle.place_run.specs.ThreeFiles.{market_of, placement_of, placement_text}
+use Rattle.place_run.specs.Tables.{Tables, problem_of, problem_with}
+use Rattle.place_run.specs.commands.Place.{IsPlaced, placement_of, placement_text}
 
 -- a ranks file gives an order to each type
 pub types-in-ranks : (names : List (List ℕ)) (numbers bytes : List ℕ)
@@ -133,22 +133,22 @@ pub built-market : {E : Type 0} (result : Result Problem E) (programmes : Progra
     → IfOk result (λ m. m.types ≡ types) → IfOk result (λ m. m.programmes ≡ rows)
     → IfOk result (λ m. m.lists ≡ lists)
     → IfOk result (λ m. m.orders ≡ orders) → IfOk result (λ m. m.ranks ≡ ranks)
-    → IfOk result (λ m. m ≡ market_of programmes lists table)
-unfolding market_of
+    → IfOk result (λ m. m ≡ problem_with programmes lists table)
+unfolding problem_with
 built-market (Ok m) programmes table types rows lists orders ranks ts ps os rs a b c d e =
-    same-parts m (market_of programmes lists table) (a ∙ ts) (b ∙ ps) c (d ∙ os) (e ∙ rs)
+    same-parts m (problem_with programmes lists table) (a ∙ ts) (b ∙ ps) c (d ∙ os) (e ∙ rs)
 built-market (Err x) programmes table types rows lists orders ranks ts ps os rs a b c d e = tt
 
 -- the lists of a market of three tables
 pub lists-of_market : (programmes : Programmes) (lists : List (List ℕ)) (table : RankTable)
-    → (market_of programmes lists table).lists ≡ lists
-unfolding market_of
+    → (problem_with programmes lists table).lists ≡ lists
+unfolding problem_with
 lists-of_market programmes lists table = refl
 
 -- how many programmes it has
 pub programmes-of_market : (programmes : Programmes) (lists : List (List ℕ)) (table : RankTable)
-    → length (market_of programmes lists table).programmes ≡ length (codes_of programmes.rows)
-unfolding market_of
+    → length (problem_with programmes lists table).programmes ≡ length (codes_of programmes.rows)
+unfolding problem_with
 programmes-of_market programmes lists table = length-map programmes.rows prog_of ∙ sym
     (length-map programmes.rows (λ row. row.code))
 
@@ -175,21 +175,21 @@ held-within m held valid placement i p holds =
     (cases_lt i (length m.lists))
 
 -- the text of the placement, with what the laws say of it
-pub placed-text : (programmes : Programmes) (candidates : Candidates) (table : RankTable)
-    (m : Problem) (text : List ℕ)
-    (held : List (Option ℕ)) (numbers : List (ℕ × ℕ))
-    → m ≡ market_of programmes candidates.lists table
-    → IsValid m → IsWorstStable m (mechanism_placement m) → held ≡ mechanism_placement m
-    → numbers ≡ candidates.lines
+pub placed-text : (tables : Tables) (m : Problem) (text : List ℕ) (held : List (Option ℕ))
+    (programmes : Programmes) (numbers : List (ℕ × ℕ))
+    → m ≡ problem_of tables → IsValid m → IsWorstStable m (mechanism_placement m)
+    → held ≡ mechanism_placement m → programmes ≡ tables.programmes
+    → numbers ≡ tables.candidates.lines
     → text ≡ placement_text (codes_of programmes.rows) (numbers_of numbers) held
-    → IsPlaced programmes candidates table text
+    → IsPlaced tables text
 unfolding placement_of
-placed-text programmes candidates table m text held numbers same valid worst places numbered written =
-    let codes = codes_of programmes.rows in
+placed-text tables m text held programmes numbers same valid worst places coded numbered written =
     record {
       market = subst IsValid same valid;
       worst = subst (λ (v : Problem). IsWorstStable v (mechanism_placement v)) same worst;
-      printed = written ∙ ap (λ v. placement_text codes (numbers_of v) held) numbered
-          ∙ ap (λ v. placement_text codes (numbers_of candidates.lines) v)
-          (places ∙ ap mechanism_placement same);
+      printed = written
+          ∙ ap (λ (v : Programmes). placement_text (codes_of v.rows) (numbers_of numbers) held) coded
+          ∙ ap (λ v. placement_text (codes_of tables.programmes.rows) (numbers_of v) held) numbered
+          ∙ ap (λ v. placement_text (codes_of tables.programmes.rows)
+          (numbers_of tables.candidates.lines) v) (places ∙ ap mechanism_placement same);
     }

@@ -7,7 +7,7 @@ use Rattle.std.proofs.lemmas.List.{flat_map_more, take_more, take_all}
 use Rattle.std.proofs.lemmas.Option.{slice_get-get_or}
 use Rattle.std.proofs.lemmas.Slice.Zip.{length-zip, get_or-zip}
 use Rattle.record_files.specs.Texts.{row_text}
-use Rattle.place_run.specs.ThreeFiles.{candidate_row, placement_text}
+use Rattle.place_run.specs.commands.Place.{candidate_row, placement_text}
 
 -- the header of a placement
 abbrev pub header : List ℕ
