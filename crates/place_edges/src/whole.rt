@@ -1,8 +1,9 @@
 // A file read whole, and a text written whole.
-ghost use Rattle.std.specs.Prelude.{◌≡◌, ◌+◌, ◌≤◌, IfOk, IsTrue, IsErrOf, vec_len};
+ghost use Rattle.std.specs.Prelude.{◌≡◌, ◌≤◌, IfOk, IsTrue, IsErrOf, vec_len};
 ghost use Rattle.place_edges.specs.Causes.{Rose};
-ghost use Rattle.place_edges.specs.Shelf.{HasBytes, HasMore, GaveMore, file_limit, piece_size, tally_with};
+ghost use Rattle.place_edges.specs.Shelf.{HasBytes, HasMore, file_limit, tally_with};
 ghost use Rattle.place_edges.specs.Sink.{IsWritten};
+ghost use Rattle.place_edges.specs.Whole.{HasTally};
 
 use crate::{Failed, Shelf, Sink};
 use std::alloc::{AllocError, Global};
@@ -52,24 +53,12 @@ pub fn read_whole<H: Shelf>(alloc: Global, shelf: &mut H, name: &str) -> Result<
     ensures bytes { IfOk result (λ bytes. HasBytes (H.files shelf.old) name.now bytes.items) }
     ensures few { IfOk result (λ bytes. vec_len bytes ≤ file_limit) }
 
-    // The tally rises by what is given. A file is too long only where more than 2^30 bytes were
-    // taken; else no more were taken than that, and in no case more than one piece beyond it.
+    // The tally rises by what is given, and says where the file is too long.
     ensures given { IfOk result (λ bytes.
         H.tally shelf.new ≡ tally_with (H.tally shelf.old) (vec_len bytes)) }
+    ensures tally { HasTally result (H.tally shelf.old) (H.tally shelf.new) }
     ensures long { IsErrOf result ReadStop.TooLong
         → HasMore (H.files shelf.old) name.now file_limit }
-    ensures long_cause { IsErrOf result ReadStop.TooLong
-        → GaveMore (H.tally shelf.old) (H.tally shelf.new) file_limit }
-    ensures short_failed { IsErrOf result ReadStop.Failed
-        → H.tally shelf.new ≤ H.tally shelf.old + file_limit }
-    ensures short_memory { IsErrOf result ReadStop.Memory
-        → H.tally shelf.new ≤ H.tally shelf.old + file_limit }
-    ensures bounded { H.tally shelf.new ≤ H.tally shelf.old + file_limit + piece_size }
-    ensures tally { H.tally shelf.old ≤ H.tally shelf.new }
-
-    // Memory is refused only where bytes were taken.
-    ensures memory_cause { IsErrOf result ReadStop.Memory
-        → tally_with (H.tally shelf.old) 1 ≤ H.tally shelf.new }
 
     // A read fails only where the shelf failed.
     ensures failed { IsErrOf result ReadStop.Failed

@@ -1,5 +1,5 @@
 -- What a run leaves of a sink, and what follows where no read and no write failed.
-use Rattle.std.proofs.Common.{◌≡◌, ◌⊎◌, ◌∙◌, ◌<◌, ◌≤◌, ◌-◌, ◌^◌, ℕ, List, [], refl, sym, ap, subst, take, inl, inr, arith, Option, Some, None, Result, Ok, Err, ⊎_elim}
+use Rattle.std.proofs.Common.{◌≡◌, ◌⊎◌, ◌∙◌, ◌≤◌, ℕ, List, [], refl, sym, ap, subst, take, inl, inr, arith, Option, Some, None, Result, Ok, Err, ⊎_elim}
 use Rattle.std.specs.Prelude.{length}
 use Rattle.place_base.specs.declared.fault.FileFault.{FileFault}
 use Rattle.place_base.specs.declared.fault.FileKind.{FileKind}
@@ -11,16 +11,15 @@ use Rattle.command_words.specs.declared.words.WordsFault.{WordsFault}
 use Rattle.place_edges.specs.Causes.{Rose}
 use Rattle.place_edges.specs.Shelf.{Files, GaveMore, file_limit}
 use Rattle.place_edges.specs.Sink.{Appended}
-use Rattle.programme_table.specs.Table.{codes_of, programmes_table}
-use Rattle.candidate_table.specs.Table.{candidates_table, numbers_of}
-use Rattle.rank_lists.specs.RankTables.{ranks_table}
+use Rattle.programme_table.specs.Table.{codes_of}
+use Rattle.candidate_table.specs.Table.{numbers_of}
 use Rattle.run_frame.specs.Files.{AreHeld, Reads}
 use Rattle.run_frame.specs.Meetings.{Meets}
 use Rattle.run_frame.specs.Stops.{too_long}
 use Rattle.run_frame.specs.declared.stop.FileStop.{FileStop}
 use Rattle.run_frame.specs.declared.stop.FileStop.TheVariants.{Fault, ReadFault, Memory}
 use Rattle.run_frame.proofs.Parts.{appended-nothing}
-use Rattle.place_run.specs.Runs.{IsAnswering, IsConstant, IsFinished, IsRun, IsWhole, PlacesWhole, PrintsWorstStable, StaysInFront, Untouched, WordsCause, status_said, text_said}
+use Rattle.place_run.specs.Runs.{HasCause, IsAnswering, IsComplete, IsConstant, IsFinished, IsRun, IsWhole, LeavesSink, PlacesWhole, PrintsWorstStable, StaysInFront, Untouched, WordsCause, status_said, text_said}
 use Rattle.place_run.specs.Says.{Answer, KeepsPromise, and_then, answered, done, named, opened, says, tables_said}
 use Rattle.place_run.specs.Statuses.{ended, status_of}
 use Rattle.place_run.specs.Stops.{is_free}
@@ -79,13 +78,13 @@ stopped written faults (Ok answer) status old new stop (inr (fault, wrote, rose)
 stopped written faults (Err other) status old new stop (is, same_sink) same =
     (ap (λ v. Err v) (same-stop other stop (sym is ∙ same)), same_sink)
 
-pub untouched-finished : {K : Type 0} (written : K → Option (List ℕ)) (faults : K → ℕ)
+untouched-finished : {K : Type 0} (written : K → Option (List ℕ)) (faults : K → ℕ)
     (answer : Result Answer Stop) (status : Status) (old new : K)
     → IsFinished written faults answer status old new → Untouched status old new
 untouched-finished written faults answer status old new finished =
     λ stop same. (stopped written faults answer status old new stop finished same).1
 
-pub front-finished : {K : Type 0} (written : K → Option (List ℕ)) (faults : K → ℕ)
+front-finished : {K : Type 0} (written : K → Option (List ℕ)) (faults : K → ℕ)
     (answer : Result Answer Stop) (status : Status) (old new : K)
     → IsFinished written faults answer status old new → StaysInFront (written old) (written new)
 front-finished written faults (Ok answer) status old new (inl (well, wrote)) = (answer.text, wrote)
@@ -133,7 +132,7 @@ said-words said refused (inl free) = cc free
 said-words said refused (inr e) = e
 
 -- a run is an answer and how it was written
-pub run-of : {K : Type 0} (written : K → Option (List ℕ)) (faults : K → ℕ)
+abbrev pub run-of : {K : Type 0} (written : K → Option (List ℕ)) (faults : K → ℕ)
     (told : Option Files) (words : List (List ℕ)) (answer : Result Answer Stop) (status : Status)
     (old new : K) (before now tally_before tally_now : ℕ)
     → IsAnswering told words (command_of words) answer before now tally_before tally_now
@@ -142,7 +141,7 @@ pub run-of : {K : Type 0} (written : K → Option (List ℕ)) (faults : K → �
 run-of written faults told words answer status old new before now tally_before tally_now answers
     finished = record { answer = answer; answers = answers; finished = finished }
 
-pub words-cause : {K : Type 0} (written : K → Option (List ℕ)) (faults : K → ℕ)
+words-cause : {K : Type 0} (written : K → Option (List ℕ)) (faults : K → ℕ)
     (told : Option Files) (words : List (List ℕ)) (status : Status) (old new : K)
     (before now tally_before tally_now : ℕ)
     (run : IsRun written faults told words status old new before now tally_before tally_now)
@@ -161,7 +160,7 @@ words-cause written faults told words status old new before now tally_before tal
           run.finished).0;
     }
 
-pub read-cause : {K : Type 0} (written : K → Option (List ℕ)) (faults : K → ℕ)
+read-cause : {K : Type 0} (written : K → Option (List ℕ)) (faults : K → ℕ)
     (told : Option Files) (words : List (List ℕ)) (status : Status) (old new : K)
     (before now tally_before tally_now : ℕ)
     → IsRun written faults told words status old new before now tally_before tally_now
@@ -170,7 +169,7 @@ read-cause written faults told words status old new before now tally_before tall
     run.answers.reading.causes.read
     (stopped written faults run.answer status old new (File ReadFault) run.finished same).0
 
-pub long-cause : {K : Type 0} (written : K → Option (List ℕ)) (faults : K → ℕ)
+long-cause : {K : Type 0} (written : K → Option (List ℕ)) (faults : K → ℕ)
     (told : Option Files) (words : List (List ℕ)) (status : Status) (old new : K)
     (before now tally_before tally_now : ℕ) (kind : FileKind)
     → IsRun written faults told words status old new before now tally_before tally_now
@@ -183,7 +182,7 @@ long-cause written faults told words status old new before now tally_before tall
 ended-no-fault : (end : Ending) → ended end ≡ ends.WriteFault → ⊥
 ended-no-fault ending.Done e = cc e
 
-pub write-cause : {K : Type 0} (written : K → Option (List ℕ)) (faults : K → ℕ)
+write-cause : {K : Type 0} (written : K → Option (List ℕ)) (faults : K → ℕ)
     (answer : Result Answer Stop) (status : Status) (old new : K)
     → IsFinished written faults answer status old new → status ≡ ends.WriteFault
     → Rose (faults old) (faults new)
@@ -221,7 +220,7 @@ worst-done written faults told words status old new before now tally_before tall
         absurd (ended-well ending.Done stop (sym well ∙ is))
 
 -- where no read and no write failed, all that is said was done, or memory was refused
-pub whole-run : {K : Type 0} (written : K → Option (List ℕ)) (faults : K → ℕ)
+whole-run : {K : Type 0} (written : K → Option (List ℕ)) (faults : K → ℕ)
     (told : Option Files) (words : List (List ℕ)) (status : Status) (old new : K)
     (before now tally_before tally_now : ℕ)
     → IsRun written faults told words status old new before now tally_before tally_now
@@ -299,7 +298,7 @@ three-said reads three read faultless =
     (rw read.candidates (rw (says-candidates three faultless)
     (rw read.ranks (rw (says-ranks three faultless) refl)))))
 
-pub places-whole : (told : Option Files) (words : List (List ℕ)) (status : Status)
+places-whole : (told : Option Files) (words : List (List ℕ)) (status : Status)
     (old new : Option (List ℕ))
     → IsWhole told words status old new → PlacesWhole told words status old new
 places-whole None words status old new whole = tt
@@ -321,3 +320,44 @@ places-whole (Some files) words status old new (reads, held, whole) =
       subst (λ v. Appended old new v) (ap text_said same ∙ printed-in three) other.3,
     ))
     whole
+
+pub complete-run : {K : Type 0} (written : K → Option (List ℕ)) (faults : K → ℕ)
+    (told : Option Files) (words : List (List ℕ)) (status : Status) (old new : K)
+    (before now tally_before tally_now : ℕ)
+    → IsRun written faults told words status old new before now tally_before tally_now
+    → (Rose before now → ⊥) → (Rose (faults old) (faults new) → ⊥)
+    → IsComplete told words status (written old) (written new)
+complete-run written faults told words status old new before now tally_before tally_now run no_read
+    no_write =
+    let whole = whole-run written faults told words status old new before now tally_before tally_now
+    run no_read no_write in
+    record {
+      whole = whole;
+      places = places-whole told words status (written old) (written new) whole;
+    }
+
+pub causes-run : {K : Type 0} (written : K → Option (List ℕ)) (faults : K → ℕ)
+    (told : Option Files) (words : List (List ℕ)) (status : Status) (old new : K)
+    (before now tally_before tally_now : ℕ)
+    (run : IsRun written faults told words status old new before now tally_before tally_now)
+    → ((refused : WordsFault) → command_of words ≡ Err refused → run.answer ≡ Err (Words refused))
+    → HasCause (command_of words) status before now tally_before tally_now (faults old) (faults new)
+causes-run written faults told words status old new before now tally_before tally_now run exact =
+    record {
+      words = words-cause written faults told words status old new before now tally_before tally_now
+          run exact;
+      read = read-cause written faults told words status old new before now tally_before tally_now run;
+      long = λ kind. long-cause written faults told words status old new before now tally_before
+          tally_now kind run;
+      write = write-cause written faults run.answer status old new run.finished;
+    }
+
+pub leaves-sink : {K : Type 0} (written : K → Option (List ℕ)) (faults : K → ℕ)
+    (answer : Result Answer Stop) (status : Status) (old new : K)
+    → IsFinished written faults answer status old new → faults old ≤ faults new
+    → LeavesSink written faults status old new
+leaves-sink written faults answer status old new finished later = record {
+  kept = front-finished written faults answer status old new finished;
+  untouched = untouched-finished written faults answer status old new finished;
+  later = later;
+}

@@ -15,7 +15,7 @@ use Rattle.market.specs.declared.placement.Outcome.{Outcome}
 use Rattle.market.specs.declared.programme.Prog.{Prog}
 use Rattle.market.proofs.Firsts.{place_get}
 use Rattle.programme_table.specs.Table.{Programmes, codes_of, prog_of}
-use Rattle.candidate_table.specs.Table.{Candidates, IsPreferenceList, numbers_of}
+use Rattle.candidate_table.specs.Table.{IsPreferenceList, numbers_of}
 use Rattle.rank_lists.specs.RankTables.{RankTable, ranks_table}
 use Rattle.rank_lists.specs.Soundness.{IsSound}
 use Rattle.place_run.specs.Tables.{Tables, problem_of, problem_with}

@@ -1,5 +1,5 @@
 -- Files that are read and judged one after the other come to what is said of all of them.
-use Rattle.std.proofs.Common.{◌≡◌, ℕ, ◌≤◌, List, [], ◌∷◌, Option, Some, None, Result, Ok, Err, refl, sym, ap, subst, ◌∙◌, inl, inr, arith, ⊎_elim}
+use Rattle.std.proofs.Common.{◌≡◌, ℕ, ◌≤◌, List, Option, Some, None, Result, Ok, Err, refl, sym, ap, subst, ◌∙◌, inl, inr, arith, ⊎_elim}
 use Rattle.std.specs.Prelude.{Bool, IsTrue, IsFalse, option_map}
 use Rattle.place_base.specs.declared.fault.FileKind.TheVariants as file
 use Rattle.place_edges.specs.Shelf.{Files, GaveMore, file_limit}
@@ -14,7 +14,7 @@ use Rattle.run_frame.specs.declared.stop.FileStop.TheVariants.{Fault, ReadFault}
 use Rattle.place_run.specs.Runs.{IsReading}
 use Rattle.place_run.specs.Says.{MayOpenTables, named, opened, read_from, tables_read, tables_said}
 use Rattle.place_run.specs.Stops as stops
-use Rattle.place_run.specs.Tables.{Tables, candidates_said, programmes_said, ranks_said}
+use Rattle.place_run.specs.Tables.{candidates_said, programmes_said, ranks_said}
 use Rattle.place_run.specs.declared.status.Stop.{Stop}
 use Rattle.place_run.specs.declared.status.Stop.TheVariants.{File}
 

@@ -1,5 +1,5 @@
 -- What may be said of a run: the promise of the top call.
-use Rattle.std.specs.Prelude.{◌≡◌, ◌<◌, ◌⊎◌, ℕ, ◌-◌, ◌^◌, List, [], IfOk, IsErrOf, Option, Some, None, Result, Ok, Err, ⊤}
+use Rattle.std.specs.Prelude.{◌≡◌, ◌≤◌, ◌<◌, ◌⊎◌, ℕ, ◌-◌, ◌^◌, List, [], IfOk, IsErrOf, Option, Some, None, Result, Ok, Err, ⊤}
 use Rattle.place_base.specs.declared.fault.FileKind.{FileKind}
 use Rattle.command_words.specs.Words.{command_of}
 use Rattle.command_words.specs.declared.words.Command.{Command}
@@ -7,10 +7,11 @@ use Rattle.command_words.specs.declared.words.Command.TheVariants.{Place}
 use Rattle.command_words.specs.declared.words.WordsFault.{WordsFault}
 use Rattle.market.specs.Mechanism.{mechanism_placement}
 use Rattle.place_edges.specs.Causes.{Rose}
-use Rattle.place_edges.specs.Shelf.{Files}
+use Rattle.place_edges.specs.Shelf.{Files, GaveMore, file_limit}
 use Rattle.place_edges.specs.Sink.{Appended, AppendedPrefix}
 use Rattle.run_frame.specs.Files.{AreHeld, AreTaken, HasBegun, HasCauses, Reads}
 use Rattle.run_frame.specs.Meetings.{IsDecided, Meets}
+use Rattle.run_frame.specs.Stops.{too_long}
 use Rattle.run_frame.specs.declared.stop.FileStop.TheVariants as file
 use Rattle.place_run.specs.Says.{KeepsPromise, Answer, files_read, first_file, named, says}
 use Rattle.place_run.specs.Statuses.{ended, status_of}
@@ -118,6 +119,12 @@ PlacesWhole (Some files) words status old new =
     × Appended old new (placement_text (codes_in three) (numbers_in three)
     (mechanism_placement (problem_of (tables_in three)))))
 
+-- both: all that is said is done, and files without a fault are placed
+pub record IsComplete (told : Option Files) (words : List (List ℕ)) (status : Status)
+    (old new : Option (List ℕ)) : Type 0 where
+  pub whole : IsWhole told words status old new
+  pub places : PlacesWhole told words status old new
+
 -- a count is the same at every moment, and can still rise
 abbrev pub IsConstant : {S : Type 0} → (S → ℕ) → Type 0
 IsConstant {S} count = (n : ℕ) × (n < 2 ^ 64 - 1) × ((state : S) → count state ≡ n)
@@ -138,3 +145,20 @@ IsWordsRefusal status = (refused : WordsFault) × (status ≡ ends.Words refused
 pub record WordsCause (command : Result Command WordsFault) (status : Status) : Type 0 where
   pub only : (refused : WordsFault) → status ≡ ends.Words refused → command ≡ Err refused
   pub always : (refused : WordsFault) → command ≡ Err refused → status ≡ ends.Words refused
+
+-- Each refusal has its cause: words by the grammar, a read fault and a write fault by the counts, a
+-- file that is too long by the tally.
+pub record HasCause (command : Result Command WordsFault) (status : Status)
+    (before now tally_before tally_now out_before out_now : ℕ) : Type 0 where
+  pub words : WordsCause command status
+  pub read : status ≡ ends.ReadFault → Rose before now
+  pub long : (kind : FileKind) → status ≡ ends.FileFault (too_long kind)
+      → GaveMore tally_before tally_now file_limit
+  pub write : status ≡ ends.WriteFault → Rose out_before out_now
+
+-- What was written before stays in front, and after a refusal the sink is as it was. No count falls.
+pub record LeavesSink {K : Type 0} (written : K → Option (List ℕ)) (faults : K → ℕ)
+    (status : Status) (old new : K) : Type 0 where
+  pub kept : StaysInFront (written old) (written new)
+  pub untouched : Untouched status old new
+  pub later : faults old ≤ faults new

@@ -1,12 +1,9 @@
 // The top call.
 ghost use Rattle.std.specs.Prelude.{◌≡◌, ◌≤◌};
 ghost use Rattle.command_words.specs.Words.{command_of, texts};
-ghost use Rattle.place_base.specs.declared.fault.FileKind.{FileKind};
 ghost use Rattle.place_edges.specs.Causes.{Rose};
-ghost use Rattle.place_edges.specs.Shelf.{GaveMore, file_limit};
 ghost use Rattle.run_frame.specs.Lines.{IsNoted};
-ghost use Rattle.run_frame.specs.Stops.{too_long};
-ghost use Rattle.place_run.specs.Runs.{IsConstant, IsFinished, IsRun, IsWhole, IsWordsRefusal, PlacesWhole, PrintsWorstStable, StaysInFront, Untouched, WordsCause};
+ghost use Rattle.place_run.specs.Runs.{HasCause, IsComplete, IsConstant, IsFinished, IsRun, IsWordsRefusal, LeavesSink, PrintsWorstStable};
 ghost use Rattle.place_run.specs.Says.{MayOpen};
 ghost use Rattle.place_run.specs.Statuses.{status_line};
 
@@ -50,40 +47,28 @@ pub fn run_words<R: Threads, H: Shelf, K: Sink, N: Sink>(
     ensures worst { PrintsWorstStable (H.files shelf.old) (texts words.now) result
         (K.written out.old) (K.written out.new) }
 
-    // What was written before stays in front, and after a refusal `out` is as it was. The line is
-    // the status's, and Done has none.
-    ensures kept { StaysInFront (K.written out.old) (K.written out.new) }
-    ensures untouched { Untouched result out.old out.new }
+    // After a refusal `out` is as it was. The line is the status's, and Done has none.
+    ensures sink { LeavesSink K.written K.faults result out.old out.new }
     ensures line { IsNoted (status_line result) (N.written notes.old) (N.written notes.new)
         (N.faults notes.old) (N.faults notes.new) }
     ensures unnoted { result ≡ Status.Done → notes.new ≡ notes.old }
 
     // Each refusal has its cause, whether or not the shelf and the sinks tell their bytes.
-    ensures words { WordsCause (command_of (texts words.now)) result }
-    ensures read { result ≡ Status.ReadFault → Rose (H.faults shelf.old) (H.faults shelf.new) }
-    ensures long { (file : FileKind) → result ≡ Status.FileFault (too_long file)
-        → GaveMore (H.tally shelf.old) (H.tally shelf.new) file_limit }
-    ensures write { result ≡ Status.WriteFault → Rose (K.faults out.old) (K.faults out.new) }
+    ensures causes { HasCause (command_of (texts words.now)) result
+        (H.faults shelf.old) (H.faults shelf.new) (H.tally shelf.old) (H.tally shelf.new)
+        (K.faults out.old) (K.faults out.new) }
 
     // Where no read and no write failed, all that is said is done, or memory was refused. So files
     // without a fault are placed; and over a shelf and a sink that never fail it is always so.
     ensures complete { ¬ Rose (H.faults shelf.old) (H.faults shelf.new)
-        → ¬ Rose (K.faults out.old) (K.faults out.new)
-        → IsWhole (H.files shelf.old) (texts words.now) result
-        (K.written out.old) (K.written out.new)
-        × PlacesWhole (H.files shelf.old) (texts words.now) result
-        (K.written out.old) (K.written out.new) }
-    ensures sure { IsConstant H.faults → IsConstant K.faults
-        → IsWhole (H.files shelf.old) (texts words.now) result
-        (K.written out.old) (K.written out.new) }
+        → ¬ Rose (K.faults out.old) (K.faults out.new) → IsComplete (H.files shelf.old)
+        (texts words.now) result (K.written out.old) (K.written out.new) }
+    ensures sure { IsConstant H.faults → IsConstant K.faults → IsComplete (H.files shelf.old)
+        (texts words.now) result (K.written out.old) (K.written out.new) }
 
-    // What is held and granted stays, and no count falls. Where the words are refused, no file is
-    // opened.
+    // What is held and granted stays. Where the words are refused, no file is opened.
     ensures files { H.files shelf.new ≡ H.files shelf.old }
     ensures grants { H.grants shelf.new ≡ H.grants shelf.old }
-    ensures faults { H.faults shelf.old ≤ H.faults shelf.new }
-    ensures tally { H.tally shelf.old ≤ H.tally shelf.new }
-    ensures later { K.faults out.old ≤ K.faults out.new }
     ensures unopened { IsWordsRefusal result → shelf.new ≡ shelf.old }
 {
     let answer = answer_words(rt, alloc, words, shelf);
