@@ -2,4 +2,3 @@ pub mod Finding
 pub mod Growing
 pub mod ListCodes
 pub mod PreferenceLists
-pub mod Reading

@@ -4,7 +4,9 @@
 
 // The entries of one preference list.
 mod entries;
-// What the fields of a row say.
+// What a row of the file says.
+mod row;
+// What a row says by itself.
 mod fields;
 // The numbers of candidates.
 mod numbers;

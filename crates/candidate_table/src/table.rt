@@ -1,16 +1,21 @@
 // The table, its reading and its look-ups.
-ghost use Rattle.std.specs.Prelude.{◌≡◌, ◌^◌, ◌≤◌, ◌<◌, [], All, length, slice_get, Some, None, IfOk, OnOk, MatchResult};
-ghost use Rattle.record_files.specs.FirstFaults.{IsTableRead};
-ghost use Rattle.candidate_table.specs.Candidates.{candidates_fault, form as candidates, list_fault};
-ghost use Rattle.candidate_table.specs.Growth.{IsRowTaken, line_with, with_candidate};
+ghost use Rattle.std.specs.Prelude.{◌≡◌, ◌≤◌, ◌<◌, [], All, length, slice_get, Some, None, IfOk, OnOk, MatchResult};
+ghost use Rattle.record_files.specs.Keys.{line_of};
+ghost use Rattle.record_files.specs.ReadTo.{IsTableRead};
+ghost use Rattle.candidate_table.specs.Rows.{candidates_fault, list_fault};
+ghost use Rattle.candidate_table.specs.Growth.{with_candidate};
 ghost use Rattle.candidate_table.specs.Table.{IsPreferenceList, candidates_table, indexes_of, table_of};
 
 use crate::entries::Entries;
 use crate::fields::read_fields;
 use crate::numbers::CandidateNumbers;
+use crate::row::Fields;
 use market::List;
+use place_base::limits::{LARGEST_FILE, MOST_CANDIDATES, MOST_ENTRIES, MOST_PIECES};
 use place_base::{FaultKind, FileFault, FileKind, Finder};
-use record_files::{FileForm, RecordRow, Records, TableStop, duplicate_at, fault_at};
+use record_files::{
+    FileForm, Header, RecordRow, RowTable, TableStop, duplicate_at, fault_at, read_table,
+};
 use std::alloc::{AllocError, Global};
 use std::marker::Model;
 use std::thread::Threads;
@@ -27,9 +32,9 @@ impl Model for CandidateTable {
 
     ghost Value = { Candidates };
 
-    ghost view = { λ t. record { lines = t.numbers; lists = t.lists.items } };
+    ghost view = { λ t. record { numbers = t.numbers; lists = t.lists.items } };
 
-    ghost invariant = { λ t. IsTable (record { lines = t.numbers; lists = t.lists.items }) };
+    ghost invariant = { λ t. IsTable (record { numbers = t.numbers; lists = t.lists.items }) };
 }
 
 impl CandidateTable {
@@ -45,8 +50,8 @@ impl CandidateTable {
         pieces: u32,
         programmes: &P,
     ) -> Result<CandidateTable, TableStop>
-        requires size { length bytes.now ≤ 2 ^ 30 }
-        requires pieces { (1 ≤ pieces) × (pieces ≤ 64) }
+        requires size { length bytes.now ≤ LARGEST_FILE }
+        requires pieces { (1 ≤ pieces) × (pieces ≤ MOST_PIECES) }
         ensures read { IsTableRead (candidates_fault (P.numbers programmes.now) bytes.now)
             (candidates_table (P.numbers programmes.now) bytes.now) result }
 
@@ -54,14 +59,7 @@ impl CandidateTable {
         ensures lists { IfOk result (λ table.
             All (IsPreferenceList (length (P.numbers programmes.now))) table.lists) }
     {
-        let form = candidates_form();
-        let mut records = Records::of_bytes(bytes);
-        form.read_header(&mut records)?;
-        let mut table = CandidateTable::new(alloc);
-        'rows: while let Some(row) = records.next() {
-            table.take_row(alloc, &form, &row, programmes)?;
-        }
-        Ok(table)
+        read_table(alloc, bytes, programmes, CandidateTable::new(alloc))
     }
 
     /// The preference list of the candidate at an index, as indexes of programmes, best first.
@@ -74,10 +72,10 @@ impl CandidateTable {
 
     /// The numbers of the candidates and their lists, which are not copied.
     pub fn into_parts(self) -> (CandidateNumbers, Vec<List>)
-        ensures numbers { result.0 ≡ self.lines }
+        ensures numbers { result.0 ≡ self.numbers }
         ensures lists { result.1.items ≡ self.lists }
-        ensures paired { length self.lists ≡ length self.lines }
-        ensures few { length self.lists ≤ 3500000 }
+        ensures paired { length self.lists ≡ length self.numbers }
+        ensures few { length self.lists ≤ MOST_CANDIDATES }
     {
         (self.numbers, self.lists)
     }
@@ -92,54 +90,68 @@ impl CandidateTable {
         }
     }
 
-    // Takes the next row over, or says what is wrong with it.
-    fn take_row<P: Finder>(
-        &mut self,
-        alloc: Global,
-        form: &FileForm,
-        row: &RecordRow<'_>,
-        programmes: &P,
-    ) -> Result<(), TableStop>
-        requires { form.now ≡ candidates }
-        ensures { IsRowTaken (P.numbers programmes.now) self.old row.now result self.new }
-    {
-        if let Some(fault) = form.shape_fault(self.lists.len() as u32, row) {
-            return Err(TableStop::Fault(fault));
-        }
-        let fields = read_fields(row)?;
-        if let Some(earlier) = self.numbers.line_of(fields.number) {
-            let fault = duplicate_at(FileKind::Candidates, row.line(), 1, earlier);
-            return Err(TableStop::Fault(fault));
-        }
-        let list = find_all(row.line(), programmes, fields.codes.as_slice())?;
-        self.add(alloc, row.line(), fields.number, &list)?;
-        Ok(())
-    }
-
-    // Adds a candidate with a new number.
-    fn add(
-        &mut self,
-        alloc: Global,
-        line: u32,
-        number: u64,
-        list: &Entries,
-    ) -> Result<(), AllocError>
-        requires few { length self.old.lists < 3500000 }
-        requires new { line_with self.old.lines number ≡ None }
-        ensures { OnOk result (self.new ≡ with_candidate self.old line number list.now) }
+    // Adds a candidate with a new number, who has this list.
+    fn add(&mut self, alloc: Global, fields: &Fields, list: &Entries) -> Result<(), AllocError>
+        requires few { length self.old.lists < MOST_CANDIDATES }
+        requires new { line_of self.old.numbers fields.now.number ≡ None }
+        ensures { OnOk result (self.new ≡ with_candidate self.old fields.now list.now) }
     {
         let list = List::from_vec(Vec::from_slice(alloc, list.as_slice())?);
         self.lists.reserve(1)?;
-        self.numbers.add(number, line)?;
+        self.numbers.add(fields.number, fields.line)?;
         self.lists.push(list).unwrap();
         Ok(())
+    }
+}
+
+impl<P: Finder> RowTable<P> for CandidateTable {
+    ghost use Rattle.candidate_table.specs.Growth.{HasRows, IsFieldsOf};
+    ghost use Rattle.candidate_table.specs.Rows.{candidates_rules};
+
+    type Fields = Fields;
+
+    ghost rules = { λ programmes. candidates_rules (P.numbers programmes) };
+
+    ghost says = { IsFieldsOf };
+
+    ghost has_rows = { λ programmes rows table. HasRows (P.numbers programmes) rows table };
+
+    fn form(_programmes: &P) -> FileForm {
+        FileForm::new(FileKind::Candidates, &[b"candidate,list"], MOST_CANDIDATES)
+    }
+
+    fn read_fields(
+        _programmes: &P,
+        _header: Header,
+        row: &RecordRow<'_>,
+    ) -> Result<Fields, FileFault> {
+        read_fields(row)
+    }
+
+    fn take(
+        &mut self,
+        alloc: Global,
+        programmes: &P,
+        fields: Fields,
+    ) -> Result<Option<FileFault>, AllocError> {
+        if let Some(earlier) = self.numbers.line_of(fields.number) {
+            let fault = duplicate_at(FileKind::Candidates, fields.line, 1, earlier);
+            return Ok(Some(fault));
+        }
+        match find_all(fields.line, programmes, fields.codes.as_slice()) {
+            Ok(list) => {
+                self.add(alloc, &fields, &list)?;
+                Ok(None)
+            }
+            Err(fault) => Ok(Some(fault)),
+        }
     }
 }
 
 // The codes of a list of this line as indexes of programmes, or what is wrong with the first that
 // is none or stands earlier in the list.
 fn find_all<P: Finder>(line: u32, programmes: &P, codes: &[u32]) -> Result<Entries, FileFault>
-    requires { length codes.now ≤ 24 }
+    requires { length codes.now ≤ MOST_ENTRIES }
     ensures { MatchResult result
         (λ list. (list_fault (P.numbers programmes.now) line codes.now ≡ None)
         × (list ≡ indexes_of (P.numbers programmes.now) codes.now))
@@ -162,7 +174,7 @@ fn find_all<P: Finder>(line: u32, programmes: &P, codes: &[u32]) -> Result<Entri
 impl Finder for CandidateTable {
     ghost use Rattle.candidate_table.specs.Table.{numbers_of};
 
-    ghost numbers = { λ table. numbers_of table.lines };
+    ghost numbers = { λ table. numbers_of table.numbers };
 
     fn count(&self) -> u32 {
         self.numbers.count()
@@ -175,11 +187,4 @@ impl Finder for CandidateTable {
     fn find(&self, number: u64) -> Option<u32> {
         self.numbers.find(number)
     }
-}
-
-// The form of a candidates file.
-fn candidates_form() -> FileForm
-    ensures { result ≡ candidates }
-{
-    FileForm::new(FileKind::Candidates, b"candidate,list", 2, 3_500_000)
 }

@@ -1,10 +1,11 @@
 // The mechanism, by whole rounds.
 
-ghost use Rattle.std.specs.Prelude.{◌≡◌, ◌≤◌, IfOk};
+ghost use Rattle.std.specs.Prelude.{◌≡◌, ◌*◌, ◌≤◌, IfOk};
+ghost use Rattle.market.specs.declared.limits.TheConstants.{MAX_TYPES, MAX_CANDIDATES};
 ghost use Rattle.market.specs.Problems.{IsValid};
 ghost use Rattle.market.specs.Mechanism.{mechanism, turns_of_round};
 
-use crate::cutting::{cut_round, place_round};
+use crate::cutting::cut_round;
 use crate::round::whole_round;
 use market::{Cuts, Market, Outcome, Placement};
 use std::alloc::{AllocError, Global};
@@ -23,7 +24,7 @@ pub fn mechanism_plain(alloc: Global, market: &Market) -> Result<Outcome, AllocE
         let count = cut_round(market, &table, &mut cuts);
         let settled = count == 0;
         if settled {
-            let held = place_round(alloc, market, &table, &cuts)?;
+            let held = table.best_programmes(alloc, market)?;
             return Ok(Outcome {
                 placement: Placement::from_vec(held),
                 rounds: rounds + 1,
@@ -39,7 +40,7 @@ pub fn mechanism_plain(alloc: Global, market: &Market) -> Result<Outcome, AllocE
 // The turns of all types.
 fn all_turns(market: &Market) -> u64
     ensures turns { result ≡ turns_of_round market.now }
-    ensures few { result ≤ 112000000 }
+    ensures few { result ≤ MAX_TYPES * MAX_CANDIDATES }
     ensures valid { IsValid market.now }
 {
     let mut turns: u64 = 0;

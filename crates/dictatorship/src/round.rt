@@ -1,72 +1,56 @@
 // One round: the dictatorship of each type, and what each candidate takes in it.
 
-ghost use Rattle.std.specs.Prelude.{◌≡◌, ℕ, ◌<◌, length, slice_index, slice_get, map, replicate, IfOk, Option};
+ghost use Rattle.std.specs.Prelude.{◌≡◌, ℕ, ◌<◌, [], length, slice_index, slice_index_or, slice_get, IfOk};
 ghost use Rattle.std.specs.Option.{option_map};
-ghost use Rattle.std.specs.List.{range_with_len};
-ghost use Rattle.market.specs.Mechanism.{IsCuts, tentative};
+ghost use Rattle.market.specs.Problems.{order_of};
+ghost use Rattle.market.specs.Mechanism.{IsCuts};
 ghost use Rattle.market.specs.Choices.{IsRound};
+ghost use Rattle.market.specs.Reruns.{IsRunUpto};
 
 use crate::run_plain;
-use market::{Cuts, Market, Placement};
+use market::{Cuts, Market, Tentative};
 use std::alloc::{AllocError, Global};
 
-/// For each type what each candidate takes under the cuts.
-pub fn whole_round(
-    alloc: Global,
-    market: &Market,
-    cuts: &Cuts,
-) -> Result<Vec<Placement>, AllocError>
+/// What each candidate takes in each type under the cuts.
+pub fn whole_round(alloc: Global, market: &Market, cuts: &Cuts) -> Result<Tentative, AllocError>
     requires { IsCuts market.now cuts.now }
-    ensures { IfOk result (λ table. IsRound market.now cuts.now table.items) }
+    ensures { IfOk result (IsRound market.now cuts.now) }
 {
-    let mut table = Vec::new(alloc);
+    let mut table = Tentative::none(alloc, market)?;
     for kind in 0..market.type_count() {
-        let taken = type_round(alloc, market, kind, cuts)?;
-        table.push(Placement::from_vec(taken))?;
+        run_type(alloc, market, kind, cuts, &mut table)?;
     }
     Ok(table)
 }
 
-// What each candidate takes in a type.
-fn type_round(
+// Writes what each candidate takes in a type.
+fn run_type(
     alloc: Global,
     market: &Market,
     kind: u32,
     cuts: &Cuts,
-) -> Result<Vec<Option<u32>>, AllocError>
+    table: &mut Tentative,
+) -> Result<(), AllocError>
     requires kind { kind < market.now.types }
     requires cuts { IsCuts market.now cuts.now }
-    ensures { IfOk result (λ taken. taken.items
-        ≡ map (tentative market.now cuts.now kind) (range_with_len 0 (length market.now.lists))) }
+    requires types { length table.old ≡ market.now.types }
+    requires row { IsRunUpto market.now cuts.now kind 0 (slice_index_or table.old kind []) }
+    ensures types { IfOk result (λ _. length table.new ≡ market.now.types) }
+    ensures row { IfOk result (λ _. IsRunUpto market.now cuts.now kind
+        (length (order_of market.now kind)) (slice_index_or table.new kind [])) }
+    ensures others { IfOk result (λ _. (t : ℕ) → (t ≡ kind → ⊥)
+        → slice_index_or table.new t [] ≡ slice_index_or table.old t []) }
 {
     let members = market.type_programmes(kind);
     let order = market.order(kind);
-    let fill = zeros(alloc, members.len())?;
+    let fill = vec![in alloc; 0u32; members.len()]?;
     let dict = market.dict(alloc, kind, cuts, 0, &fill)?;
     let found = run_plain(alloc, &dict)?;
-    let mut taken = nobody(alloc, market.candidate_count() as usize)?;
     for (turn, candidate) in order.iter().enumerate() {
-        taken[*candidate as usize] = entry(members, dict.list(turn as u32), found[turn]);
+        let programme = entry(members, dict.list(turn as u32), found[turn]);
+        table.set(kind, *candidate, programme);
     }
-    Ok(taken)
-}
-
-// So many zeros.
-fn zeros(alloc: Global, count: usize) -> Result<Vec<u32>, AllocError>
-    ensures { IfOk result (λ found. found.items ≡ replicate count 0) }
-{
-    vec![in alloc; 0u32; count]
-}
-
-// Nothing taken by so many candidates.
-fn nobody(alloc: Global, count: usize) -> Result<Vec<Option<u32>>, AllocError>
-    ensures { IfOk result (λ found. found.items ≡ replicate count Option.None) }
-{
-    let mut found = Vec::new(alloc);
-    for _ in 0..count {
-        found.push(None)?;
-    }
-    Ok(found)
+    Ok(())
 }
 
 // The programme that a list of local numbers has at a place, if there is one.

@@ -1,75 +1,16 @@
 // Worked examples, run: three markets, and one dictatorship. Each call that takes memory is made with
 // ample memory.
 
-ghost use Rattle.std.specs.Prelude.{◌≡◌, ◌<◌, ◌∷◌, [], IfOk};
-ghost use Rattle.market.specs.Examples.{exchange, freed_seat, three_rounds, two_turns};
+ghost use Rattle.std.specs.Prelude.{◌≡◌, ◌<◌, IfOk};
 
 use crate::{PlainPlacer, mechanism_plain, run_plain};
-use market::{Dict, List, Market, Outcome, Placer, Prog, Steps};
+use market::examples::{exchange, freed_seat, three_rounds, two_turns};
+use market::{Outcome, Placer, Steps};
 use std::alloc::{AllocError, Global};
 use std::marker::Brand;
 use std::sync::ledger::{Blank, Ledger};
 use std::test::Fail;
 use std::thread::Threads;
-
-// Two lists of two numbers.
-fn two_lists(alloc: Global, first: &[u32], second: &[u32]) -> Result<Vec<List>, AllocError>
-    ensures { IfOk result (λ lists. lists.items ≡ first.now ∷ second.now ∷ []) }
-{
-    let first = List::from_slice(alloc, first)?;
-    let second = List::from_slice(alloc, second)?;
-    Ok(vec![in alloc; first, second]?)
-}
-
-// Two candidates who each want first the programme in which the other has the better rank.
-fn exchange(alloc: Global) -> Result<Market, AllocError>
-    ensures { IfOk result (λ m. m ≡ exchange) }
-{
-    let programmes = vec![in alloc; Prog { kind: 0, quota: 1 }, Prog { kind: 1, quota: 1 }]?;
-    let lists = two_lists(alloc, &[0, 1], &[1, 0])?;
-    let orders = two_lists(alloc, &[1, 0], &[0, 1])?;
-    let ranks = two_lists(alloc, &[1, 2], &[1, 2])?;
-    Market::build(alloc, 2, programmes, lists, orders, ranks)
-}
-
-// The first candidate is best in both types; the second wants one of the two programmes.
-fn freed_seat(alloc: Global) -> Result<Market, AllocError>
-    ensures { IfOk result (λ m. m ≡ freed_seat) }
-{
-    let programmes = vec![in alloc; Prog { kind: 0, quota: 1 }, Prog { kind: 1, quota: 1 }]?;
-    let lists = two_lists(alloc, &[0, 1], &[1])?;
-    let orders = two_lists(alloc, &[0, 1], &[0, 1])?;
-    let ranks = two_lists(alloc, &[1, 2], &[1, 2])?;
-    Market::build(alloc, 2, programmes, lists, orders, ranks)
-}
-
-// One cut leads to the next.
-fn three_rounds(alloc: Global) -> Result<Market, AllocError>
-    ensures { IfOk result (λ m. m ≡ three_rounds) }
-{
-    let programmes = vec![in alloc;
-        Prog { kind: 0, quota: 1 },
-        Prog { kind: 0, quota: 1 },
-        Prog { kind: 1, quota: 1 },
-    ]?;
-    let first = List::from_slice(alloc, &[0, 2])?;
-    let second = List::from_slice(alloc, &[2, 0, 1])?;
-    let third = List::from_slice(alloc, &[1])?;
-    let lists = vec![in alloc; first, second, third]?;
-    let orders = two_lists(alloc, &[0, 1, 2], &[0, 1, 2])?;
-    let ranks = two_lists(alloc, &[1, 2, 3], &[1, 2, 3])?;
-    Market::build(alloc, 2, programmes, lists, orders, ranks)
-}
-
-// Two turns over two programmes with a seat each.
-fn two_turns(alloc: Global) -> Result<Dict, AllocError>
-    ensures { IfOk result (λ d. d ≡ two_turns) }
-{
-    let quota = vec![in alloc; 1, 1]?;
-    let fill = vec![in alloc; 0, 0]?;
-    let lists = two_lists(alloc, &[0], &[0, 1])?;
-    Ok(Dict::from_parts(quota, fill, lists))
-}
 
 // What the plain placer makes of the market of three rounds, and its counter, which stands at 18.
 fn counted<R: Threads + Sync, L: Ledger>(

@@ -4,7 +4,8 @@ use Rattle.std.proofs.Common.{◌≡◌, ℕ, zero, suc, ◌<◌, Bool, true, no
 use Rattle.std.specs.Prelude.{slice_index}
 use Rattle.std.proofs.lemmas.Bool.{and_parts, cases_lt, ltb-true, leb-true, eqb-true, eq-eqb, false≢true, not-true}
 use Rattle.market.specs.declared.programme.Prog.{Prog}
-use Rattle.market.specs.Problems.{Problem, IsValid, IsDistinct, kind_of, quota_of, list_of, order_of, ranks_of}
+use Rattle.market.specs.declared.limits.TheConstants.{MAX_TYPES, MAX_PROGRAMMES, MAX_CANDIDATES, MAX_ENTRIES, MAX_QUOTA, MAX_RANK}
+use Rattle.market.specs.Problems.{Problem, IsValid, HasNoRepeats, kind_of, quota_of, list_of, order_of, ranks_of}
 use Rattle.market.specs.Dictatorships.{Dictatorship, IsValidDictatorship, list_at}
 use Rattle.market.specs.Examples.{exchange, freed_seat, three_rounds, two_turns}
 use Rattle.market.proofs.Computes.{computes}
@@ -26,7 +27,7 @@ abbrev pub all_apart : List ℕ → Bool
 all_apart xs =
     all_below (λ j. all_below (λ i. not (eqb (slice_index xs i) (slice_index xs j))) j) (length xs)
 
-pub distinct_from : (xs : List ℕ) → all_apart xs ≡ true → IsDistinct xs
+pub distinct_from : (xs : List ℕ) → all_apart xs ≡ true → HasNoRepeats xs
 distinct_from xs e i j l lj same =
     let a = all_below_at (λ j. all_below (λ i. not (eqb (slice_index xs i) (slice_index xs j))) j)
     (length xs) j e lj in
@@ -39,10 +40,10 @@ all_rise xs = all_below (λ k. all_below (λ j. ltb (slice_index xs j) (slice_in
 
 unfoldable pub programmes_fit : Problem → Bool
 programmes_fit m =
-    all_below (λ p. ltb (kind_of m p) m.types && leb (quota_of m p) 100000) (length m.programmes)
+    all_below (λ p. ltb (kind_of m p) m.types && leb (quota_of m p) MAX_QUOTA) (length m.programmes)
 
 unfoldable pub lists_fit : Problem → Bool
-lists_fit m = all_below (λ i. leb (length (list_of m i)) 48
+lists_fit m = all_below (λ i. leb (length (list_of m i)) MAX_ENTRIES
     && (all_below (λ k. ltb (slice_index (list_of m i) k) (length m.programmes))
     (length (list_of m i)) && all_apart (list_of m i))) (length m.lists)
 
@@ -55,12 +56,12 @@ orders_fit m =
 unfoldable pub ranks_fit : Problem → Bool
 ranks_fit m = all_below (λ t. all_rise (ranks_of m t)
     && all_below (λ k. leb 1 (slice_index (ranks_of m t) k)
-    && leb (slice_index (ranks_of m t) k) 99999999) (length (ranks_of m t))) m.types
+    && leb (slice_index (ranks_of m t) k) MAX_RANK) (length (ranks_of m t))) m.types
 
 unfoldable pub counts_fit : Problem → Bool
 counts_fit m =
-    (leb m.types 32 && leb (length m.programmes) 120000)
-    && (leb (length m.lists) 3500000
+    (leb m.types MAX_TYPES && leb (length m.programmes) MAX_PROGRAMMES)
+    && (leb (length m.lists) MAX_CANDIDATES
     && (eqb (length m.orders) m.types && eqb (length m.ranks) m.types))
 
 pub valid_from : (m : Problem) → counts_fit m ≡ true → programmes_fit m ≡ true → lists_fit m ≡ true
@@ -134,15 +135,15 @@ three_lists x y z u v w all e a b c = e ∙ (λ i. a i ∷ b i ∷ c i ∷ [])
 
 unfoldable pub dictatorship_fits : Dictatorship → Bool
 dictatorship_fits d =
-    (eqb (length d.fill) (length d.quota) && leb (length d.quota) 120000)
-    && (leb (length d.lists) 3500000
-    && all_below (λ p. leb (slice_index d.quota p) 100000
+    (eqb (length d.fill) (length d.quota) && leb (length d.quota) MAX_PROGRAMMES)
+    && (leb (length d.lists) MAX_CANDIDATES
+    && all_below (λ p. leb (slice_index d.quota p) MAX_QUOTA
     && leb (slice_index d.fill p) (slice_index d.quota p)) (length d.quota))
 
 unfoldable pub turn_lists_fit : Dictatorship → Bool
 turn_lists_fit d =
     all_below
-    (λ k. leb (length (list_at d k)) 48
+    (λ k. leb (length (list_at d k)) MAX_ENTRIES
     && all_below (λ j. ltb (slice_index (list_at d k) j) (length d.quota))
     (length (list_at d k)))
     (length d.lists)

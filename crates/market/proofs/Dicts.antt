@@ -9,12 +9,12 @@ use Rattle.std.proofs.lemmas.List.Sums.{length-filter, count_by-le-length}
 use Rattle.std.proofs.lemmas.List.Elements.{All-filter, filter_passes, filter-append}
 use Rattle.std.proofs.lemmas.List.FromFn.{length-range_with_len, get_or-range_with_len}
 use Rattle.market.specs.declared.programme.Prog.{Prog}
+use Rattle.market.specs.declared.limits.TheConstants.{MAX_PROGRAMMES, MAX_ENTRIES}
 use Rattle.market.specs.Counting.{count_below, is_programme}
-use Rattle.market.specs.Problems.{Problem, IsValid, kind_in, kind_of, quota_of, list_of, order_of}
+use Rattle.market.specs.Problems.{Problem, IsValid, kind_of, quota_of, list_of, order_of}
 use Rattle.market.specs.Dictatorships.{Dictatorship, IsValidDictatorship, list_at}
 use Rattle.market.specs.Mechanism.{is_offered, turn_list}
 use Rattle.market.specs.LocalNumbers.{programmes_of, local_of, local_list, local_dictatorship, IsFill}
-use Rattle.market.specs.Tables.{IsLocals}
 use Rattle.market.proofs.Tentatives.{offered-kind}
 use Rattle.market.proofs.Tallies.{tally, at_turn, tally-le-count}
 use Rattle.market.proofs.Members.{range_more}
@@ -56,17 +56,6 @@ front_entry m v i cut list ps li e ep j l =
 
 -- ---- local numbers
 
-map_agree : (f g : ℕ → ℕ) (xs : List ℕ)
-    → ((j : ℕ) → j < length xs → f (slice_index xs j) ≡ g (slice_index xs j)) → map f xs ≡ map g xs
-map_agree f g [] h = refl
-map_agree f g (x ∷ xs) h = let e = h 0 (omega arith) in let ih =
-    map_agree f g xs (λ j l. h (suc j) (omega arith)) in cc
-
-pub local_at : (m : Problem) (locals : List ℕ) → IsLocals m.programmes locals (length m.programmes)
-    → (p : ℕ) → p < length m.programmes → slice_index locals p ≡ local_of m p
-unfolding local_of kind_of
-local_at m locals n p l = n.each p l
-
 pub filter_within : (f : ℕ → Bool) (n : ℕ) (xs : List ℕ)
     → ((j : ℕ) → j < length xs → slice_index xs j < n) → (j : ℕ) → j < length (filter f xs)
     → slice_index (filter f xs) j < n
@@ -74,19 +63,6 @@ filter_within f n xs h j l =
     All-filter f (λ p. p < n) xs
     (λ k d lk. let e = h k lk in subst (λ (x : ℕ). x < n)
     (Rattle.std.proofs.lemmas.List.get_or_default xs k 0 d lk) e) j 0 l
-
-pub local_front : (m : Problem) (t i : ℕ) (locals front found ps : List ℕ) (qs : List Prog)
-    → IsLocals m.programmes locals (length m.programmes) → qs ≡ m.programmes
-    → ((j : ℕ) → j < length front → slice_index front j < length m.programmes)
-    → found ≡ map (slice_index locals) (filter (λ p. kind_in qs p == t) front)
-    → found ≡ map (local_of m) (filter (is_offered m t i) front)
-unfolding is_offered kind_of
-local_front m t i locals front found ps qs n e b f =
-    f
-    ∙ ap (λ (xs : List Prog). map (slice_index locals) (filter (λ p. kind_in xs p == t) front)) e
-    ∙ map_agree (slice_index locals) (local_of m) (filter (λ p. kind_in m.programmes p == t) front)
-    (λ j l. local_at m locals n _
-    (filter_within (λ p. kind_in m.programmes p == t) (length m.programmes) front b j l))
 
 -- a map one entry further
 pub map_next : {X Y : Type 0}
@@ -257,7 +233,7 @@ order-le m v t l =
     let d : length held ≡ n = length-replicate n (Some 0) in
     omega arith
 
-member_count-le : (m : Problem) (t : ℕ) → IsValid m → length (programmes_of m t) ≤ 120000
+member_count-le : (m : Problem) (t : ℕ) → IsValid m → length (programmes_of m t) ≤ MAX_PROGRAMMES
 unfolding programmes_of
 member_count-le m t v =
     let a = length_filter_le (λ p. kind_of m p == t) (range_with_len 0 (length m.programmes)) in
@@ -267,7 +243,7 @@ member_count-le m t v =
 
 -- a turn's list is short, and its numbers are those of programmes of the type
 pub local_length : (m : Problem) (cuts : List ℕ) (t i : ℕ) → IsValid m → i < length m.lists
-    → length (local_list m cuts t i) ≤ 48
+    → length (local_list m cuts t i) ≤ MAX_ENTRIES
 unfolding local_list turn_list
 local_length m cuts t i v li =
     let front = take (slice_index cuts i) (list_of m i) in
@@ -322,7 +298,7 @@ local_valid m v t cuts fill from lt f lf =
           let lk : k < length (drop from order) = omega arith in
           let at = get_or-map (local_list m cuts t) (drop from order) k 0 [] lk
           ∙ ap (local_list m cuts t) (get_or-drop from order k 0) in
-          subst (λ (xs : List ℕ). length xs ≤ 48) (sym at)
+          subst (λ (xs : List ℕ). length xs ≤ MAX_ENTRIES) (sym at)
           (local_length m cuts t (slice_index order (from + k)) v
           (v.order_entries t (from + k) lt (omega arith)));
       list_entries = λ k j l lj.
@@ -348,12 +324,3 @@ dict_valid m v t cuts fill quota fill' lists from lt f lf eq ef el =
     let d = same_parts (local_dictatorship m cuts t from fill) quota fill' lists (sym eq) (sym ef)
     (sym el) in
     subst IsValidDictatorship d (local_valid m v t cuts fill from lt f lf)
-
-pub dict-is : (m : Problem) (t : ℕ) (cuts fill : List ℕ) (from : ℕ) (d : Dictatorship)
-    → d.quota ≡ map (quota_of m) (programmes_of m t) → d.fill ≡ fill
-    → d.lists ≡ map (local_list m cuts t) (drop from (order_of m t))
-    → d ≡ local_dictatorship m cuts t from fill
-unfolding local_dictatorship
-dict-is m t cuts fill from d eq ef el =
-    sym (same_parts (local_dictatorship m cuts t from fill) d.quota d.fill d.lists (sym eq) (sym ef)
-    (sym el))

@@ -3,6 +3,8 @@ pub mod Firsts
 pub mod Counts
 -- a valid problem
 pub mod Valid
+-- base ranks
+pub mod BaseRanks
 -- one dictatorship
 pub mod Turns
 pub mod Seats
@@ -21,9 +23,8 @@ pub mod Replays
 -- what a market keeps
 pub mod Tables
 pub mod Members
-pub mod Builds
 pub mod Between
-pub mod Kept
+pub mod Below
 pub mod TurnLists
 pub mod Coded
 -- problems that are written out

@@ -8,7 +8,8 @@ use Rattle.std.proofs.lemmas.List.Elements.{filter-append}
 use Rattle.std.proofs.lemmas.List.FromFn.{map-range_with_len_more}
 use Rattle.market.specs.declared.programme.Prog.{Prog}
 use Rattle.market.specs.Counting.{count_below}
-use Rattle.market.specs.Problems.{kind_in}
+use Rattle.market.specs.Problems.{Problem, kind_in, kind_of}
+use Rattle.market.specs.LocalNumbers.{local_of}
 use Rattle.market.specs.Tables.{IsLocals}
 use Rattle.market.proofs.Turns.{one_more, no_more}
 
@@ -51,6 +52,22 @@ count_le f (suc n) =
     (λ t. let e = no_more (f n) t in omega arith)
     (cases_Bool (f n))
 
+-- the local numbers of the first n programmes
+pub record IsLocalsUpto (programmes : List Prog) (locals : List ℕ) (n : ℕ) : Type 0 where
+  pub count : length locals ≡ n
+  pub each : (p : ℕ) → p < n
+      → slice_index locals p ≡ count_below (λ q. kind_in programmes q == kind_in programmes p) p
+
+-- those of all programmes of a problem
+pub IsLocals-all : (m : Problem) (programmes : List Prog) (locals : List ℕ) (n : ℕ)
+    → programmes ≡ m.programmes → n ≡ length programmes → IsLocalsUpto programmes locals n
+    → IsLocals m locals
+unfolding local_of kind_of
+IsLocals-all m ps locals n e en s =
+    let f = subst (λ (xs : List Prog). IsLocalsUpto xs locals n) e s in
+    let len = ap (λ (xs : List Prog). length xs) e in
+    record { count = f.count ∙ en ∙ len; each = λ p l. f.each p (omega arith) }
+
 -- how many of the first k programmes have each type
 pub record IsCounts (programmes : List Prog) (types : ℕ) (counts : List ℕ) (k : ℕ) : Type 0 where
   pub count : length counts ≡ types
@@ -87,11 +104,11 @@ IsCounts-more ps types k counts l c =
           (cases_eq t u);
     })
 
-pub IsLocals-more : (programmes : List Prog) (types k x : ℕ) (counts locals more : List ℕ)
+pub IsLocalsUpto-more : (programmes : List Prog) (types k x : ℕ) (counts locals more : List ℕ)
     → kind_in programmes k < types → IsCounts programmes types counts k
-    → IsLocals programmes locals k → x ≡ slice_index counts (kind_in programmes k)
-    → more ≡ locals ++ x ∷ [] → IsLocals programmes more (k + 1)
-IsLocals-more ps types k x counts locals more l c s e m = record {
+    → IsLocalsUpto programmes locals k → x ≡ slice_index counts (kind_in programmes k)
+    → more ≡ locals ++ x ∷ [] → IsLocalsUpto programmes more (k + 1)
+IsLocalsUpto-more ps types k x counts locals more l c s e m = record {
   count =
       let n = s.count in ap (λ (xs : List ℕ). length xs) m ∙ length_push locals x ∙ (omega arith);
   each = λ p lp.

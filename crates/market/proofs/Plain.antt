@@ -1,23 +1,18 @@
 -- The loops of the plain mechanism: one round's cuts and placement, candidate by candidate, and the rounds
 -- until one is settled.
-use Rattle.std.proofs.Common.{◌≡◌, ◌≢◌, ℕ, zero, suc, ◌+◌, ◌*◌, ◌<◌, ◌≤◌, Bool, true, false, cond, List, [], length, Option, refl, sym, ap, ◌∙◌, subst, arith, map, set, ⊎_elim}
-use Rattle.std.specs.Prelude.{slice_index, slice_index_or, is_some, nat_lt}
-use Rattle.std.specs.List.{position_or_len}
-use Rattle.std.proofs.lemmas.Bool.{cases_lt, cases_eq, cases_Bool, eq-eqb, ne_eqb, false≢true}
-use Rattle.std.proofs.lemmas.List.{get_or-set_same, get_or-set_other, length-set, length-map, ext_get_or}
-use Rattle.std.proofs.lemmas.List.FromFn.{fill_by_all, length-map-range_with_len}
+use Rattle.std.proofs.Common.{◌≡◌, ◌≢◌, ℕ, zero, suc, ◌+◌, ◌*◌, ◌<◌, ◌≤◌, Bool, true, false, cond, List, [], length, Option, refl, sym, ap, ◌∙◌, subst, arith, map, ⊎_elim}
+use Rattle.std.specs.Prelude.{slice_index, slice_index_or}
+use Rattle.std.proofs.lemmas.Bool.{cases_lt, cases_Bool, eq-eqb, ne_eqb, false≢true}
+use Rattle.std.proofs.lemmas.List.{length-map}
+use Rattle.std.proofs.lemmas.List.FromFn.{length-map-range_with_len}
 use Rattle.std.proofs.Math.ListN.{get_or-map as get_or-map_past}
-use Rattle.market.specs.Counting.{is_programme, count_below, sum_below}
-use Rattle.market.specs.Problems.{Problem, IsValid, kind_of, list_of}
-use Rattle.market.specs.Stability.{held_by}
-use Rattle.market.specs.Mechanism.{tentative, has_several, is_taken, best_place, next_cut, next_cuts, whole_cuts, cuts_after, several_count, is_settled, entry_count, entries_left, cutting_rounds, IsCuts, placed, turns_of_round, mechanism, mechanism_placement, mechanism_rounds, mechanism_cuts, best_in, cut_in, cuts_in, has_several_in, several_in}
-use Rattle.market.specs.Choices.{IsRound}
+use Rattle.market.specs.Counting.{count_below, sum_below}
+use Rattle.market.specs.Problems.{Problem, IsValid, list_of}
+use Rattle.market.specs.Mechanism.{has_several, next_cut, next_cuts, whole_cuts, cuts_after, several_count, is_settled, entry_count, entries_left, cutting_rounds, IsCuts, best_programmes, turns_of_round, mechanism, mechanism_placement, mechanism_rounds, mechanism_cuts, cut_in, cuts_in, has_several_in, several_in}
 use Rattle.market.specs.declared.placement.Outcome.{Outcome}
-use Rattle.market.proofs.Seats.{position_agree}
+use Rattle.market.specs.declared.limits.TheConstants.{MAX_CANDIDATES, MAX_ENTRIES}
 use Rattle.market.proofs.Turns.{one_more, no_more}
-use Rattle.market.proofs.Counts.{suc_count}
-use Rattle.market.proofs.Rounds.{next_cut-lt, next_cut-several, next_cut-same, next_cuts-at, next_cuts-le, cuts_after-suc, settled-none, cutting_rounds-settles, first_total}
-use Rattle.market.proofs.Dicts.{entry_lt}
+use Rattle.market.proofs.Rounds.{next_cut-lt, next_cuts-at, next_cuts-le, cuts_after-suc, cutting_rounds-settles, first_total}
 
 pub count_agree : (f g : ℕ → Bool) (n : ℕ) → ((i : ℕ) → i < n → f i ≡ g i)
     → count_below f n ≡ count_below g n
@@ -26,90 +21,6 @@ count_agree f g (suc n) h =
     let ih = count_agree f g n (λ i l. h i (omega arith)) in
     let e = ap (λ (b : Bool). cond {A = ℕ} b 1 0) (h n (omega arith)) in
     omega arith
-
--- the tests on a round's table are the definitions' own
-pub several_is : (m : Problem) (cuts : List ℕ) (table : List (List (Option ℕ))) (i : ℕ)
-    → IsRound m cuts table → i < length m.lists
-    → nat_lt 1 (count_below (λ t. is_some (held_by (slice_index_or table t []) i)) (length table))
-    ≡ has_several m cuts i
-unfolding has_several has_several_in
-several_is m cuts table i r l =
-    let n = r.types in
-    let a = count_agree (λ t. is_some (held_by (slice_index_or table t []) i))
-    (λ t. is_some (tentative m cuts t i)) (length table)
-    (λ t lt. ap (λ (o : Option ℕ). is_some o) (r.each t i (omega arith) l)) in
-    ap (nat_lt 1) (a ∙ ap (count_below (λ t. is_some (tentative m cuts t i))) n)
-
-pub best_is : (m : Problem) → IsValid m → (cuts : List ℕ) (table : List (List (Option ℕ))) (i : ℕ)
-    → IsRound m cuts table → i < length m.lists
-    → position_or_len (λ p. is_programme p (held_by (slice_index_or table (kind_of m p) []) i))
-    (list_of m i) ≡ best_place m cuts i
-unfolding best_place best_in is_taken
-best_is m v cuts table i r l =
-    position_agree (λ p. is_programme p (held_by (slice_index_or table (kind_of m p) []) i))
-    (λ p. is_programme p (tentative m cuts (kind_of m p) i)) (list_of m i)
-    (λ j lj. let p = slice_index (list_of m i) j in ap (is_programme p)
-    (r.each (kind_of m p) i (v.kinds p (entry_lt m v i j l lj)) l))
-
--- ---- the cuts of the first k candidates
-
-pub record IsCutUpto (m : Problem) (old : List ℕ) (k : ℕ) (new : List ℕ) (count : ℕ) : Type 0 where
-  pub candidates : length new ≡ length m.lists
-  pub done : (i : ℕ) → i < k → i < length m.lists → slice_index new i ≡ next_cut m old i
-  pub open' : (i : ℕ) → k ≤ i → slice_index new i ≡ slice_index old i
-  pub counted : count ≡ count_below (has_several m old) k
-
-pub IsCutUpto-none : (m : Problem) (old : List ℕ) → length old ≡ length m.lists
-    → IsCutUpto m old 0 old 0
-IsCutUpto-none m old e =
-    record {
-      candidates = e;
-      done = λ i l h. absurd (omega arith);
-      open' = λ i l. refl;
-      counted = refl;
-    }
-
-pub IsCutUpto-cut : (m : Problem) (old new : List ℕ) (k c x : ℕ) → k < length m.lists
-    → has_several m old k ≡ true → x ≡ best_place m old k + 1 → IsCutUpto m old k new c
-    → IsCutUpto m old (k + 1) (set new k x) (c + 1)
-IsCutUpto-cut m old new k c x l s e f =
-    let n = f.candidates in
-    record {
-      candidates = length-set new k x ∙ f.candidates;
-      done = λ i li h.
-          ⊎_elim
-          (λ same. ap (slice_index (set new k x)) same ∙ get_or-set_same new k x 0 (omega arith) ∙ e
-          ∙ sym (next_cut-several m old k s) ∙ ap (next_cut m old) (sym same))
-          (λ ne. get_or-set_other new k i x 0 ne ∙ f.done i (omega arith) h)
-          (cases_eq i k);
-      open' = λ i li. get_or-set_other new k i x 0 (λ z. omega arith) ∙ f.open' i (omega arith);
-      counted = let one = one_more (has_several m old k) s in let a = f.counted in let b =
-          suc_count (has_several m old) k in omega arith;
-    }
-
-pub IsCutUpto-keep : (m : Problem) (old new : List ℕ) (k c : ℕ) → has_several m old k ≡ false
-    → IsCutUpto m old k new c → IsCutUpto m old (k + 1) new c
-IsCutUpto-keep m old new k c s f =
-    record {
-      candidates = f.candidates;
-      done = λ i li h.
-          ⊎_elim
-          (λ same. ap (slice_index new) same ∙ f.open' k (omega arith)
-          ∙ sym (next_cut-same m old k s) ∙ ap (next_cut m old) (sym same))
-          (λ ne. f.done i (omega arith) h)
-          (cases_eq i k);
-      open' = λ i li. f.open' i (omega arith);
-      counted = let none = no_more (has_several m old k) s in let a = f.counted in let b =
-          suc_count (has_several m old) k in omega arith;
-    }
-
-pub IsCutUpto-all : (m : Problem) (old new : List ℕ) (k c : ℕ) → k ≡ length m.lists
-    → IsCutUpto m old k new c → (new ≡ next_cuts m old) × (c ≡ several_count m old)
-unfolding next_cuts cuts_in next_cut cut_in several_count several_in has_several has_several_in
-IsCutUpto-all m old new k c e f = (
-  fill_by_all (next_cut m old) new (length m.lists) 0 f.candidates (λ i l. f.done i (omega arith) l),
-  f.counted ∙ ap (count_below (has_several m old)) e,
-)
 
 -- ---- the loop over rounds
 
@@ -158,10 +69,10 @@ sum_bound f b zero h = omega arith
 sum_bound f b (suc n) h = let ih = sum_bound f b n (λ i l. h i (omega arith)) in let here =
     h n (omega arith) in omega arith
 
-pub few_entries : (m : Problem) → IsValid m → entry_count m ≤ 168000000
+pub few_entries : (m : Problem) → IsValid m → entry_count m ≤ MAX_CANDIDATES * MAX_ENTRIES
 unfolding entry_count
 few_entries m v =
-    let a = sum_bound (λ i. length (list_of m i)) 48 (length m.lists) v.list_lengths in
+    let a = sum_bound (λ i. length (list_of m i)) MAX_ENTRIES (length m.lists) v.list_lengths in
     let n = v.candidates in
     omega arith
 
@@ -258,7 +169,7 @@ pub sum_next : (f : ℕ → ℕ) (k s x : ℕ) → s ≡ sum_below f k → x ≡
 sum_next f k s x e h = let n : k + 1 ≡ suc k = omega arith in let q = ap (sum_below f) n in omega arith
 
 pub rounds_small : (m : Problem) → IsValid m → (r total : ℕ) (cuts : List ℕ)
-    → IsRoundsUpto m r cuts total → r ≤ 168000000
+    → IsRoundsUpto m r cuts total → r ≤ MAX_CANDIDATES * MAX_ENTRIES
 rounds_small m v r total cuts u =
     let a = rounds-le m r total cuts u in
     let s = cutting_rounds-settles m in
@@ -266,7 +177,7 @@ rounds_small m v r total cuts u =
     omega (arith, s.bounded)
 
 pub total_small : (m : Problem) → IsValid m → (r total count : ℕ) (cuts : List ℕ)
-    → IsRoundsUpto m r cuts total → count ≡ several_count m cuts → total + count ≤ 168000000
+    → IsRoundsUpto m r cuts total → count ≡ several_count m cuts → total + count ≤ MAX_CANDIDATES * MAX_ENTRIES
 total_small m v r total count cuts u c =
     let a = total-cuts m r in
     let b = cut_total m (cuts_after m r) in
@@ -282,27 +193,15 @@ same_outcome a placement rounds cuts turns p r c t =
     λ i. record { placement = p i; rounds = r i; cuts = c i; turns = t i }
 
 pub outcome_is : (m : Problem) (r total wide turns : ℕ) (cuts : List ℕ) (held : List (Option ℕ))
-    → IsRoundsUpto m r cuts total → several_count m cuts ≡ 0 → held ≡ placed m cuts → wide ≡ r + 1
+    → IsRoundsUpto m r cuts total → several_count m cuts ≡ 0 → held ≡ best_programmes m cuts → wide ≡ r + 1
     → turns ≡ turns_of_round m
     → record { placement = held; rounds = r + 1; cuts = total; turns = wide * turns } ≡ mechanism m
 unfolding mechanism mechanism_placement mechanism_rounds mechanism_cuts
 outcome_is m r total wide turns cuts held u z h w t =
     let last = rounds-last m r total cuts u z in
     same_outcome (mechanism m) held (r + 1) total (wide * turns)
-    (h ∙ ap (placed m) (u.at ∙ ap (cuts_after m) last))
+    (h ∙ ap (best_programmes m) (u.at ∙ ap (cuts_after m) last))
     (ap (λ (n : ℕ). n + 1) last)
     (u.counted ∙ ap (sum_below (λ k. several_count m (cuts_after m k))) last)
     (ap (λ (n : ℕ). n * turns) (w ∙ ap (λ (n : ℕ). n + 1) last)
     ∙ ap (λ (n : ℕ). (cutting_rounds m + 1) * n) t)
-
--- where nobody takes several, nothing is cut
-pub settled-cuts : (m : Problem) (cuts : List ℕ) → IsCuts m cuts → several_count m cuts ≡ 0
-    → next_cuts m cuts ≡ cuts
-settled-cuts m cuts f z =
-    let len = length-next m cuts in
-    let n = f.candidates in
-    let s = settled-zero m cuts z in
-    ext_get_or 0 (next_cuts m cuts) cuts (omega arith)
-    (λ i l. let li : i < length m.lists =
-    omega arith in next_cuts-at m cuts i li
-    ∙ next_cut-same m cuts i (settled-none m cuts i s li))

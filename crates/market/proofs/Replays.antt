@@ -11,15 +11,15 @@ use Rattle.std.proofs.lemmas.Option.{none-some}
 use Rattle.market.specs.Counting.{is_programme}
 use Rattle.market.specs.Problems.{Problem, IsValid, place_of, kind_of, list_of, order_of, turn_of}
 use Rattle.market.specs.Stability.{held_by}
-use Rattle.market.specs.Dictatorships.{picked, taken}
-use Rattle.market.specs.Mechanism.{tentative, type_dictatorship, has_several, best_place, is_taken, next_cut, next_cuts, several_count, placed, placed_at, best_in, cut_in, cuts_in, has_several_in, several_in}
+use Rattle.market.specs.Dictatorships.{pick, seats_taken}
+use Rattle.market.specs.Mechanism.{tentative, type_dictatorship, has_several, best_place, is_taken, next_cut, next_cuts, several_count, best_programmes, best_programme, best_in, cut_in, cuts_in, has_several_in, several_in}
 use Rattle.market.specs.LocalNumbers.{programmes_of, local_of, IsFill}
-use Rattle.market.specs.Choices.{IsRound, choice_in, no_choices, IsTable, IsWithinCuts, placed_in, FitsNumber}
+use Rattle.market.specs.Choices.{IsRound, programme_in, empty_table, IsTable, IsWithinCuts, best_programmes_in, FitsNumber}
 use Rattle.market.specs.Reruns.{is_beyond, is_cut_away, first_changed, changed_turn, IsRunUpto, kept_seats, IsKeptFill}
 use Rattle.market.proofs.Firsts.{place_get}
 use Rattle.market.proofs.Seats.{position_agree}
-use Rattle.market.proofs.Turns.{taken-zero, taken-suc, taken-le-quota, one_more, no_more, is_programme-same}
-use Rattle.market.proofs.Tentatives.{turn_at, candidate_at, tentative-picked, tentative-takes, type-quota, type-fill}
+use Rattle.market.proofs.Turns.{seats_taken-zero, seats_taken-suc, seats_taken-le-quota, one_more, no_more, is_programme-same}
+use Rattle.market.proofs.Tentatives.{turn_at, candidate_at, tentative-pick, tentative-takes, type-quota, type-fill}
 use Rattle.market.proofs.Dicts.{entry_lt, local_back, local_lt, local_member}
 use Rattle.market.proofs.Locals.{none_at}
 use Rattle.market.proofs.Plain.{count_agree}
@@ -33,56 +33,56 @@ round-table m cuts table r = record { types = r.types; candidates = r.candidates
 
 pub round-several : (m : Problem) (cuts : List ℕ) (table : List (List (Option ℕ))) (i : ℕ)
     → IsRound m cuts table → i < length m.lists
-    → has_several_in m (choice_in table) i ≡ has_several m cuts i
+    → has_several_in m (programme_in table) i ≡ has_several m cuts i
 unfolding has_several_in has_several
 round-several m cuts table i r l =
-    ap (nat_lt 1) (count_agree (λ t. is_some (choice_in table t i))
+    ap (nat_lt 1) (count_agree (λ t. is_some (programme_in table t i))
     (λ t. is_some (tentative m cuts t i)) m.types
     (λ t lt. ap (λ (o : Option ℕ). is_some o) (r.each t i lt l)))
 
 pub round-best : (m : Problem) → IsValid m
     → (cuts : List ℕ) (table : List (List (Option ℕ))) (i : ℕ) → IsRound m cuts table
-    → i < length m.lists → best_in m (choice_in table) i ≡ best_place m cuts i
+    → i < length m.lists → best_in m (programme_in table) i ≡ best_place m cuts i
 unfolding best_in best_place is_taken
 round-best m v cuts table i r l =
-    position_agree (λ p. is_programme p (choice_in table (kind_of m p) i))
+    position_agree (λ p. is_programme p (programme_in table (kind_of m p) i))
     (λ p. is_programme p (tentative m cuts (kind_of m p) i)) (list_of m i)
     (λ j lj. let p = slice_index (list_of m i) j in ap (is_programme p)
     (r.each (kind_of m p) i (v.kinds p (entry_lt m v i j l lj)) l))
 
 pub round-cut : (m : Problem) → IsValid m → (cuts : List ℕ) (table : List (List (Option ℕ))) (i : ℕ)
     → IsRound m cuts table → i < length m.lists
-    → cut_in m (choice_in table) cuts i ≡ next_cut m cuts i
+    → cut_in m (programme_in table) cuts i ≡ next_cut m cuts i
 unfolding cut_in next_cut has_several has_several_in best_place best_in
 round-cut m v cuts table i r l =
-    ap (λ (b : Bool). cond b (best_in m (choice_in table) i + 1) (slice_index cuts i))
+    ap (λ (b : Bool). cond b (best_in m (programme_in table) i + 1) (slice_index cuts i))
     (round-several m cuts table i r l)
     ∙ ap (λ (n : ℕ). cond (has_several m cuts i) (n + 1) (slice_index cuts i))
     (round-best m v cuts table i r l)
 
 pub round-cuts : (m : Problem) → IsValid m → (cuts : List ℕ) (table : List (List (Option ℕ)))
-    → IsRound m cuts table → cuts_in m (choice_in table) cuts ≡ next_cuts m cuts
+    → IsRound m cuts table → cuts_in m (programme_in table) cuts ≡ next_cuts m cuts
 unfolding cuts_in next_cuts next_cut cut_in
 round-cuts m v cuts table r =
     fill_by_all (next_cut m cuts)
-    (map (cut_in m (choice_in table) cuts) (range_with_len 0 (length m.lists))) (length m.lists)
+    (map (cut_in m (programme_in table) cuts) (range_with_len 0 (length m.lists))) (length m.lists)
     0
-    (length-map-range_with_len (cut_in m (choice_in table) cuts) 0 (length m.lists))
-    (λ i l. get_or-map-range_with_len (cut_in m (choice_in table) cuts) 0 (length m.lists) i i 0 l
+    (length-map-range_with_len (cut_in m (programme_in table) cuts) 0 (length m.lists))
+    (λ i l. get_or-map-range_with_len (cut_in m (programme_in table) cuts) 0 (length m.lists) i i 0 l
     (omega arith) ∙ round-cut m v cuts table i r l)
 
 pub round-count : (m : Problem) (cuts : List ℕ) (table : List (List (Option ℕ)))
-    → IsRound m cuts table → several_in m (choice_in table) ≡ several_count m cuts
+    → IsRound m cuts table → several_in m (programme_in table) ≡ several_count m cuts
 unfolding several_in several_count has_several has_several_in
 round-count m cuts table r =
-    count_agree (has_several_in m (choice_in table)) (has_several m cuts) (length m.lists)
+    count_agree (has_several_in m (programme_in table)) (has_several m cuts) (length m.lists)
     (λ i l. round-several m cuts table i r l)
 
-pub round-placed : (m : Problem) → IsValid m → (cuts : List ℕ) (table : List (List (Option ℕ)))
-    → IsRound m cuts table → placed_in m (choice_in table) ≡ placed m cuts
-unfolding placed_in placed placed_at
-round-placed m v cuts table r =
-    let f = λ (i : ℕ). slice_get (list_of m i) (best_in m (choice_in table) i) in
+pub round-best_programmes : (m : Problem) → IsValid m → (cuts : List ℕ) (table : List (List (Option ℕ)))
+    → IsRound m cuts table → best_programmes_in m (programme_in table) ≡ best_programmes m cuts
+unfolding best_programmes_in best_programmes best_programme
+round-best_programmes m v cuts table r =
+    let f = λ (i : ℕ). slice_get (list_of m i) (best_in m (programme_in table) i) in
     let g = λ (i : ℕ). slice_get (list_of m i) (best_place m cuts i) in
     fill_by_all g (map f (range_with_len 0 (length m.lists))) (length m.lists) None
     (length-map-range_with_len f 0 (length m.lists))
@@ -90,7 +90,7 @@ round-placed m v cuts table r =
     ∙ ap (slice_get (list_of m i)) (round-best m v cuts table i r l))
 
 choice_past : (m : Problem) (table : List (List (Option ℕ))) (t i p : ℕ) → IsTable m table
-    → choice_in table t i ≡ Some p → (t < m.types) × (i < length m.lists)
+    → programme_in table t i ≡ Some p → (t < m.types) × (i < length m.lists)
 choice_past m table t i p s e =
     let n = s.types in
     let lt : t < m.types =
@@ -110,7 +110,7 @@ choice_past m table t i p s e =
 pub round-within : (m : Problem) (cuts : List ℕ) (table : List (List (Option ℕ)))
     → IsRound m cuts table → IsWithinCuts m table cuts
 round-within m cuts table r =
-    let took = λ (t i p : ℕ) (e : choice_in table t i ≡ Some p).
+    let took = λ (t i p : ℕ) (e : programme_in table t i ≡ Some p).
     let at = choice_past m table t i p (round-table m cuts table r) e in
     tentative-takes m cuts t i p (sym (r.each t i at.0 at.1) ∙ e) in
     record {
@@ -121,19 +121,19 @@ round-within m cuts table r =
 
 away-agree : (m : Problem) → IsValid m → (cuts : List ℕ) (table : List (List (Option ℕ))) (t i : ℕ)
     → IsRound m cuts table → t < m.types → i < length m.lists
-    → is_cut_away m (choice_in table) cuts t i ≡ is_cut_away m (tentative m cuts) cuts t i
+    → is_cut_away m (programme_in table) cuts t i ≡ is_cut_away m (tentative m cuts) cuts t i
 unfolding is_cut_away cut_in has_several_in best_in next_cut has_several best_place is_taken
 away-agree m v cuts table t i r lt l =
-    ap (λ (n : ℕ). is_beyond (list_of m i) n (choice_in table t i)) (round-cut m v cuts table i r l)
+    ap (λ (n : ℕ). is_beyond (list_of m i) n (programme_in table t i)) (round-cut m v cuts table i r l)
     ∙ ap (is_beyond (list_of m i) (next_cut m cuts i)) (r.each t i lt l)
 
 pub round-changed : (m : Problem) → IsValid m
     → (cuts : List ℕ) (table : List (List (Option ℕ))) (t : ℕ) → IsRound m cuts table → t < m.types
-    → unwrap_or (changed_turn m (choice_in table) cuts t) (length (order_of m t))
+    → unwrap_or (changed_turn m (programme_in table) cuts t) (length (order_of m t))
     ≡ first_changed m (tentative m cuts) cuts t
 unfolding changed_turn first_changed
 round-changed m v cuts table t r lt =
-    let f = is_cut_away m (choice_in table) cuts t in
+    let f = is_cut_away m (programme_in table) cuts t in
     let g = is_cut_away m (tentative m cuts) cuts t in
     let n = length (order_of m t) in
     let same =
@@ -153,8 +153,8 @@ round-changed m v cuts table t r lt =
 -- ---- the rows
 
 pub run-none : (m : Problem) (cuts : List ℕ) (t : ℕ) (table : List (List (Option ℕ)))
-    → table ≡ no_choices m → t < m.types → IsRunUpto m cuts t 0 (slice_index_or table t [])
-unfolding no_choices
+    → table ≡ empty_table m → t < m.types → IsRunUpto m cuts t 0 (slice_index_or table t [])
+unfolding empty_table
 run-none m cuts t table e lt =
     let row = ap (λ (xs : List (List (Option ℕ))). get_or xs t []) e
     ∙ get_or-replicate m.types t (replicate {A = Option ℕ} (length m.lists) None) [] lt in
@@ -166,10 +166,10 @@ run-none m cuts t table e lt =
       idle = λ i l h. ap (λ (xs : List (Option ℕ)). get_or xs i None) row ∙ none_at (length m.lists) i;
     }
 
-pub no_choices-count : (m : Problem) (table : List (List (Option ℕ))) → table ≡ no_choices m
+pub empty_table-count : (m : Problem) (table : List (List (Option ℕ))) → table ≡ empty_table m
     → length table ≡ m.types
-unfolding no_choices
-no_choices-count m table e =
+unfolding empty_table
+empty_table-count m table e =
     ap (λ (xs : List (List (Option ℕ))). length xs) e
     ∙ length-replicate {A = List (Option ℕ)} m.types (replicate (length m.lists) None)
 
@@ -189,7 +189,7 @@ run-kept m v cuts table t r lt =
 pub run-more : (m : Problem) → IsValid m
     → (cuts : List ℕ) (t k : ℕ) (row : List (Option ℕ)) (x : Option ℕ) → t < m.types
     → k < length (order_of m t) → IsRunUpto m cuts t k row
-    → x ≡ picked (type_dictatorship m cuts t) k
+    → x ≡ pick (type_dictatorship m cuts t) k
     → IsRunUpto m cuts t (k + 1) (set row (slice_index (order_of m t) k) x)
 run-more m v cuts t k row x lt l f e =
     let c = slice_index (order_of m t) k in
@@ -205,8 +205,8 @@ run-more m v cuts t k row x lt l f e =
           ap (held_by (set row c x)) same
           ∙ get_or-set_same row c x None (omega arith)
           ∙ e
-          ∙ ap (picked (type_dictatorship m cuts t)) (sym at)
-          ∙ sym (tentative-picked m cuts t c own)
+          ∙ ap (pick (type_dictatorship m cuts t)) (sym at)
+          ∙ sym (tentative-pick m cuts t c own)
           ∙ ap (tentative m cuts t) (sym same))
           (λ ne.
           let other : turn_of m t i ≢ k =
@@ -251,24 +251,24 @@ kept-suc m c t k p = refl
 pub kept_at : (m : Problem) → IsValid m
     → (cuts : List ℕ) (table : List (List (Option ℕ))) (t k j : ℕ) → t < m.types
     → k ≤ length (order_of m t) → j < k → IsRunUpto m cuts t k (slice_index_or table t [])
-    → choice_in table t (slice_index (order_of m t) j) ≡ picked (type_dictatorship m cuts t) j
+    → programme_in table t (slice_index (order_of m t) j) ≡ pick (type_dictatorship m cuts t) j
 kept_at m v cuts table t k j lt le l f =
     let i = slice_index (order_of m t) j in
     let at = turn_at m v t j lt (omega arith) in
     f.run i (v.order_entries t j lt (omega arith)) (omega arith)
-    ∙ tentative-picked m cuts t i (omega arith)
-    ∙ ap (picked (type_dictatorship m cuts t)) at
+    ∙ tentative-pick m cuts t i (omega arith)
+    ∙ ap (pick (type_dictatorship m cuts t)) at
 
-kept_seats-taken : (m : Problem) (c : ℕ → ℕ → Option ℕ) (cuts : List ℕ) (t p k : ℕ)
-    → ((j : ℕ) → j < k → c t (slice_index (order_of m t) j) ≡ picked (type_dictatorship m cuts t) j)
-    → kept_seats m c t k p ≡ taken (type_dictatorship m cuts t) k p
-kept_seats-taken m c cuts t p zero h =
-    kept-zero m c t p ∙ sym (taken-zero (type_dictatorship m cuts t) p)
-kept_seats-taken m c cuts t p (suc k) h =
+kept_seats-seats_taken : (m : Problem) (c : ℕ → ℕ → Option ℕ) (cuts : List ℕ) (t p k : ℕ)
+    → ((j : ℕ) → j < k → c t (slice_index (order_of m t) j) ≡ pick (type_dictatorship m cuts t) j)
+    → kept_seats m c t k p ≡ seats_taken (type_dictatorship m cuts t) k p
+kept_seats-seats_taken m c cuts t p zero h =
+    kept-zero m c t p ∙ sym (seats_taken-zero (type_dictatorship m cuts t) p)
+kept_seats-seats_taken m c cuts t p (suc k) h =
     let d = type_dictatorship m cuts t in
-    let ih = kept_seats-taken m c cuts t p k (λ j l. h j (omega arith)) in
+    let ih = kept_seats-seats_taken m c cuts t p k (λ j l. h j (omega arith)) in
     let a = kept-suc m c t k p in
-    let b = taken-suc d k p in
+    let b = seats_taken-suc d k p in
     let e = ap (λ (o : Option ℕ). cond {A = ℕ} (is_programme p o) 1 0) (h k (omega arith)) in
     omega arith
 
@@ -276,18 +276,18 @@ kept_seats-taken m c cuts t p (suc k) h =
 pub kept_fills : (m : Problem) → IsValid m
     → (cuts fill : List ℕ) (table : List (List (Option ℕ))) (t k : ℕ) → t < m.types
     → k ≤ length (order_of m t) → IsRunUpto m cuts t k (slice_index_or table t [])
-    → IsKeptFill m (choice_in table) t k fill → (j : ℕ) → j < length (programmes_of m t)
-    → slice_index fill j ≡ taken (type_dictatorship m cuts t) k (slice_index (programmes_of m t) j)
+    → IsKeptFill m (programme_in table) t k fill → (j : ℕ) → j < length (programmes_of m t)
+    → slice_index fill j ≡ seats_taken (type_dictatorship m cuts t) k (slice_index (programmes_of m t) j)
 kept_fills m v cuts fill table t k lt le f s j l =
     s.each j l
-    ∙ kept_seats-taken m (choice_in table) cuts t (slice_index (programmes_of m t) j) k
+    ∙ kept_seats-seats_taken m (programme_in table) cuts t (slice_index (programmes_of m t) j) k
     (λ i li. kept_at m v cuts table t k i lt le li f)
 
 pub kept_fill-fits : (m : Problem) (cuts fill : List ℕ) (t k : ℕ)
     → length fill ≡ length (programmes_of m t)
     → ((j : ℕ) → j < length (programmes_of m t)
     → slice_index fill j
-    ≡ taken (type_dictatorship m cuts t) k (slice_index (programmes_of m t) j))
+    ≡ seats_taken (type_dictatorship m cuts t) k (slice_index (programmes_of m t) j))
     → IsFill m t fill
 kept_fill-fits m cuts fill t k n h = record {
   programmes = n;
@@ -295,7 +295,7 @@ kept_fill-fits m cuts fill t k n h = record {
       let p = slice_index (programmes_of m t) j in
       let z = type-fill m cuts t p in
       let q = type-quota m cuts t p in
-      let b = taken-le-quota (type_dictatorship m cuts t) p (omega arith) k in
+      let b = seats_taken-le-quota (type_dictatorship m cuts t) p (omega arith) k in
       let e = h j l in
       omega arith;
 }
@@ -303,7 +303,7 @@ kept_fill-fits m cuts fill t k n h = record {
 pub kept_kind : (m : Problem) → IsValid m
     → (cuts : List ℕ) (table : List (List (Option ℕ))) (t k j p : ℕ) → t < m.types
     → k ≤ length (order_of m t) → j < k → IsRunUpto m cuts t k (slice_index_or table t [])
-    → choice_in table t (slice_index (order_of m t) j) ≡ Some p
+    → programme_in table t (slice_index (order_of m t) j) ≡ Some p
     → (p < length m.programmes) × (kind_of m p ≡ t)
 kept_kind m v cuts table t k j p lt le l f e =
     let i = slice_index (order_of m t) j in
@@ -391,17 +391,17 @@ kept-le m c t k p =
     k
 
 -- what a turn takes fits the number that keeps it
-pub picked-small : (m : Problem) → IsValid m → (cuts : List ℕ) (t k : ℕ) (x : Option ℕ)
-    → t < m.types → k < length (order_of m t) → x ≡ picked (type_dictatorship m cuts t) k
+pub pick-small : (m : Problem) → IsValid m → (cuts : List ℕ) (t k : ℕ) (x : Option ℕ)
+    → t < m.types → k < length (order_of m t) → x ≡ pick (type_dictatorship m cuts t) k
     → FitsNumber x
-picked-small m v cuts t k None lt l e = tt
-picked-small m v cuts t k (Some p) lt l e =
+pick-small m v cuts t k None lt l e = tt
+pick-small m v cuts t k (Some p) lt l e =
     let i = slice_index (order_of m t) k in
     let at = turn_at m v t k lt l in
     let li = v.order_entries t k lt l in
     let took =
     tentative-takes m cuts t i p
-    (tentative-picked m cuts t i (omega arith) ∙ ap (picked (type_dictatorship m cuts t)) at
+    (tentative-pick m cuts t i (omega arith) ∙ ap (pick (type_dictatorship m cuts t)) at
     ∙ sym e) in
     let b = v.list_entries i (place_of p (list_of m i)) li took.listed in
     let q = place_get p (list_of m i) 0 took.listed in

@@ -9,12 +9,12 @@ use Rattle.std.proofs.lemmas.Option.{none-some, same_Some}
 use Rattle.market.specs.declared.programme.Prog.{Prog}
 use Rattle.market.specs.Counting.{count_of}
 use Rattle.market.specs.Problems.{Problem, IsValid, place_of, list_of, order_of, turn_of}
-use Rattle.market.specs.Dictatorships.{has_seat, chosen, picked}
+use Rattle.market.specs.Dictatorships.{has_seat, picks, pick}
 use Rattle.market.specs.Mechanism.{is_offered, turn_list, type_dictatorship, tentative, next_cut, next_cuts, has_several, best_place, is_taken, best_in, cut_in, has_several_in}
 use Rattle.market.specs.Reruns.{is_beyond, is_cut_away, first_changed}
 use Rattle.market.proofs.Firsts.{find_take, find_first_take, find-filter, place_same}
-use Rattle.market.proofs.Turns.{is_open, picked-find, chosen-suc, chosen-zero}
-use Rattle.market.proofs.Tentatives.{turn_at, get-chosen, type-list, tentative-picked, tentative-turn}
+use Rattle.market.proofs.Turns.{is_open, pick-find, picks-suc, picks-zero}
+use Rattle.market.proofs.Tentatives.{turn_at, get-picks, type-list, tentative-pick, tentative-turn}
 use Rattle.market.proofs.Rounds.{next_cuts-at, next_cuts-le}
 use Rattle.market.proofs.Valid.{kind_lt}
 
@@ -61,16 +61,16 @@ offers m t i earlier p =
     && nat_lt (slice_index (replicate (length m.programmes) 0) p + count_of p earlier)
     (slice_index (map (λ (q : Prog). q.quota) m.programmes) p)
 
-picked-after : (m : Problem) (cuts : List ℕ) (t k : ℕ) → k < length (order_of m t)
-    → picked (type_dictatorship m cuts t) k
-    ≡ find (offers m t (slice_index (order_of m t) k) (chosen (type_dictatorship m cuts t) k))
+pick-after : (m : Problem) (cuts : List ℕ) (t k : ℕ) → k < length (order_of m t)
+    → pick (type_dictatorship m cuts t) k
+    ≡ find (offers m t (slice_index (order_of m t) k) (picks (type_dictatorship m cuts t) k))
     (take (slice_index cuts (slice_index (order_of m t) k))
     (list_of m (slice_index (order_of m t) k)))
 unfolding turn_list is_open has_seat type_dictatorship
-picked-after m cuts t k l =
+pick-after m cuts t k l =
     let d = type_dictatorship m cuts t in
     let i = slice_index (order_of m t) k in
-    picked-find d k
+    pick-find d k
     ∙ ap (find (is_open d k)) (type-list m cuts t k l)
     ∙ find-filter (is_open d k) (is_offered m t i) (take (slice_index cuts i) (list_of m i))
 
@@ -79,51 +79,51 @@ abbrev pub StandsWithin : Problem → List ℕ → List ℕ → ℕ → ℕ → 
 StandsWithin m older newer t i = (p : ℕ) → tentative m older t i ≡ Some p
     → place_of p (list_of m i) < slice_index newer i
 
-pub kept_picked : (m : Problem) → IsValid m → (older newer : List ℕ) (t k : ℕ)
+pub kept_pick : (m : Problem) → IsValid m → (older newer : List ℕ) (t k : ℕ)
     → ((i : ℕ) → slice_index newer i ≤ slice_index older i) → k < length (order_of m t)
     → StandsWithin m older newer t (slice_index (order_of m t) k)
-    → chosen (type_dictatorship m newer t) k ≡ chosen (type_dictatorship m older t) k
-    → picked (type_dictatorship m newer t) k ≡ picked (type_dictatorship m older t) k
-kept_picked m v older newer t k shorter l within e =
+    → picks (type_dictatorship m newer t) k ≡ picks (type_dictatorship m older t) k
+    → pick (type_dictatorship m newer t) k ≡ pick (type_dictatorship m older t) k
+kept_pick m v older newer t k shorter l within e =
     let i = slice_index (order_of m t) k in
     let at = turn_at m v t k (kind_lt m v t k l) l in
     let own : turn_of m t i < length (order_of m t) = omega arith in
-    let f = offers m t i (chosen (type_dictatorship m older t) k) in
-    let took = tentative-picked m older t i own ∙ ap (picked (type_dictatorship m older t)) at
-    ∙ picked-after m older t k l in
-    picked-after m newer t k l
+    let f = offers m t i (picks (type_dictatorship m older t) k) in
+    let took = tentative-pick m older t i own ∙ ap (pick (type_dictatorship m older t)) at
+    ∙ pick-after m older t k l in
+    pick-after m newer t k l
     ∙ ap (λ (xs : List (Option ℕ)). find (offers m t i xs) (take (slice_index newer i) (list_of m i))) e
     ∙ find_shorter f (list_of m i) (slice_index newer i) (slice_index older i) (shorter i)
     (λ p h. within p (took ∙ h))
-    ∙ sym (picked-after m older t k l)
+    ∙ sym (pick-after m older t k l)
 
 -- the choices before the first turn whose choice was cut away stay as they are
-pub kept_chosen : (m : Problem) → IsValid m → (older newer : List ℕ) (t k : ℕ)
+pub kept_picks : (m : Problem) → IsValid m → (older newer : List ℕ) (t k : ℕ)
     → ((i : ℕ) → slice_index newer i ≤ slice_index older i) → k ≤ length (order_of m t)
     → ((j : ℕ) → j < k → StandsWithin m older newer t (slice_index (order_of m t) j))
-    → chosen (type_dictatorship m newer t) k ≡ chosen (type_dictatorship m older t) k
-kept_chosen m v older newer t zero shorter l within =
-    chosen-zero (type_dictatorship m newer t) ∙ sym (chosen-zero (type_dictatorship m older t))
-kept_chosen m v older newer t (suc k) shorter l within =
+    → picks (type_dictatorship m newer t) k ≡ picks (type_dictatorship m older t) k
+kept_picks m v older newer t zero shorter l within =
+    picks-zero (type_dictatorship m newer t) ∙ sym (picks-zero (type_dictatorship m older t))
+kept_picks m v older newer t (suc k) shorter l within =
     let new = type_dictatorship m newer t in
     let old = type_dictatorship m older t in
-    let ih = kept_chosen m v older newer t k shorter (omega arith) (λ j lj. within j (omega arith)) in
-    let p = kept_picked m v older newer t k shorter (omega arith) (within k (omega arith)) ih in
-    chosen-suc new k ∙ ap (λ (xs : List (Option ℕ)). xs ++ picked new k ∷ []) ih
-    ∙ ap (λ (o : Option ℕ). chosen old k ++ o ∷ []) p ∙ sym (chosen-suc old k)
+    let ih = kept_picks m v older newer t k shorter (omega arith) (λ j lj. within j (omega arith)) in
+    let p = kept_pick m v older newer t k shorter (omega arith) (within k (omega arith)) ih in
+    picks-suc new k ∙ ap (λ (xs : List (Option ℕ)). xs ++ pick new k ∷ []) ih
+    ∙ ap (λ (o : Option ℕ). picks old k ++ o ∷ []) p ∙ sym (picks-suc old k)
 
 -- so a candidate with such a turn takes what it took
 kept_tentative : (m : Problem) (older newer : List ℕ) (t k i : ℕ) → k ≤ length (order_of m t)
     → turn_of m t i < k
-    → chosen (type_dictatorship m newer t) k ≡ chosen (type_dictatorship m older t) k
+    → picks (type_dictatorship m newer t) k ≡ picks (type_dictatorship m older t) k
     → tentative m newer t i ≡ tentative m older t i
 kept_tentative m older newer t k i l before e =
     let j = turn_of m t i in
-    tentative-picked m newer t i (omega arith)
-    ∙ sym (get-chosen (type_dictatorship m newer t) k j before)
+    tentative-pick m newer t i (omega arith)
+    ∙ sym (get-picks (type_dictatorship m newer t) k j before)
     ∙ ap (λ (xs : List (Option ℕ)). get_or xs j None) e
-    ∙ get-chosen (type_dictatorship m older t) k j before
-    ∙ sym (tentative-picked m older t i (omega arith))
+    ∙ get-picks (type_dictatorship m older t) k j before
+    ∙ sym (tentative-pick m older t i (omega arith))
 
 -- ---- the cut of one round
 
@@ -163,9 +163,9 @@ first-le m c cuts t = prefix_len-le-length (λ i. not (is_cut_away m c cuts t i)
 
 -- the law of reruns: up to the first changed turn the next round's dictatorship makes the choices of this one's
 pub record KeepsUpto (m : Problem) (cuts : List ℕ) (t : ℕ) : Type 0 where
-  pub chosen' : chosen (type_dictatorship m (next_cuts m cuts) t)
+  pub picks' : picks (type_dictatorship m (next_cuts m cuts) t)
       (first_changed m (tentative m cuts) cuts t)
-      ≡ chosen (type_dictatorship m cuts t) (first_changed m (tentative m cuts) cuts t)
+      ≡ picks (type_dictatorship m cuts t) (first_changed m (tentative m cuts) cuts t)
   pub tentative' : (i : ℕ) → turn_of m t i < first_changed m (tentative m cuts) cuts t
       → tentative m (next_cuts m cuts) t i ≡ tentative m cuts t i
   -- a type that no cut touches keeps all its choices
@@ -185,10 +185,10 @@ pub keeps_upto : (m : Problem) → IsValid m → (cuts : List ℕ) (t : ℕ) →
 keeps_upto m v cuts t =
     let k = first_changed m (tentative m cuts) cuts t in
     let le = first-le m (tentative m cuts) cuts t in
-    let e = kept_chosen m v cuts (next_cuts m cuts) t k (next_cuts-le m cuts) le
+    let e = kept_picks m v cuts (next_cuts m cuts) t k (next_cuts-le m cuts) le
     (λ j l. stands-before m v cuts t j l (omega arith)) in
     record {
-      chosen' = e;
+      picks' = e;
       tentative' = λ i l. kept_tentative m cuts (next_cuts m cuts) t k i le l e;
       untouched = λ all i.
           ⊎_elim

@@ -10,7 +10,7 @@ use Rattle.std.proofs.lemmas.List.Folds.{find_at}
 use Rattle.std.proofs.Math.ListN.{get_or-map as get_or-map_past}
 use Rattle.market.specs.Counting.{count_below}
 use Rattle.market.specs.Problems.{Problem, place_of, kind_of, list_of}
-use Rattle.market.specs.Mechanism.{tentative, has_several, is_taken, best_place, next_cut, next_cuts, whole_cuts, cuts_after, several_count, is_settled, settled_from, entry_count, entries_left, mechanism_rounds, RoundsEnd, cutting_rounds, placed_at, best_in, cut_in, cuts_in, has_several_in, several_in}
+use Rattle.market.specs.Mechanism.{tentative, has_several, is_taken, best_place, next_cut, next_cuts, whole_cuts, cuts_after, several_count, is_settled, settled_from, entry_count, entries_left, mechanism_rounds, HasLastRound, cutting_rounds, best_programme, best_in, cut_in, cuts_in, has_several_in, several_in}
 use Rattle.market.proofs.Firsts.{find_passes, find_first, first_at, place_same}
 use Rattle.market.proofs.Turns.{is_programme-true, is_programme-from, some_from}
 use Rattle.market.proofs.Counts.{Passes, count_one, count_two, count_some, count_some_two, sum_lt, sum_same}
@@ -83,21 +83,21 @@ is_taken-from m cuts t i p e =
     is_programme-from p (tentative m cuts (kind_of m p) i)
     (ap (λ (u : ℕ). tentative m cuts u i) (tentative-takes m cuts t i p e).kind ∙ e)
 
-pub placed-find : (m : Problem) (cuts : List ℕ) (i : ℕ)
-    → placed_at m cuts i ≡ find (is_taken m cuts i) (list_of m i)
-unfolding placed_at best_place best_in is_taken
-placed-find m cuts i = sym (find_at (is_taken m cuts i) (list_of m i))
+pub best_programme-find : (m : Problem) (cuts : List ℕ) (i : ℕ)
+    → best_programme m cuts i ≡ find (is_taken m cuts i) (list_of m i)
+unfolding best_programme best_place best_in is_taken
+best_programme-find m cuts i = sym (find_at (is_taken m cuts i) (list_of m i))
 
 -- what is placed is taken in its type
-pub placed-takes : (m : Problem) (cuts : List ℕ) (i p : ℕ) → placed_at m cuts i ≡ Some p
+pub best_programme-takes : (m : Problem) (cuts : List ℕ) (i p : ℕ) → best_programme m cuts i ≡ Some p
     → tentative m cuts (kind_of m p) i ≡ Some p
-placed-takes m cuts i p e =
+best_programme-takes m cuts i p e =
     is_taken-true m cuts i p
-    (find_passes (is_taken m cuts i) (list_of m i) p (sym (placed-find m cuts i) ∙ e))
+    (find_passes (is_taken m cuts i) (list_of m i) p (sym (best_programme-find m cuts i) ∙ e))
 
 -- the best of what is taken
 pub record IsBest (m : Problem) (cuts : List ℕ) (i b : ℕ) : Type 0 where
-  pub is_placed : placed_at m cuts i ≡ Some b
+  pub is_placed : best_programme m cuts i ≡ Some b
   pub takes : tentative m cuts (kind_of m b) i ≡ Some b
   pub place : best_place m cuts i ≡ place_of b (list_of m i)
 
@@ -119,12 +119,12 @@ pub best_by : (m : Problem) (cuts : List ℕ) (t i p : ℕ) → tentative m cuts
 best_by m cuts t i p e =
     let f = find_first (is_taken m cuts i) (list_of m i) p (is_taken-from m cuts t i p e)
     (tentative-takes m cuts t i p e).listed in
-    let at = placed-find m cuts i ∙ f.found in
+    let at = best_programme-find m cuts i ∙ f.found in
     record {
       best = f.entry;
       is_best = record {
         is_placed = at;
-        takes = placed-takes m cuts i f.entry at;
+        takes = best_programme-takes m cuts i f.entry at;
         place = place_of_best m cuts i f.entry f.found;
       };
       no_later = f.no_later;
@@ -308,7 +308,7 @@ pub cutting_rounds-settles : (m : Problem) → Settles m 0 (cutting_rounds m) (e
 unfolding cutting_rounds
 cutting_rounds-settles m = let e = first_total m in settles m (entry_count m) 0 (omega arith)
 
-pub rounds_end : (m : Problem) → RoundsEnd m
+pub rounds_end : (m : Problem) → HasLastRound m
 unfolding mechanism_rounds
 rounds_end m =
     let s = cutting_rounds-settles m in

@@ -8,10 +8,11 @@ use Rattle.std.proofs.lemmas.List.{get_or-set_same, get_or-set_other, length-set
 use Rattle.std.proofs.lemmas.List.FromFn.{map-range_with_len_more}
 use Rattle.std.proofs.lemmas.List.Sums.{passes_at_first, prefix_len-le-length}
 use Rattle.std.proofs.lemmas.Option.{slice_get-get_or, slice_get_past}
+use Rattle.market.specs.declared.limits.TheConstants.{MAX_ENTRIES}
 use Rattle.market.specs.Counting.{is_programme}
-use Rattle.market.specs.Dictatorships.{Dictatorship, has_seat, list_at, first_open, chosen, choice, choices, picked, taken, IsValidDictatorship, IsSeatsAt}
+use Rattle.market.specs.Dictatorships.{Dictatorship, has_seat, list_at, first_open, picks, choice, choices, pick, seats_taken, IsValidDictatorship, IsSeatsAt}
 use Rattle.market.proofs.Firsts.{place_step}
-use Rattle.market.proofs.Turns.{taken-zero, taken-suc, one_more, no_more, is_programme-same}
+use Rattle.market.proofs.Turns.{seats_taken-zero, seats_taken-suc, one_more, no_more, is_programme-same}
 
 -- whether an array of seats has room
 abbrev pub has_room : Dictatorship → List ℕ → ℕ → Bool
@@ -22,7 +23,7 @@ pub IsSeatsAt-start : (d : Dictatorship) (seats : List ℕ) → IsValidDictators
 IsSeatsAt-start d seats v e =
     record {
       count = ap (λ (xs : List ℕ). length xs) e ∙ v.fills;
-      each = λ p l. let z = taken-zero d p in let f = ap (λ (xs : List ℕ). slice_index xs p) e in
+      each = λ p l. let z = seats_taken-zero d p in let f = ap (λ (xs : List ℕ). slice_index xs p) e in
           omega arith;
     }
 
@@ -38,9 +39,9 @@ position_agree f g (x ∷ xs) h =
 pub place-choice : (d : Dictatorship) (k place : ℕ) (seats : List ℕ) → IsValidDictatorship d
     → k < length d.lists → IsSeatsAt d k seats
     → place ≡ position_or_len (has_room d seats) (list_at d k) → place ≡ choice d k
-unfolding choice first_open has_seat taken
+unfolding choice first_open has_seat seats_taken
 place-choice d k place seats v l s e =
-    e ∙ position_agree (has_room d seats) (has_seat d (chosen d k)) (list_at d k)
+    e ∙ position_agree (has_room d seats) (has_seat d (picks d k)) (list_at d k)
     (λ j lj. ap (λ (n : ℕ). nat_lt n (slice_index d.quota (slice_index (list_at d k) j)))
     (s.each (slice_index (list_at d k) j) (v.list_entries k j l lj)))
 
@@ -61,10 +62,10 @@ next : (d : Dictatorship) (k : ℕ) (seats : List ℕ) → IsSeatsAt d (suc k) s
     → IsSeatsAt d (k + 1) seats
 next d k seats s = let e : suc k ≡ k + 1 = omega arith in subst (λ (n : ℕ). IsSeatsAt d n seats) e s
 
-picked-at : (d : Dictatorship) (k place : ℕ) → place ≡ choice d k → place < length (list_at d k)
-    → picked d k ≡ Some (slice_index (list_at d k) place)
-unfolding picked
-picked-at d k place e l =
+pick-at : (d : Dictatorship) (k place : ℕ) → place ≡ choice d k → place < length (list_at d k)
+    → pick d k ≡ Some (slice_index (list_at d k) place)
+unfolding pick
+pick-at d k place e l =
     ap (slice_get (list_at d k)) (sym e) ∙ slice_get-get_or (list_at d k) place 0 l
 
 pub seats-take : (d : Dictatorship) (k place : ℕ) (seats : List ℕ) → IsValidDictatorship d
@@ -78,8 +79,8 @@ seats-take d k place seats v l s e lp =
     next d k _ (record {
       count = length-set seats q (slice_index seats q + 1) ∙ s.count;
       each = λ p b.
-          let t = taken-suc d k p in
-          let at = picked-at d k place e lp in
+          let t = seats_taken-suc d k p in
+          let at = pick-at d k place e lp in
           let here = s.each p b in
           ⊎_elim
           (λ same.
@@ -87,13 +88,13 @@ seats-take d k place seats v l s e lp =
           let w' = ap (slice_index (set seats q (slice_index seats q + 1))) same in
           let f = ap (slice_index seats) same in
           let one =
-          one_more (is_programme p (picked d k))
+          one_more (is_programme p (pick d k))
           (ap (is_programme p) (at ∙ ap Some (sym same)) ∙ is_programme-same p) in
           omega arith)
           (λ ne.
           let w = get_or-set_other seats q p (slice_index seats q + 1) 0 ne in
           let none =
-          no_more (is_programme p (picked d k))
+          no_more (is_programme p (pick d k))
           (ap (is_programme p) at ∙ ne_eqb q p (λ x. ne (sym x))) in
           omega arith)
           (cases_eq p q);
@@ -101,15 +102,15 @@ seats-take d k place seats v l s e lp =
 
 pub seats-pass : (d : Dictatorship) (k place : ℕ) (seats : List ℕ) → IsSeatsAt d k seats
     → place ≡ choice d k → length (list_at d k) ≤ place → IsSeatsAt d (k + 1) seats
-unfolding picked
+unfolding pick
 seats-pass d k place seats s e l =
     next d k seats (record {
       count = s.count;
       each = λ p b.
-          let t = taken-suc d k p in
+          let t = seats_taken-suc d k p in
           let here = s.each p b in
           let none =
-          no_more (is_programme p (picked d k))
+          no_more (is_programme p (pick d k))
           (ap (is_programme p) (slice_get_past (list_at d k) (choice d k) (omega arith))) in
           omega arith;
     })
@@ -130,6 +131,6 @@ choices-all d n e = ap (λ (k : ℕ). map (choice d) (range_with_len 0 k)) e
 
 -- a place fits 32 bits
 pub place-small : (d : Dictatorship) (k : ℕ) (f : ℕ → Bool) → IsValidDictatorship d
-    → k < length d.lists → position_or_len f (list_at d k) ≤ 48
+    → k < length d.lists → position_or_len f (list_at d k) ≤ MAX_ENTRIES
 place-small d k f v l = let h = prefix_len-le-length (λ x. not (f x)) (list_at d k) in
     omega (arith, v.list_lengths k l)

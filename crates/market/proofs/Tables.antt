@@ -4,7 +4,7 @@ use Rattle.std.specs.Prelude.{slice_index, ◌==◌}
 use Rattle.std.proofs.lemmas.Bool.{cases_lt, cases_eq, ne_eqb, eq-eqb}
 use Rattle.std.proofs.lemmas.List.{get_or-set_same, get_or-set_other, length-set, length-replicate, get_or-replicate}
 use Rattle.std.proofs.lemmas.List.Sums.{position_or_len_is, prefix_len-le-length}
-use Rattle.market.specs.Problems.{IsDistinct, place_of}
+use Rattle.market.specs.Problems.{HasNoRepeats, place_of}
 use Rattle.market.specs.Tables.{IsTurnTable}
 use Rattle.market.proofs.Firsts.{place_get}
 
@@ -23,14 +23,14 @@ IsFilled-none count n order table h e = record {
 }
 
 -- in a list without two equal entries an entry stands at its place
-pub place_at : (xs : List ℕ) (k : ℕ) → IsDistinct xs → k < length xs
+pub place_at : (xs : List ℕ) (k : ℕ) → HasNoRepeats xs → k < length xs
     → place_of (slice_index xs k) xs ≡ k
 place_at xs k d l =
     position_or_len_is (λ y. y == slice_index xs k) xs k 0 (omega arith)
     (λ j lj. ne_eqb (slice_index xs j) (slice_index xs k) (d j k lj l))
     (λ lk. eq-eqb (slice_index xs k) (slice_index xs k) refl)
 
-pub IsFilled-more : (count : ℕ) (order table : List ℕ) (k : ℕ) → IsDistinct order → k < length order
+pub IsFilled-more : (count : ℕ) (order table : List ℕ) (k : ℕ) → HasNoRepeats order → k < length order
     → slice_index order k < count → IsFilled count order table k
     → IsFilled count order (set table (slice_index order k) k) (k + 1)
 IsFilled-more count order table k d l b f =

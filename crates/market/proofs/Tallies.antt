@@ -8,18 +8,18 @@ use Rattle.std.proofs.lemmas.List.Sums.{sum_by-set, sum_by-cons}
 use Rattle.std.proofs.lemmas.Option.{none-some}
 use Rattle.market.specs.Counting.{is_programme, count_of}
 use Rattle.market.specs.Stability.{held_by}
-use Rattle.market.specs.Dictatorships.{Dictatorship, picked, taken}
-use Rattle.market.proofs.Turns.{taken-zero, taken-suc, one_more, no_more, is_programme-true, is_programme-from}
+use Rattle.market.specs.Dictatorships.{Dictatorship, pick, seats_taken}
+use Rattle.market.proofs.Turns.{seats_taken-zero, seats_taken-suc, one_more, no_more, is_programme-true, is_programme-from}
 
 -- how many of the first n values are the programme p
 abbrev pub tally : (ℕ → Option ℕ) → ℕ → ℕ → ℕ
 tally h zero p = 0
 tally h (suc n) p = tally h n p + cond (is_programme p (h n)) 1 0
 
-pub taken-tally : (d : Dictatorship) (k p : ℕ) → taken d k p ≡ tally (picked d) k p
-taken-tally d zero p = taken-zero d p
-taken-tally d (suc k) p =
-    taken-suc d k p ∙ ap (λ (n : ℕ). n + cond (is_programme p (picked d k)) 1 0) (taken-tally d k p)
+pub seats_taken-tally : (d : Dictatorship) (k p : ℕ) → seats_taken d k p ≡ tally (pick d) k p
+seats_taken-tally d zero p = seats_taken-zero d p
+seats_taken-tally d (suc k) p =
+    seats_taken-suc d k p ∙ ap (λ (n : ℕ). n + cond (is_programme p (pick d k)) 1 0) (seats_taken-tally d k p)
 
 pub tally-mono : (h : ℕ → Option ℕ) (j n p : ℕ) → j ≤ n → tally h j p ≤ tally h n p
 tally-mono h zero zero p l = omega arith

@@ -8,11 +8,11 @@ use Rattle.std.proofs.Math.ListN.{get_or-map as get_or-map_past}
 use Rattle.std.proofs.lemmas.List.Sums.{position_or_len_is}
 use Rattle.std.proofs.lemmas.Option.{none-some}
 use Rattle.market.specs.declared.programme.Prog.{Prog}
-use Rattle.market.specs.Problems.{Problem, IsValid, place_of, kind_of, quota_of, list_of, order_of, turn_of}
-use Rattle.market.specs.Dictatorships.{Dictatorship, chosen, picked, list_at, taken}
+use Rattle.market.specs.Problems.{Problem, IsValid, place_of, programme_at, kind_of, quota_of, list_of, order_of, turn_of}
+use Rattle.market.specs.Dictatorships.{Dictatorship, picks, pick, list_at, seats_taken}
 use Rattle.market.specs.Mechanism.{is_offered, turn_list, type_dictatorship, tentative}
 use Rattle.market.proofs.Firsts.{find_take, find_first_take, find-filter, place_get}
-use Rattle.market.proofs.Turns.{is_open, is_open-true, is_open-from, picked-find, chosen-suc, length-chosen}
+use Rattle.market.proofs.Turns.{is_open, is_open-true, is_open-from, pick-find, picks-suc, length-picks}
 
 -- ---- turns
 
@@ -30,17 +30,17 @@ pub candidate_at : (m : Problem) (t i : ℕ) → turn_of m t i < length (order_o
 unfolding turn_of
 candidate_at m t i l = place_get i (order_of m t) 0 l
 
-pub get-chosen : (d : Dictatorship) (n k : ℕ) → k < n → get_or (chosen d n) k None ≡ picked d k
-get-chosen d zero k l = absurd (omega arith)
-get-chosen d (suc n) k l =
-    let e = ap (λ (xs : List (Option ℕ)). get_or xs k None) (chosen-suc d n) in
-    let len = length-chosen d n in
+pub get-picks : (d : Dictatorship) (n k : ℕ) → k < n → get_or (picks d n) k None ≡ pick d k
+get-picks d zero k l = absurd (omega arith)
+get-picks d (suc n) k l =
+    let e = ap (λ (xs : List (Option ℕ)). get_or xs k None) (picks-suc d n) in
+    let len = length-picks d n in
     ⊎_elim
-    (λ less. e ∙ get_or_append_left (chosen d n) (picked d n ∷ []) None k (omega arith)
-    ∙ get-chosen d n k less)
+    (λ less. e ∙ get_or_append_left (picks d n) (pick d n ∷ []) None k (omega arith)
+    ∙ get-picks d n k less)
     (λ more. let same : n ≡ k =
-    omega arith in e ∙ get_or_push (chosen d n) (picked d n) None k (len ∙ same)
-    ∙ ap (picked d) same)
+    omega arith in e ∙ get_or_push (picks d n) (pick d n) None k (len ∙ same)
+    ∙ ap (pick d) same)
     (cases_lt k n)
 
 -- ---- the dictatorship of a type
@@ -85,44 +85,50 @@ pub offered-from : (m : Problem) (t i p : ℕ) → kind_of m p ≡ t → is_offe
 unfolding is_offered
 offered-from m t i p e = eq-eqb (kind_of m p) t e
 
+-- as a call reads it: the type of the programme that it looks up
+pub offered-is : (m : Problem) (t i p : ℕ) (q : Prog) → q ≡ programme_at m p
+    → is_offered m t i p ≡ (q.kind == t)
+unfolding is_offered kind_of
+offered-is m t i p q e = ap (λ (x : Prog). x.kind == t) (sym e)
+
 -- ---- what a candidate takes
 
 unfoldable pub seats_before : Problem → List ℕ → ℕ → ℕ → ℕ → ℕ
-seats_before m cuts t i p = taken (type_dictatorship m cuts t) (turn_of m t i) p
+seats_before m cuts t i p = seats_taken (type_dictatorship m cuts t) (turn_of m t i) p
 
 -- the test by which the turn of i picks
-unfoldable pub picks : Problem → List ℕ → ℕ → ℕ → ℕ → Bool
-picks m cuts t i p = is_offered m t i p && is_open (type_dictatorship m cuts t) (turn_of m t i) p
+unfoldable pub would_pick : Problem → List ℕ → ℕ → ℕ → ℕ → Bool
+would_pick m cuts t i p = is_offered m t i p && is_open (type_dictatorship m cuts t) (turn_of m t i) p
 
-pub tentative-picked : (m : Problem) (cuts : List ℕ) (t i : ℕ)
+pub tentative-pick : (m : Problem) (cuts : List ℕ) (t i : ℕ)
     → turn_of m t i < length (order_of m t)
-    → tentative m cuts t i ≡ picked (type_dictatorship m cuts t) (turn_of m t i)
+    → tentative m cuts t i ≡ pick (type_dictatorship m cuts t) (turn_of m t i)
 unfolding tentative
-tentative-picked m cuts t i l =
-    get-chosen (type_dictatorship m cuts t) (length (order_of m t)) (turn_of m t i) l
+tentative-pick m cuts t i l =
+    get-picks (type_dictatorship m cuts t) (length (order_of m t)) (turn_of m t i) l
 
 pub tentative-turn : (m : Problem) (cuts : List ℕ) (t i p : ℕ) → tentative m cuts t i ≡ Some p
     → turn_of m t i < length (order_of m t)
 unfolding tentative
 tentative-turn m cuts t i p e =
     let d = type_dictatorship m cuts t in
-    let len = length-chosen d (length (order_of m t)) in
+    let len = length-picks d (length (order_of m t)) in
     ⊎_elim
     (λ l. l)
     (λ past. absurd (none-some p
-    (sym (get_or_past (chosen d (length (order_of m t))) (turn_of m t i) None (omega arith))
+    (sym (get_or_past (picks d (length (order_of m t))) (turn_of m t i) None (omega arith))
     ∙ e)))
     (cases_lt (turn_of m t i) (length (order_of m t)))
 
 -- it is the first entry within the cut that the turn may take
 pub tentative-find : (m : Problem) (cuts : List ℕ) (t i : ℕ) → turn_of m t i < length (order_of m t)
-    → tentative m cuts t i ≡ find (picks m cuts t i) (take (slice_index cuts i) (list_of m i))
-unfolding turn_list picks
+    → tentative m cuts t i ≡ find (would_pick m cuts t i) (take (slice_index cuts i) (list_of m i))
+unfolding turn_list would_pick
 tentative-find m cuts t i l =
     let d = type_dictatorship m cuts t in
     let k = turn_of m t i in
-    tentative-picked m cuts t i l
-    ∙ picked-find d k
+    tentative-pick m cuts t i l
+    ∙ pick-find d k
     ∙ ap (find (is_open d k)) (type-list m cuts t k l ∙ ap (turn_list m cuts t) (candidate_at m t i l))
     ∙ find-filter (is_open d k) (is_offered m t i) (take (slice_index cuts i) (list_of m i))
 
@@ -136,12 +142,12 @@ pub record Takes (m : Problem) (cuts : List ℕ) (t i p : ℕ) : Type 0 where
 
 pub tentative-takes : (m : Problem) (cuts : List ℕ) (t i p : ℕ) → tentative m cuts t i ≡ Some p
     → Takes m cuts t i p
-unfolding picks seats_before
+unfolding would_pick seats_before
 tentative-takes m cuts t i p e =
     let d = type_dictatorship m cuts t in
     let k = turn_of m t i in
     let l = tentative-turn m cuts t i p e in
-    let f = find_take (picks m cuts t i) (list_of m i) (slice_index cuts i) p
+    let f = find_take (would_pick m cuts t i) (list_of m i) (slice_index cuts i) p
     (sym (tentative-find m cuts t i l) ∙ e) in
     let both = and_parts (is_offered m t i p) (is_open d k p) f.passes in
     let room = is_open-true d k p both.1 in
@@ -162,7 +168,7 @@ pub record TakesBy (m : Problem) (cuts : List ℕ) (t i p : ℕ) : Type 0 where
   pub no_later : place_of entry (list_of m i) ≤ place_of p (list_of m i)
 
 pub takes_by : (m : Problem) (cuts : List ℕ) (t i p : ℕ) → Takes m cuts t i p → TakesBy m cuts t i p
-unfolding picks seats_before
+unfolding would_pick seats_before
 takes_by m cuts t i p r =
     let d = type_dictatorship m cuts t in
     let k = turn_of m t i in
@@ -170,7 +176,7 @@ takes_by m cuts t i p r =
     let z = type-fill m cuts t p in
     let room = r.room in
     let open' = is_open-from d k p (omega arith) in
-    let f = find_first_take (picks m cuts t i) (list_of m i) (slice_index cuts i) p
+    let f = find_first_take (would_pick m cuts t i) (list_of m i) (slice_index cuts i) p
     (and_from (is_offered m t i p) (is_open d k p) r.offered open') r.within r.listed in
     record {
       entry =

@@ -6,54 +6,54 @@ use Rattle.std.proofs.lemmas.Bool.{ltb-true, lt-ltb, eqb-true, eq-eqb, cases_Boo
 use Rattle.std.proofs.lemmas.List.Folds.{find_at}
 use Rattle.std.proofs.lemmas.List.Sums.{sum_by_push}
 use Rattle.market.specs.Counting.{is_programme, count_of}
-use Rattle.market.specs.Dictatorships.{Dictatorship, has_seat, list_at, first_open, with_next, chosen, choice, picked, taken}
+use Rattle.market.specs.Dictatorships.{Dictatorship, has_seat, list_at, first_open, with_next, picks, choice, pick, seats_taken}
 use Rattle.market.proofs.Firsts.{find_passes}
 
 -- whether p has a seat left at turn k
 unfoldable pub is_open : Dictatorship → ℕ → ℕ → Bool
-is_open d k p = has_seat d (chosen d k) p
+is_open d k p = has_seat d (picks d k) p
 
 pub is_open-true : (d : Dictatorship) (k p : ℕ) → is_open d k p ≡ true
-    → slice_index d.fill p + taken d k p < slice_index d.quota p
-unfolding is_open has_seat taken
+    → slice_index d.fill p + seats_taken d k p < slice_index d.quota p
+unfolding is_open has_seat seats_taken
 is_open-true d k p e = ltb-true _ _ e
 
 pub is_open-from : (d : Dictatorship) (k p : ℕ)
-    → slice_index d.fill p + taken d k p < slice_index d.quota p → is_open d k p ≡ true
-unfolding is_open has_seat taken
+    → slice_index d.fill p + seats_taken d k p < slice_index d.quota p → is_open d k p ≡ true
+unfolding is_open has_seat seats_taken
 is_open-from d k p l = lt-ltb _ _ l
 
 -- a turn takes the first entry that is open
-pub picked-find : (d : Dictatorship) (k : ℕ) → picked d k ≡ find (is_open d k) (list_at d k)
-unfolding picked choice first_open is_open
-picked-find d k = sym (find_at (has_seat d (chosen d k)) (list_at d k))
+pub pick-find : (d : Dictatorship) (k : ℕ) → pick d k ≡ find (is_open d k) (list_at d k)
+unfolding pick choice first_open is_open
+pick-find d k = sym (find_at (has_seat d (picks d k)) (list_at d k))
 
-pub chosen-suc : (d : Dictatorship) (k : ℕ) → chosen d (suc k) ≡ chosen d k ++ picked d k ∷ []
-unfolding chosen with_next picked choice
-chosen-suc d k = refl
+pub picks-suc : (d : Dictatorship) (k : ℕ) → picks d (suc k) ≡ picks d k ++ pick d k ∷ []
+unfolding picks with_next pick choice
+picks-suc d k = refl
 
-pub chosen-zero : (d : Dictatorship) → chosen d zero ≡ []
-unfolding chosen
-chosen-zero d = refl
+pub picks-zero : (d : Dictatorship) → picks d zero ≡ []
+unfolding picks
+picks-zero d = refl
 
-pub length-chosen : (d : Dictatorship) (k : ℕ) → length (chosen d k) ≡ k
-length-chosen d zero = ap length (chosen-zero d)
-length-chosen d (suc k) =
-    let e = length-append (chosen d k) (picked d k ∷ []) in
-    let ih = length-chosen d k in
-    ap length (chosen-suc d k) ∙ (omega arith)
+pub length-picks : (d : Dictatorship) (k : ℕ) → length (picks d k) ≡ k
+length-picks d zero = ap length (picks-zero d)
+length-picks d (suc k) =
+    let e = length-append (picks d k) (pick d k ∷ []) in
+    let ih = length-picks d k in
+    ap length (picks-suc d k) ∙ (omega arith)
 
-pub taken-zero : (d : Dictatorship) (p : ℕ) → taken d zero p ≡ 0
-unfolding taken
-taken-zero d p = ap (count_of p) (chosen-zero d)
+pub seats_taken-zero : (d : Dictatorship) (p : ℕ) → seats_taken d zero p ≡ 0
+unfolding seats_taken
+seats_taken-zero d p = ap (count_of p) (picks-zero d)
 
 -- one more where the turn takes p
-pub taken-suc : (d : Dictatorship) (k p : ℕ)
-    → taken d (suc k) p ≡ taken d k p + cond (is_programme p (picked d k)) 1 0
-unfolding taken
-taken-suc d k p =
-    ap (count_of p) (chosen-suc d k)
-    ∙ sum_by_push (λ o. cond (is_programme p o) 1 0) (chosen d k) (picked d k)
+pub seats_taken-suc : (d : Dictatorship) (k p : ℕ)
+    → seats_taken d (suc k) p ≡ seats_taken d k p + cond (is_programme p (pick d k)) 1 0
+unfolding seats_taken
+seats_taken-suc d k p =
+    ap (count_of p) (picks-suc d k)
+    ∙ sum_by_push (λ o. cond (is_programme p o) 1 0) (picks d k) (pick d k)
 
 pub one_more : (b : Bool) → b ≡ true → cond {A = ℕ} b 1 0 ≡ 1
 one_more b e = ap (λ (x : Bool). cond {A = ℕ} x 1 0) e
@@ -76,24 +76,24 @@ pub some_from : (o : Option ℕ) → is_some o ≡ true → (p : ℕ) × (o ≡ 
 some_from None e = absurd (false≢true e)
 some_from (Some p) e = (p, refl)
 
-pub taken-grows : (d : Dictatorship) (k p : ℕ) → taken d k p ≤ taken d (suc k) p
-taken-grows d k p = let e = taken-suc d k p in omega arith
+pub seats_taken-grows : (d : Dictatorship) (k p : ℕ) → seats_taken d k p ≤ seats_taken d (suc k) p
+seats_taken-grows d k p = let e = seats_taken-suc d k p in omega arith
 
 -- what a turn takes was open
-pub picked-open : (d : Dictatorship) (k p : ℕ) → picked d k ≡ Some p → is_open d k p ≡ true
-picked-open d k p e = find_passes (is_open d k) (list_at d k) p (sym (picked-find d k) ∙ e)
+pub pick-open : (d : Dictatorship) (k p : ℕ) → pick d k ≡ Some p → is_open d k p ≡ true
+pick-open d k p e = find_passes (is_open d k) (list_at d k) p (sym (pick-find d k) ∙ e)
 
 -- no programme is filled past its quota
-pub taken-le-quota : (d : Dictatorship) (p : ℕ) → slice_index d.fill p ≤ slice_index d.quota p
-    → (k : ℕ) → slice_index d.fill p + taken d k p ≤ slice_index d.quota p
-taken-le-quota d p h zero = let e = taken-zero d p in omega arith
-taken-le-quota d p h (suc k) =
-    let e = taken-suc d k p in
-    let ih = taken-le-quota d p h k in
+pub seats_taken-le-quota : (d : Dictatorship) (p : ℕ) → slice_index d.fill p ≤ slice_index d.quota p
+    → (k : ℕ) → slice_index d.fill p + seats_taken d k p ≤ slice_index d.quota p
+seats_taken-le-quota d p h zero = let e = seats_taken-zero d p in omega arith
+seats_taken-le-quota d p h (suc k) =
+    let e = seats_taken-suc d k p in
+    let ih = seats_taken-le-quota d p h k in
     ⊎_elim
     (λ t.
-    let o = is_open-true d k p (picked-open d k p (is_programme-true p (picked d k) t)) in
-    let one = one_more (is_programme p (picked d k)) t in
+    let o = is_open-true d k p (pick-open d k p (is_programme-true p (pick d k) t)) in
+    let one = one_more (is_programme p (pick d k)) t in
     omega arith)
-    (λ f. let none = no_more (is_programme p (picked d k)) f in omega arith)
-    (cases_Bool (is_programme p (picked d k)))
+    (λ f. let none = no_more (is_programme p (pick d k)) f in omega arith)
+    (cases_Bool (is_programme p (pick d k)))

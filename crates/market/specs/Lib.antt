@@ -1,7 +1,7 @@
 -- The definitions, in the order in which to read them.
 -- what a market is: types, programmes, preference lists, turn orders, ranks; who is acceptable
 pub mod Problems
--- placements, preference, blocking pairs, stable placements, base ranks
+-- placements, preference, blocking pairs, stable placements
 pub mod Stability
 -- one placement compared with another, candidate by candidate
 pub mod Comparisons

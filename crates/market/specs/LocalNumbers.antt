@@ -2,7 +2,7 @@
 use Rattle.std.specs.Prelude.{◌≡◌, ℕ, ◌+◌, ◌<◌, ◌≤◌, List, map, length, drop, ◌==◌, filter, slice_index}
 use Rattle.std.specs.List.{range_with_len}
 use Rattle.market.specs.Counting.{count_below}
-use Rattle.market.specs.Dictatorships.{Dictatorship, choice, taken}
+use Rattle.market.specs.Dictatorships.{Dictatorship, dictatorship, choice, seats_taken}
 use Rattle.market.specs.Problems.{Problem, kind_of, quota_of, order_of}
 use Rattle.market.specs.Mechanism.{turn_list, type_dictatorship}
 
@@ -21,11 +21,8 @@ local_list m cuts t i = map (local_of m) (turn_list m cuts t i)
 -- the dictatorship of a type over local numbers, from a turn on, with the seats taken before it
 unfoldable pub local_dictatorship : Problem → List ℕ → ℕ → ℕ → List ℕ → Dictatorship
 local_dictatorship m cuts t from fill =
-    record {
-      quota = map (quota_of m) (programmes_of m t);
-      fill = fill;
-      lists = map (local_list m cuts t) (drop from (order_of m t));
-    }
+    dictatorship (map (quota_of m) (programmes_of m t)) fill
+    (map (local_list m cuts t) (drop from (order_of m t)))
 
 -- one fill for each programme of the type, at most its quota
 pub record IsFill (m : Problem) (t : ℕ) (fill : List ℕ) : Type 0 where
@@ -37,7 +34,7 @@ pub record IsFill (m : Problem) (t : ℕ) (fill : List ℕ) : Type 0 where
 abbrev pub IsFillBefore : Problem → List ℕ → ℕ → ℕ → List ℕ → Type 0
 IsFillBefore m cuts t from fill =
     (j : ℕ) → j < length (programmes_of m t)
-    → slice_index fill j ≡ taken (type_dictatorship m cuts t) from (slice_index (programmes_of m t) j)
+    → slice_index fill j ≡ seats_taken (type_dictatorship m cuts t) from (slice_index (programmes_of m t) j)
 
 -- each turn makes the choice that it makes in the type's own dictatorship, which begins at turn 0
 abbrev pub ChoosesAlike : Problem → List ℕ → ℕ → ℕ → Dictatorship → Type 0

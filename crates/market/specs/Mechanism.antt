@@ -4,7 +4,7 @@ use Rattle.std.specs.List.{position_or_len, range_with_len}
 use Rattle.market.specs.declared.programme.Prog.{Prog}
 use Rattle.market.specs.declared.placement.Outcome.{Outcome}
 use Rattle.market.specs.Counting.{count_below, sum_below, is_programme}
-use Rattle.market.specs.Dictatorships.{Dictatorship, chosen}
+use Rattle.market.specs.Dictatorships.{Dictatorship, picks}
 use Rattle.market.specs.Problems.{Problem, kind_of, list_of, order_of, turn_of}
 
 -- ---- one round: a dictatorship for each type
@@ -29,7 +29,7 @@ type_dictatorship m cuts t =
 -- the tentative programme of a candidate in a type under cuts, or none
 unfoldable pub tentative : Problem → List ℕ → ℕ → ℕ → Option ℕ
 tentative m cuts t i =
-    slice_index_or (chosen (type_dictatorship m cuts t) (length (order_of m t))) (turn_of m t i) None
+    slice_index_or (picks (type_dictatorship m cuts t) (length (order_of m t))) (turn_of m t i) None
 
 -- ---- who is cut, and where, by any choices c of candidates in types
 
@@ -115,16 +115,16 @@ cutting_rounds m = settled_from m (entry_count m) 0
 -- ---- what the mechanism gives
 
 -- the best tentative programme of a candidate; in a settled round it is the only one
-unfoldable pub placed_at : Problem → List ℕ → ℕ → Option ℕ
-placed_at m cuts i = slice_get (list_of m i) (best_place m cuts i)
+unfoldable pub best_programme : Problem → List ℕ → ℕ → Option ℕ
+best_programme m cuts i = slice_get (list_of m i) (best_place m cuts i)
 
 -- that of each candidate
-unfoldable pub placed : Problem → List ℕ → List (Option ℕ)
-placed m cuts = map (placed_at m cuts) (range_with_len 0 (length m.lists))
+unfoldable pub best_programmes : Problem → List ℕ → List (Option ℕ)
+best_programmes m cuts = map (best_programme m cuts) (range_with_len 0 (length m.lists))
 
 -- the placement: that of the first settled round
 unfoldable pub mechanism_placement : Problem → List (Option ℕ)
-mechanism_placement m = placed m (cuts_after m (cutting_rounds m))
+mechanism_placement m = best_programmes m (cuts_after m (cutting_rounds m))
 
 -- the number of rounds, the settled one among them
 unfoldable pub mechanism_rounds : Problem → ℕ
@@ -150,7 +150,7 @@ mechanism m =
 
 -- the rounds end: at most one round more than there are list entries, the last one settled, and each
 -- earlier one cutting an entry away
-pub record RoundsEnd (m : Problem) : Type 0 where
+pub record HasLastRound (m : Problem) : Type 0 where
   pub bounded : mechanism_rounds m ≤ entry_count m + 1
   pub last : IsTrue (is_settled m (cuts_after m (cutting_rounds m)))
   pub cutting : (r : ℕ) → r < cutting_rounds m

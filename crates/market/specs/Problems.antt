@@ -2,6 +2,7 @@
 use Rattle.std.specs.Prelude.{◌≡◌, ℕ, ◌<◌, ◌≤◌, Bool, List, [], length, Option, IsTrue, is_some, ◌==◌, slice_get, slice_index, slice_index_or}
 use Rattle.std.specs.List.{position_or_len}
 use Rattle.market.specs.declared.programme.Prog.{Prog}
+use Rattle.market.specs.declared.limits.TheConstants.{MAX_TYPES, MAX_PROGRAMMES, MAX_CANDIDATES, MAX_ENTRIES, MAX_QUOTA, MAX_RANK}
 
 -- a market as its parts
 pub record Problem : Type 0 where
@@ -16,21 +17,35 @@ pub record Problem : Type 0 where
   -- the ranks of each type, in its turn order
   pub ranks : List (List ℕ)
 
+-- the problem of these parts
+abbrev pub problem : ℕ → List Prog → List (List ℕ) → List (List ℕ) → List (List ℕ) → Problem
+problem types programmes lists orders ranks = record {
+  types = types;
+  programmes = programmes;
+  lists = lists;
+  orders = orders;
+  ranks = ranks;
+}
+
 -- no two entries are equal
-abbrev pub IsDistinct : List ℕ → Type 0
-IsDistinct xs = (i j : ℕ) → i < j → j < length xs → slice_index xs i ≡ slice_index xs j → ⊥
+abbrev pub HasNoRepeats : List ℕ → Type 0
+HasNoRepeats xs = (i j : ℕ) → i < j → j < length xs → slice_index xs i ≡ slice_index xs j → ⊥
 
 -- the first place of x in the list, or the list's length where it is not there
 abbrev pub place_of : ℕ → List ℕ → ℕ
 place_of x xs = position_or_len (λ y. y == x) xs
 
+-- what is read where there is no programme
+abbrev pub no_programme : Prog
+no_programme = record { kind = 0; quota = 0 }
+
 -- a programme by its index
 abbrev pub programme_at : Problem → ℕ → Prog
-programme_at m p = slice_index_or m.programmes p (record { kind = 0; quota = 0 })
+programme_at m p = slice_index_or m.programmes p no_programme
 
 -- the type of a programme in a list of programmes
 abbrev pub kind_in : List Prog → ℕ → ℕ
-kind_in programmes p = (slice_index_or programmes p (record { kind = 0; quota = 0 })).kind
+kind_in programmes p = (slice_index_or programmes p no_programme).kind
 
 -- the score type of a programme
 unfoldable pub kind_of : Problem → ℕ → ℕ
@@ -72,22 +87,22 @@ pub record IsAcceptable (m : Problem) (i p : ℕ) : Type 0 where
 -- the parts fit together: indexes in range, nothing listed twice, ranks that rise strictly along the
 -- turn order, and all within the limits
 pub record IsValid (m : Problem) : Type 0 where
-  pub types : m.types ≤ 32
-  pub programmes : length m.programmes ≤ 120000
-  pub candidates : length m.lists ≤ 3500000
+  pub types : m.types ≤ MAX_TYPES
+  pub programmes : length m.programmes ≤ MAX_PROGRAMMES
+  pub candidates : length m.lists ≤ MAX_CANDIDATES
   pub orders : length m.orders ≡ m.types
   pub ranks : length m.ranks ≡ m.types
   pub kinds : (p : ℕ) → p < length m.programmes → kind_of m p < m.types
-  pub quotas : (p : ℕ) → p < length m.programmes → quota_of m p ≤ 100000
-  pub list_lengths : (i : ℕ) → i < length m.lists → length (list_of m i) ≤ 48
+  pub quotas : (p : ℕ) → p < length m.programmes → quota_of m p ≤ MAX_QUOTA
+  pub list_lengths : (i : ℕ) → i < length m.lists → length (list_of m i) ≤ MAX_ENTRIES
   pub list_entries : (i k : ℕ) → i < length m.lists → k < length (list_of m i)
       → slice_index (list_of m i) k < length m.programmes
-  pub list_distinct : (i : ℕ) → i < length m.lists → IsDistinct (list_of m i)
+  pub list_distinct : (i : ℕ) → i < length m.lists → HasNoRepeats (list_of m i)
   pub order_entries : (t k : ℕ) → t < m.types → k < length (order_of m t)
       → slice_index (order_of m t) k < length m.lists
-  pub order_distinct : (t : ℕ) → t < m.types → IsDistinct (order_of m t)
+  pub order_distinct : (t : ℕ) → t < m.types → HasNoRepeats (order_of m t)
   pub rank_lengths : (t : ℕ) → t < m.types → length (ranks_of m t) ≡ length (order_of m t)
   pub ranks_rise : (t j k : ℕ) → t < m.types → j < k → k < length (ranks_of m t)
       → slice_index (ranks_of m t) j < slice_index (ranks_of m t) k
   pub rank_limits : (t k : ℕ) → t < m.types → k < length (ranks_of m t)
-      → (1 ≤ slice_index (ranks_of m t) k) × (slice_index (ranks_of m t) k ≤ 99999999)
+      → (1 ≤ slice_index (ranks_of m t) k) × (slice_index (ranks_of m t) k ≤ MAX_RANK)

@@ -1,33 +1,47 @@
 // The tables that a market keeps: the turn of each candidate, the programmes of each type, and their
 // numbers among themselves.
 
-ghost use Rattle.std.specs.Prelude.{◌≡◌, ℕ, ◌<◌, ◌≤◌, ◌==◌, [], length, slice_index_or, filter, IfOk};
-ghost use Rattle.std.specs.List.{range_with_len};
-ghost use Rattle.market.specs.Problems.{kind_in};
-ghost use Rattle.market.specs.Tables.{IsOrder, IsTurnTable, IsLocals};
+ghost use Rattle.std.specs.Prelude.{◌≡◌, ◌<◌, length, IfOk};
+ghost use Rattle.market.specs.Problems.{order_of};
+ghost use Rattle.market.specs.LocalNumbers.{programmes_of};
+ghost use Rattle.market.specs.Tables.{IsTurnTable, HasTurnTables, HasMembers, IsLocals};
 
-use crate::{List, Prog};
+use crate::List;
+use crate::parts::Parts;
 use std::alloc::{AllocError, Global};
 
-/// The turn of each candidate in an order, or the number of turns for none.
-pub fn turn_table(alloc: Global, count: usize, order: &[u32]) -> Result<Vec<u32>, AllocError>
-    requires { IsOrder count order.now }
-    ensures { IfOk result (λ table. IsTurnTable count order.now table.items) }
+// The turn of each candidate in a type, or the number of turns for none.
+fn turn_table(alloc: Global, parts: &Parts, kind: u32) -> Result<Vec<u32>, AllocError>
+    requires { kind < parts.now.types }
+    ensures { IfOk result (λ table.
+        IsTurnTable (length parts.now.lists) (order_of parts.now kind) table.items) }
 {
+    let order = parts.order(kind);
     let none = order.len() as u32;
-    let mut table = vec![in alloc; none; count]?;
+    let mut table = vec![in alloc; none; parts.candidate_count() as usize]?;
     for (turn, candidate) in order.iter().enumerate() {
         table[*candidate as usize] = turn as u32;
     }
     Ok(table)
 }
 
-/// The programmes of a type, rising.
-pub fn type_members(alloc: Global, kind: u32, programmes: &[Prog]) -> Result<Vec<u32>, AllocError>
-    requires { length programmes.now ≤ 120000 }
-    ensures { IfOk result (λ found. found.items
-        ≡ filter (λ p. kind_in programmes.now p == kind) (range_with_len 0 (length programmes.now))) }
+/// The turns of each type.
+pub fn turn_tables(alloc: Global, parts: &Parts) -> Result<Vec<List>, AllocError>
+    ensures { IfOk result (λ turns. HasTurnTables parts.now turns.items) }
 {
+    let mut turns = Vec::new(alloc);
+    for kind in 0..parts.type_count() {
+        let table = turn_table(alloc, parts, kind)?;
+        turns.push(List::from_vec(table))?;
+    }
+    Ok(turns)
+}
+
+// The programmes of a type, rising.
+fn type_members(alloc: Global, parts: &Parts, kind: u32) -> Result<Vec<u32>, AllocError>
+    ensures { IfOk result (λ found. found.items ≡ programmes_of parts.now kind) }
+{
+    let programmes = parts.programmes();
     let mut found = Vec::new(alloc);
     for (index, programme) in programmes.iter().enumerate() {
         if programme.kind == kind {
@@ -37,13 +51,24 @@ pub fn type_members(alloc: Global, kind: u32, programmes: &[Prog]) -> Result<Vec
     Ok(found)
 }
 
-/// The number of each programme among those of its type.
-pub fn local_numbers(alloc: Global, types: u32, programmes: &[Prog]) -> Result<Vec<u32>, AllocError>
-    requires count { length programmes.now ≤ 120000 }
-    requires kinds { (p : ℕ) → p < length programmes.now → kind_in programmes.now p < types }
-    ensures { IfOk result (λ locals. IsLocals programmes.now locals.items (length programmes.now)) }
+/// The programmes of each type.
+pub fn all_members(alloc: Global, parts: &Parts) -> Result<Vec<List>, AllocError>
+    ensures { IfOk result (λ members. HasMembers parts.now members.items) }
 {
-    let mut counts = vec![in alloc; 0u32; types as usize]?;
+    let mut members = Vec::new(alloc);
+    for kind in 0..parts.type_count() {
+        let of_kind = type_members(alloc, parts, kind)?;
+        members.push(List::from_vec(of_kind))?;
+    }
+    Ok(members)
+}
+
+/// The number of each programme among those of its type.
+pub fn local_numbers(alloc: Global, parts: &Parts) -> Result<Vec<u32>, AllocError>
+    ensures { IfOk result (λ locals. IsLocals parts.now locals.items) }
+{
+    let programmes = parts.programmes();
+    let mut counts = vec![in alloc; 0u32; parts.type_count() as usize]?;
     let mut locals = Vec::new(alloc);
     for programme in programmes {
         let kind = programme.kind as usize;
@@ -51,35 +76,4 @@ pub fn local_numbers(alloc: Global, types: u32, programmes: &[Prog]) -> Result<V
         counts[kind] += 1;
     }
     Ok(locals)
-}
-
-/// The turns of each type.
-pub fn turn_tables(alloc: Global, count: usize, orders: &[List]) -> Result<Vec<List>, AllocError>
-    requires { (t : ℕ) → t < length orders.now → IsOrder count (slice_index_or orders.now t []) }
-    ensures count { IfOk result (λ tables. length tables.items ≡ length orders.now) }
-    ensures tables { IfOk result (λ tables. (t : ℕ) → t < length orders.now
-        → IsTurnTable count (slice_index_or orders.now t []) (slice_index_or tables.items t [])) }
-{
-    let mut tables = Vec::new(alloc);
-    for order in orders {
-        let table = turn_table(alloc, count, order.items())?;
-        tables.push(List::from_vec(table))?;
-    }
-    Ok(tables)
-}
-
-/// The programmes of each type.
-pub fn all_members(alloc: Global, types: u32, programmes: &[Prog]) -> Result<Vec<List>, AllocError>
-    requires { length programmes.now ≤ 120000 }
-    ensures count { IfOk result (λ members. length members.items ≡ types) }
-    ensures members { IfOk result (λ members. (t : ℕ) → t < types
-        → slice_index_or members.items t []
-        ≡ filter (λ p. kind_in programmes.now p == t) (range_with_len 0 (length programmes.now))) }
-{
-    let mut members = Vec::new(alloc);
-    for kind in 0..types {
-        let of_kind = type_members(alloc, kind, programmes)?;
-        members.push(List::from_vec(of_kind))?;
-    }
-    Ok(members)
 }

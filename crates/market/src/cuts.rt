@@ -8,10 +8,11 @@ use crate::Market;
 use std::alloc::{AllocError, Global};
 use std::marker::Model;
 
-/// For each candidate how many entries of the preference list are left, from its front.
+/// For each candidate how many entries of the preference list are left, from its front. A byte each,
+/// since a list is short and a round looks many of them up out of order.
 #[derive(Drop)]
 pub struct Cuts {
-    lengths: Vec<u32>,
+    lengths: Vec<u8>,
 }
 
 impl Model for Cuts {
@@ -31,7 +32,7 @@ impl Cuts {
         let mut lengths = Vec::new(alloc);
         for candidate in 0..market.candidate_count() {
             let entries = market.list(candidate).len();
-            lengths.push(entries as u32)?;
+            lengths.push(entries as u8)?;
         }
         Ok(Cuts { lengths })
     }
@@ -41,7 +42,7 @@ impl Cuts {
         requires { candidate < length self.now }
         ensures { result ≡ slice_index self.now candidate }
     {
-        self.lengths[candidate as usize]
+        u32::from(self.lengths[candidate as usize])
     }
 
     /// Leaves a candidate so many entries, which are not more than before.
@@ -50,6 +51,7 @@ impl Cuts {
         requires shorter { entries ≤ slice_index self.old candidate }
         ensures { self.new ≡ slice_set self.old candidate entries }
     {
-        self.lengths[candidate as usize] = entries;
+        let left = self.lengths[candidate as usize];
+        self.lengths[candidate as usize] = entries.min(u32::from(left)) as u8;
     }
 }

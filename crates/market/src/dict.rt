@@ -1,7 +1,7 @@
 // One serial dictatorship over programmes with numbers of their own.
 
 ghost use Rattle.std.specs.Prelude.{◌≡◌, ◌<◌, length, slice_index, IfOk};
-ghost use Rattle.market.specs.Dictatorships.{IsValidDictatorship, list_at};
+ghost use Rattle.market.specs.Dictatorships.{IsValidDictatorship, dictatorship, list_at};
 
 use crate::List;
 use crate::flat_lists::FlatLists;
@@ -25,29 +25,22 @@ pub struct Dict {
 }
 
 impl Model for Dict {
-    ghost use Rattle.market.specs.Dictatorships.{Dictatorship, IsValidDictatorship};
+    ghost use Rattle.market.specs.Dictatorships.{Dictatorship, IsValidDictatorship, dictatorship};
     ghost use Rattle.market.specs.DictLists.{lists_of};
 
     ghost Value = { Dictatorship };
 
-    ghost view = { λ d. record {
-      quota = d.quota.items;
-      fill = d.fill.items;
-      lists = lists_of d.lists;
-    } };
+    ghost view = { λ d. dictatorship d.quota.items d.fill.items (lists_of d.lists) };
 
     ghost invariant = { λ d. IsValidDictatorship
-        (record { quota = d.quota.items; fill = d.fill.items; lists = lists_of d.lists }) };
+        (dictatorship d.quota.items d.fill.items (lists_of d.lists)) };
 }
 
 impl Dict {
     /// The dictatorship of these parts. It takes no memory.
     pub fn from_parts(quota: Vec<u32>, fill: Vec<u32>, lists: Vec<List>) -> Dict
-        requires { IsValidDictatorship
-            (record { quota = quota.items; fill = fill.items; lists = lists.items }) }
-        ensures quota { result.quota ≡ quota.items }
-        ensures fill { result.fill ≡ fill.items }
-        ensures lists { result.lists ≡ lists.items }
+        requires { IsValidDictatorship (dictatorship quota.items fill.items lists.items) }
+        ensures { result ≡ dictatorship quota.items fill.items lists.items }
     {
         Dict {
             quota,
@@ -58,14 +51,8 @@ impl Dict {
 
     // The same of lists in one piece.
     pub(crate) fn from_flat(quota: Vec<u32>, fill: Vec<u32>, lists: FlatLists) -> Dict
-        requires { IsValidDictatorship (record {
-          quota = quota.items;
-          fill = fill.items;
-          lists = lists;
-        }) }
-        ensures quota { result.quota ≡ quota.items }
-        ensures fill { result.fill ≡ fill.items }
-        ensures lists { result.lists ≡ lists }
+        requires { IsValidDictatorship (dictatorship quota.items fill.items lists) }
+        ensures { result ≡ dictatorship quota.items fill.items lists }
     {
         Dict {
             quota,

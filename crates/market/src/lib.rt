@@ -7,12 +7,16 @@
 //! types are indexes.
 #![tactic(auto)]
 
+// The limits of a market.
+mod limits;
 // A list of numbers.
 mod list;
 // A programme: its score type and its quota.
 mod programme;
 // What each candidate holds, and the outcome of a placement.
 mod placement;
+// What a market is made of, as it is given.
+mod parts;
 // A market, its look-ups and its dictatorships.
 mod market;
 // How much of each preference list a round reads.
@@ -21,16 +25,20 @@ mod cuts;
 mod dict;
 // What each candidate has chosen in each type.
 mod tentative;
+// The candidates with choices in several types, and the best choice of each.
+mod best;
 // A counter of turns.
 mod steps;
 // What can place the candidates of a market.
 mod placer;
-// Worked examples.
-mod examples;
+// Worked examples, as values, and what the definitions give on them.
+pub mod examples;
 // The tables that a market keeps.
 mod build;
 // The lists of a type in turn order, which a market keeps.
 mod type_lists;
+// The same of all types, made by several threads.
+mod type_lists_by;
 // Lists that lie one after another in one vector.
 mod flat_lists;
 #[cfg(test)]
@@ -38,10 +46,7 @@ mod tests;
 
 pub use cuts::Cuts;
 pub use dict::Dict;
-pub use examples::{
-    examples_are_valid, exchange_placement, freed_seat_placement, three_rounds_placement,
-    two_turns_choices,
-};
+pub use limits::{MAX_CANDIDATES, MAX_ENTRIES, MAX_PROGRAMMES, MAX_QUOTA, MAX_RANK, MAX_TYPES};
 pub use list::List;
 pub use market::Market;
 pub use placement::{Outcome, Placement};

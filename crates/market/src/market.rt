@@ -1,28 +1,29 @@
 // A market: a placement problem with the tables that make its look-ups quick.
 
 ghost use Rattle.std.specs.Prelude.{◌≡◌, ◌<◌, ◌≤◌, length, slice_index, map, drop, IfOk};
-ghost use Rattle.market.specs.Problems.{IsValid, list_of, order_of, rank_of, turn_of, programme_at, quota_of};
+ghost use Rattle.market.specs.Problems.{IsValid, problem, list_of, order_of, rank_of, turn_of, programme_at, quota_of};
 ghost use Rattle.market.specs.Mechanism.{IsCuts};
 ghost use Rattle.market.specs.LocalNumbers.{programmes_of, local_of, local_dictatorship, local_list as local_turn_list, IsFill, IsFillBefore, ChoosesAlike};
+ghost use Rattle.market.specs.Tables.{IsLocals};
+ghost use Rattle.market.specs.TypeLists.{IsTypeLists, HasTypeLists};
 
 use crate::build::{all_members, local_numbers, turn_tables};
 use crate::flat_lists::{FlatLists, first_bound};
+use crate::parts::Parts;
 use crate::type_lists::{TypeLists, add_turn, all_type_lists};
+use crate::type_lists_by::type_lists_by;
 use crate::{Cuts, Dict, List, Prog};
 use std::alloc::{AllocError, Global};
 use std::marker::Model;
+use std::thread::Threads;
 
 /// Score types, programmes with quotas, and candidates with preference lists and ranks. Contracts
 /// see it as a `Problem`, which is always valid.
 #[derive(Drop)]
 pub struct Market {
-    types: u32,
-    programmes: Vec<Prog>,
-    lists: Vec<List>,
-    orders: Vec<List>,
-    ranks: Vec<List>,
+    parts: Parts,
     // For each type the turn of each candidate, or the number of turns for none.
-    tables: Vec<List>,
+    turns: Vec<List>,
     // For each type its programmes.
     members: Vec<List>,
     // For each programme its local number.
@@ -33,27 +34,14 @@ pub struct Market {
 
 impl Model for Market {
     ghost use Rattle.market.specs.Problems.{Problem};
-    ghost use Rattle.market.specs.TypeLists.{HasParts};
+    ghost use Rattle.market.specs.TypeLists.{HasTables};
 
     ghost Value = { Problem };
 
-    ghost view = { λ m. record {
-      types = m.types;
-      programmes = m.programmes.items;
-      lists = m.lists.items;
-      orders = m.orders.items;
-      ranks = m.ranks.items;
-    } };
+    ghost view = { λ m. m.parts };
 
-    ghost invariant = { λ m. HasParts
-        (record {
-          types = m.types;
-          programmes = m.programmes.items;
-          lists = m.lists.items;
-          orders = m.orders.items;
-          ranks = m.ranks.items;
-        })
-        m.tables.items m.members.items m.locals.items m.type_lists.items };
+    ghost invariant = { λ m.
+        HasTables m.parts m.turns.items m.members.items m.locals.items m.type_lists.items };
 }
 
 impl Market {
@@ -67,30 +55,55 @@ impl Market {
         orders: Vec<List>,
         ranks: Vec<List>,
     ) -> Result<Market, AllocError>
-        requires { IsValid (record {
-          types = types;
-          programmes = programmes.items;
-          lists = lists.items;
-          orders = orders.items;
-          ranks = ranks.items;
-        }) }
-        ensures types { IfOk result (λ m. m.types ≡ types) }
-        ensures programmes { IfOk result (λ m. m.programmes ≡ programmes.items) }
-        ensures lists { IfOk result (λ m. m.lists ≡ lists.items) }
-        ensures orders { IfOk result (λ m. m.orders ≡ orders.items) }
-        ensures ranks { IfOk result (λ m. m.ranks ≡ ranks.items) }
+        requires { IsValid (problem types programmes.items lists.items orders.items ranks.items) }
+        ensures { IfOk result (λ m. m
+            ≡ problem types programmes.items lists.items orders.items ranks.items) }
     {
-        let tables = turn_tables(alloc, lists.len(), &orders)?;
-        let members = all_members(alloc, types, &programmes)?;
-        let locals = local_numbers(alloc, types, &programmes)?;
-        let type_lists = all_type_lists(alloc, &programmes, &locals, &lists, types, &orders)?;
+        let parts = Parts::new(types, programmes, lists, orders, ranks);
+        let locals = local_numbers(alloc, &parts)?;
+        let type_lists = all_type_lists(alloc, &parts, &locals)?;
+        Market::with_tables(alloc, parts, locals, type_lists)
+    }
+
+    /// The same market, its lists by type made by so many threads; `build` makes them by itself.
+    pub fn build_by<R: Threads + Sync>(
+        rt: &R,
+        alloc: Global,
+        threads: u32,
+        types: u32,
+        programmes: Vec<Prog>,
+        lists: Vec<List>,
+        orders: Vec<List>,
+        ranks: Vec<List>,
+    ) -> Result<Market, AllocError>
+        requires threads { 0 < threads }
+        requires valid { IsValid
+            (problem types programmes.items lists.items orders.items ranks.items) }
+        ensures { IfOk result (λ m. m
+            ≡ problem types programmes.items lists.items orders.items ranks.items) }
+    {
+        let parts = Parts::new(types, programmes, lists, orders, ranks);
+        let locals = local_numbers(alloc, &parts)?;
+        let type_lists = type_lists_by(rt, alloc, threads, &parts, &locals)?;
+        Market::with_tables(alloc, parts, locals, type_lists)
+    }
+
+    // The market of these parts and lists, with the tables that are left.
+    fn with_tables(
+        alloc: Global,
+        parts: Parts,
+        locals: Vec<u32>,
+        type_lists: Vec<TypeLists>,
+    ) -> Result<Market, AllocError>
+        requires numbers { IsLocals parts locals.items }
+        requires type_lists { HasTypeLists parts type_lists.items }
+        ensures { IfOk result (λ m. m ≡ parts) }
+    {
+        let turns = turn_tables(alloc, &parts)?;
+        let members = all_members(alloc, &parts)?;
         Ok(Market {
-            types,
-            programmes,
-            lists,
-            orders,
-            ranks,
-            tables,
+            parts,
+            turns,
             members,
             locals,
             type_lists,
@@ -102,14 +115,14 @@ impl Market {
         ensures count { result ≡ self.now.types }
         ensures valid { IsValid self.now }
     {
-        self.types
+        self.parts.type_count()
     }
 
     /// How many programmes there are.
     pub fn programme_count(&self) -> u32
         ensures { result ≡ length self.now.programmes }
     {
-        self.programmes.len() as u32
+        self.parts.programmes().len() as u32
     }
 
     /// How many candidates there are.
@@ -117,7 +130,7 @@ impl Market {
         ensures count { result ≡ length self.now.lists }
         ensures valid { IsValid self.now }
     {
-        self.lists.len() as u32
+        self.parts.candidate_count()
     }
 
     /// A programme by its index.
@@ -125,28 +138,25 @@ impl Market {
         requires { programme < length self.now.programmes }
         ensures { result ≡ programme_at self.now programme }
     {
-        self.programmes[programme as usize]
+        self.parts.programme(programme)
     }
 
     /// The preference list of a candidate: programmes, best first.
-    #[tactic(auto, unfolding(crate::specs::Problems::list_of))]
     pub fn list(&self, candidate: u32) -> &[u32]
         requires { candidate < length self.now.lists }
-        ensures { result.now ≡ list_of self.now candidate }
+        ensures list { result.now ≡ list_of self.now candidate }
+        ensures valid { IsValid self.now }
     {
-        let list = &self.lists[candidate as usize];
-        list.items()
+        self.parts.list(candidate)
     }
 
     /// The turn order of a type: the candidates who have a rank in it, best rank first.
-    #[tactic(auto, unfolding(crate::specs::Problems::order_of))]
     pub fn order(&self, kind: u32) -> &[u32]
         requires { kind < self.now.types }
         ensures order { result.now ≡ order_of self.now kind }
         ensures valid { IsValid self.now }
     {
-        let order = &self.orders[kind as usize];
-        order.items()
+        self.parts.order(kind)
     }
 
     /// The turn of a candidate in a type, or the number of turns where there is none.
@@ -155,20 +165,18 @@ impl Market {
         requires candidate { candidate < length self.now.lists }
         ensures { result ≡ turn_of self.now kind candidate }
     {
-        let table = &self.tables[kind as usize];
-        table.items()[candidate as usize]
+        let turns = &self.turns[kind as usize];
+        turns.items()[candidate as usize]
     }
 
     /// The rank of a candidate in a type, None where there is none.
-    #[tactic(auto, unfolding(crate::specs::Problems::rank_of, crate::specs::Problems::ranks_of))]
+    #[tactic(auto, unfolding(crate::specs::Problems::rank_of))]
     pub fn rank(&self, kind: u32, candidate: u32) -> Option<u32>
         requires kind { kind < self.now.types }
         requires candidate { candidate < length self.now.lists }
         ensures { result ≡ rank_of self.now kind candidate }
     {
-        let turn = self.turn(kind, candidate);
-        let ranks = &self.ranks[kind as usize];
-        ranks.items().get(turn as usize).copied()
+        self.parts.rank_at(kind, self.turn(kind, candidate))
     }
 
     /// The programmes of a type, rising. The one at place j has the local number j.
@@ -177,6 +185,8 @@ impl Market {
         ensures members { result.now ≡ programmes_of self.now kind }
         ensures valid { IsValid self.now }
     {
+        // Its clause says that the market is valid.
+        let _ = self.type_count();
         let members = &self.members[kind as usize];
         members.items()
     }
@@ -234,6 +244,17 @@ impl Market {
         Ok(quota)
     }
 
+    // The lists of a type in turn order.
+    fn type_lists(&self, kind: u32) -> &TypeLists
+        requires { kind < self.now.types }
+        ensures lists { IsTypeLists self.now kind result.now }
+        ensures valid { IsValid self.now }
+    {
+        // Its clause says that the market is valid.
+        let _ = self.type_count();
+        &self.type_lists[kind as usize]
+    }
+
     // The lists of the turns of a type from a turn on.
     fn turn_lists(
         &self,
@@ -251,7 +272,7 @@ impl Market {
     {
         let order = self.order(kind);
         let rest = &order[from_turn as usize..];
-        let type_lists = &self.type_lists[kind as usize];
+        let type_lists = self.type_lists(kind);
         let mut items = Vec::with_capacity(alloc, type_lists.items().len())?;
         let mut bounds = first_bound(alloc, rest.len())?;
         for (index, candidate) in rest.iter().enumerate() {

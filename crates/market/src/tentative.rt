@@ -2,7 +2,7 @@
 
 ghost use Rattle.std.specs.Prelude.{◌≡◌, ◌<◌, [], length, slice_index_or, slice_set, replicate, IfOk};
 ghost use Rattle.market.specs.Problems.{IsValid};
-ghost use Rattle.market.specs.Choices.{choice_in, no_choices, decode, FitsNumber};
+ghost use Rattle.market.specs.Choices.{programme_in, empty_table, decode, FitsNumber};
 
 use crate::{List, Market};
 use std::alloc::{AllocError, Global};
@@ -28,7 +28,7 @@ impl Model for Tentative {
 impl Tentative {
     /// No choice anywhere, for the types and candidates of a market.
     pub fn none(alloc: Global, market: &Market) -> Result<Tentative, AllocError>
-        ensures none { IfOk result (λ t. t ≡ no_choices market.now) }
+        ensures none { IfOk result (λ t. t ≡ empty_table market.now) }
         ensures valid { IsValid market.now }
     {
         let rows = zero_rows(alloc, market.type_count(), market.candidate_count())?;
@@ -39,7 +39,7 @@ impl Tentative {
     pub fn choice(&self, kind: u32, candidate: u32) -> Option<u32>
         requires kind { kind < length self.now }
         requires candidate { candidate < length (slice_index_or self.now kind []) }
-        ensures { result ≡ choice_in self.now kind candidate }
+        ensures { result ≡ programme_in self.now kind candidate }
     {
         let row = &self.rows[kind as usize];
         decoded(row.items()[candidate as usize])

@@ -1,35 +1,16 @@
 // The market of three rounds by its calls, each that takes memory with ample memory.
 
-ghost use Rattle.std.specs.Prelude.{◌≡◌, ◌<◌, IfOk};
+ghost use Rattle.std.specs.Prelude.{◌≡◌, ◌<◌, [], ◌∷◌, IfOk};
+ghost use Rattle.market.specs.Problems.{problem};
+ghost use Rattle.market.specs.Examples.{prog};
 ghost use Rattle.market.specs.Mechanism.{IsCuts};
-ghost use Rattle.market.specs.Examples.{three_rounds};
 
+use crate::examples::three_rounds;
 use crate::{Cuts, List, Market, Placement, Prog, Tentative};
 use std::alloc::{AllocError, Global};
 use std::process::Abort;
 use std::test::Fail;
-
-// The market of three rounds.
-fn three_rounds(alloc: Global) -> Result<Market, AllocError>
-    ensures { IfOk result (λ m. m ≡ three_rounds) }
-{
-    let programmes = vec![in alloc;
-        Prog { kind: 0, quota: 1 },
-        Prog { kind: 0, quota: 1 },
-        Prog { kind: 1, quota: 1 },
-    ]?;
-    let first = List::from_slice(alloc, &[0, 2])?;
-    let second = List::from_slice(alloc, &[2, 0, 1])?;
-    let third = List::from_slice(alloc, &[1])?;
-    let lists = vec![in alloc; first, second, third]?;
-    let order = List::from_slice(alloc, &[0, 1, 2])?;
-    let other_order = List::from_slice(alloc, &[0, 1, 2])?;
-    let orders = vec![in alloc; order, other_order]?;
-    let ranks = List::from_slice(alloc, &[1, 2, 3])?;
-    let other_ranks = List::from_slice(alloc, &[1, 2, 3])?;
-    let ranks = vec![in alloc; ranks, other_ranks]?;
-    Market::build(alloc, 2, programmes, lists, orders, ranks)
-}
+use std::thread::Threads;
 
 // What several threads may share, and one may hand to another.
 fn crosses_threads<T: Send + Sync>(_value: &T) {}
@@ -105,6 +86,30 @@ fn gives_the_dictatorship_of_a_type(rt: HostRuntime) -> Result<(), Fail> {
     assert_eq!(rt; cuts.cut(1), 2);
     let lists = turn_lists(alloc, &market, &cuts, 0)?;
     assert_eq!(rt; lists.as_slice(), &[0, 9, 0, 9, 1, 9][..]);
+    Ok(())
+}
+
+// A market of two types, one programme each and one candidate, made by two threads.
+fn built_by_two<R: Threads + Sync>(rt: &R, alloc: Global) -> Result<Market, AllocError>
+    ensures { IfOk result (λ m. m ≡ problem 2 (prog 0 1 ∷ prog 1 1 ∷ []) ((1 ∷ 0 ∷ []) ∷ [])
+        ((0 ∷ []) ∷ (0 ∷ []) ∷ []) ((7 ∷ []) ∷ (7 ∷ []) ∷ [])) }
+{
+    let programmes = vec![in alloc; Prog { kind: 0, quota: 1 }, Prog { kind: 1, quota: 1 }]?;
+    let list = List::from_slice(alloc, &[1, 0])?;
+    let lists = vec![in alloc; list]?;
+    let orders = vec![in alloc; List::from_slice(alloc, &[0])?, List::from_slice(alloc, &[0])?]?;
+    let ranks = vec![in alloc; List::from_slice(alloc, &[7])?, List::from_slice(alloc, &[7])?]?;
+    Market::build_by(rt, alloc, 2, 2, programmes, lists, orders, ranks)
+}
+
+#[test]
+fn is_the_same_made_by_two_threads(rt: HostRuntime) -> Result<(), Fail> {
+    let alloc = rt.alloc();
+    let market = built_by_two(&rt, alloc)?;
+    for kind in 0..market.type_count() {
+        assert_eq!(rt; market.rank(kind, 0), Some(7));
+        assert_eq!(rt; market.turn(kind, 0), 0);
+    }
     Ok(())
 }
 

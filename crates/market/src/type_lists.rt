@@ -1,12 +1,12 @@
 // The lists of a type in turn order, from which its dictatorships are copied.
 
-ghost use Rattle.std.specs.Prelude.{◌≡◌, ℕ, ◌+◌, ◌<◌, ◌≤◌, ◌==◌, ◌++◌, [], length, slice_index, slice_index_or, map, filter, IfOk};
-ghost use Rattle.market.specs.Problems.{kind_in};
+ghost use Rattle.std.specs.Prelude.{◌≡◌, ◌+◌, ◌<◌, ◌≤◌, ◌++◌, length, slice_index, IfOk};
 ghost use Rattle.market.specs.FlatLists.{between};
-ghost use Rattle.market.specs.TypeLists.{places_from, kept, IsTypeLists, type_lists_at};
+ghost use Rattle.market.specs.Tables.{IsLocals};
+ghost use Rattle.market.specs.TypeLists.{items_below, type_items, type_places, IsTypeLists, HasTypeLists};
 
 use crate::flat_lists::first_bound;
-use crate::{List, Prog};
+use crate::parts::Parts;
 use std::alloc::{AllocError, Global};
 use std::marker::Model;
 
@@ -54,28 +54,26 @@ impl TypeLists {
     }
 }
 
-// Adds the local numbers of a list's programmes of a type, and their places in the list.
+// Adds the local numbers of a candidate's programmes of a type, and their places in the list.
 fn add_list(
     items: &mut Vec<u32>,
     places: &mut Vec<u8>,
-    programmes: &[Prog],
+    parts: &Parts,
     locals: &[u32],
     kind: u32,
-    list: &[u32],
+    candidate: u32,
 ) -> Result<(), AllocError>
-    requires count { length locals.now ≡ length programmes.now }
-    requires short { length list.now ≤ 48 }
-    requires entries { (j : ℕ) → j < length list.now
-        → slice_index list.now j < length programmes.now }
-    ensures items { IfOk result (λ _. items.new.items ≡ items.old.items
-        ++ map (slice_index locals.now) (filter (λ p. kind_in programmes.now p == kind) list.now)) }
-    ensures places { IfOk result (λ _. places.new.items ≡ places.old.items
-        ++ places_from (λ p. kind_in programmes.now p == kind) 0 list.now) }
+    requires numbers { IsLocals parts.now locals.now }
+    requires candidate { candidate < length parts.now.lists }
+    ensures items { IfOk result (λ _. items.new.items
+        ≡ items.old.items ++ type_items parts.now kind candidate) }
+    ensures places { IfOk result (λ _. places.new.items
+        ≡ places.old.items ++ type_places parts.now kind candidate) }
 {
+    let list = parts.list(candidate);
     for (place, programme) in list.iter().enumerate() {
-        let index = *programme as usize;
-        if programmes[index].kind == kind {
-            items.push(locals[index])?;
+        if parts.programme(*programme).kind == kind {
+            items.push(locals[*programme as usize])?;
             places.push(place as u8)?;
         }
     }
@@ -85,27 +83,20 @@ fn add_list(
 /// The lists of a type in turn order.
 pub fn lists_of_type(
     alloc: Global,
-    programmes: &[Prog],
+    parts: &Parts,
     locals: &[u32],
-    lists: &[List],
     kind: u32,
-    order: &[u32],
 ) -> Result<TypeLists, AllocError>
-    requires count { length locals.now ≡ length programmes.now }
-    requires turns { length order.now ≤ 3500000 }
-    requires order { (k : ℕ) → k < length order.now → slice_index order.now k < length lists.now }
-    requires short { (i : ℕ) → i < length lists.now → length (slice_index_or lists.now i []) ≤ 48 }
-    requires entries { (i j : ℕ) → i < length lists.now → j < length (slice_index_or lists.now i [])
-        → slice_index (slice_index_or lists.now i []) j < length programmes.now }
-    ensures { IfOk result (λ f. IsTypeLists programmes.now locals.now lists.now kind order.now f) }
+    requires numbers { IsLocals parts.now locals.now }
+    requires kind { kind < parts.now.types }
+    ensures { IfOk result (IsTypeLists parts.now kind) }
 {
+    let order = parts.order(kind);
     let mut items = Vec::new(alloc);
     let mut places = Vec::new(alloc);
     let mut bounds = first_bound(alloc, order.len())?;
     for candidate in order {
-        let list = &lists[*candidate as usize];
-        let list = list.items();
-        add_list(&mut items, &mut places, programmes, locals, kind, list)?;
+        add_list(&mut items, &mut places, parts, locals, kind, *candidate)?;
         bounds.push(items.len() as u32)?;
     }
     Ok(TypeLists {
@@ -118,38 +109,25 @@ pub fn lists_of_type(
 /// The lists of each type in turn order.
 pub fn all_type_lists(
     alloc: Global,
-    programmes: &[Prog],
+    parts: &Parts,
     locals: &[u32],
-    lists: &[List],
-    types: u32,
-    orders: &[List],
 ) -> Result<Vec<TypeLists>, AllocError>
-    requires types { length orders.now ≡ types }
-    requires count { length locals.now ≡ length programmes.now }
-    requires turns { (t : ℕ) → t < types → length (slice_index_or orders.now t []) ≤ 3500000 }
-    requires order { (t k : ℕ) → t < types → k < length (slice_index_or orders.now t [])
-        → slice_index (slice_index_or orders.now t []) k < length lists.now }
-    requires short { (i : ℕ) → i < length lists.now → length (slice_index_or lists.now i []) ≤ 48 }
-    requires entries { (i j : ℕ) → i < length lists.now → j < length (slice_index_or lists.now i [])
-        → slice_index (slice_index_or lists.now i []) j < length programmes.now }
-    ensures count { IfOk result (λ found. length found.items ≡ types) }
-    ensures lists { IfOk result (λ found. (t : ℕ) → t < types
-        → IsTypeLists programmes.now locals.now lists.now t (slice_index_or orders.now t [])
-        (type_lists_at found.items t)) }
+    requires { IsLocals parts.now locals.now }
+    ensures { IfOk result (λ found. HasTypeLists parts.now found.items) }
 {
     let mut found = Vec::new(alloc);
-    for kind in 0..types {
-        let order = &orders[kind as usize];
-        let of_kind = lists_of_type(alloc, programmes, locals, lists, kind, order.items())?;
+    for kind in 0..parts.type_count() {
+        let of_kind = lists_of_type(alloc, parts, locals, kind)?;
         found.push(of_kind)?;
     }
     Ok(found)
 }
 
 // Adds the items whose places are below the cut.
-fn add_kept(found: &mut Vec<u32>, items: &[u32], places: &[u8], cut: u32) -> Result<(), AllocError>
+fn add_below(found: &mut Vec<u32>, items: &[u32], places: &[u8], cut: u32) -> Result<(), AllocError>
     requires { length places.now ≡ length items.now }
-    ensures { IfOk result (λ _. found.new.items ≡ found.old.items ++ kept cut items.now places.now) }
+    ensures { IfOk result (λ _. found.new.items
+        ≡ found.old.items ++ items_below cut items.now places.now) }
 {
     for (index, item) in items.iter().enumerate() {
         if u32::from(places[index]) < cut {
@@ -171,7 +149,7 @@ pub fn add_turn(
     requires items { slice_index lists.now.bounds (turn + 1) ≤ length lists.now.items }
     requires places { slice_index lists.now.bounds (turn + 1) ≤ length lists.now.places }
     ensures { IfOk result (λ _. found.new.items ≡ found.old.items
-        ++ kept cut (between lists.now.items lists.now.bounds turn)
+        ++ items_below cut (between lists.now.items lists.now.bounds turn)
         (between lists.now.places lists.now.bounds turn)) }
 {
     let bounds = lists.bounds();
@@ -179,5 +157,5 @@ pub fn add_turn(
     let end = bounds[turn + 1] as usize;
     let items = &lists.items()[start..end];
     let places = &lists.places()[start..end];
-    add_kept(found, items, places, cut)
+    add_below(found, items, places, cut)
 }

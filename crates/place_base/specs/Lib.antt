@@ -1,3 +1,6 @@
-pub mod FaultKind
+-- the words of the files
 pub mod FileKind
+-- the numbers and names of the faults
+pub mod FaultKind
+-- the names of score types
 pub mod TypeName

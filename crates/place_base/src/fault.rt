@@ -1,3 +1,5 @@
+// What can be wrong with a file.
+
 ghost use Rattle.std.specs.Prelude.{◌≡◌};
 ghost use Rattle.place_base.specs.FaultKind.{fault_number, fault_name};
 ghost use Rattle.place_base.specs.FileKind.{file_name};

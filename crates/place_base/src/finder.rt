@@ -1,3 +1,5 @@
+// Tables that find a number or a type name.
+
 ghost use Rattle.std.specs.Prelude.{◌≡◌, ◌<◌, ℕ, List, Some, nat_eq, bytes_eq, length, position, slice_get};
 ghost use Rattle.std.specs.List.{IsDistinct};
 

@@ -6,6 +6,8 @@
 mod fault;
 // Tables that find a number or a type name.
 mod finder;
+// The limits of the files, and the bytes that cut them.
+pub mod limits;
 // Candidate numbers and programme codes.
 mod number;
 // Names of score types.

@@ -1,5 +1,8 @@
-ghost use Rattle.std.specs.Prelude.{◌≡◌, ◌≤◌, ◌↔◌, ℕ, IsSome, IfSome};
+// Candidate numbers and programme codes.
 
+ghost use Rattle.std.specs.Prelude.{◌≡◌, ◌≤◌, ◌↔◌, IsSome, IfSome};
+
+use crate::limits::{LARGEST_CODE, LARGEST_NUMBER};
 use std::marker::Model;
 
 /// The number of a candidate, 1 to 99,999,999,999.
@@ -9,11 +12,14 @@ pub struct CandidateNo {
 }
 
 impl Model for CandidateNo {
+    ghost use Rattle.std.specs.Prelude.{ℕ, ◌≤◌};
+    ghost use Rattle.place_base.specs.declared.limits.TheConstants.{LARGEST_NUMBER};
+
     ghost Value = { ℕ };
 
     ghost view = { λ candidate. candidate.number };
 
-    ghost invariant = { λ candidate. (1 ≤ candidate.number) × (candidate.number ≤ 99999999999) };
+    ghost invariant = { λ candidate. (1 ≤ candidate.number) × (candidate.number ≤ LARGEST_NUMBER) };
 
     ghost inverse = { λ number. record { number = number } };
 }
@@ -21,10 +27,10 @@ impl Model for CandidateNo {
 impl CandidateNo {
     /// The candidate with this number, or `None` where the number is out of its limits.
     pub fn new(number: u64) -> Option<CandidateNo>
-        ensures limits { IsSome result ↔ ((1 ≤ number) × (number ≤ 99999999999)) }
+        ensures limits { IsSome result ↔ ((1 ≤ number) × (number ≤ LARGEST_NUMBER)) }
         ensures value { IfSome result (λ candidate. candidate ≡ number) }
     {
-        if number < 1 || number > 99_999_999_999 {
+        if number < 1 || number > LARGEST_NUMBER {
             return None;
         }
         Some(CandidateNo { number })
@@ -33,7 +39,7 @@ impl CandidateNo {
     /// The number itself.
     pub fn get(&self) -> u64
         ensures value { result ≡ self.now }
-        ensures limits { (1 ≤ self.now) × (self.now ≤ 99999999999) }
+        ensures limits { (1 ≤ self.now) × (self.now ≤ LARGEST_NUMBER) }
     {
         self.number
     }
@@ -46,11 +52,14 @@ pub struct ProgrammeCode {
 }
 
 impl Model for ProgrammeCode {
+    ghost use Rattle.std.specs.Prelude.{ℕ, ◌≤◌};
+    ghost use Rattle.place_base.specs.declared.limits.TheConstants.{LARGEST_CODE};
+
     ghost Value = { ℕ };
 
     ghost view = { λ programme. programme.code };
 
-    ghost invariant = { λ programme. (1 ≤ programme.code) × (programme.code ≤ 999999999) };
+    ghost invariant = { λ programme. (1 ≤ programme.code) × (programme.code ≤ LARGEST_CODE) };
 
     ghost inverse = { λ code. record { code = code } };
 }
@@ -58,10 +67,10 @@ impl Model for ProgrammeCode {
 impl ProgrammeCode {
     /// The programme with this code, or `None` where the code is out of its limits.
     pub fn new(code: u32) -> Option<ProgrammeCode>
-        ensures limits { IsSome result ↔ ((1 ≤ code) × (code ≤ 999999999)) }
+        ensures limits { IsSome result ↔ ((1 ≤ code) × (code ≤ LARGEST_CODE)) }
         ensures value { IfSome result (λ programme. programme ≡ code) }
     {
-        if code < 1 || code > 999_999_999 {
+        if code < 1 || u64::from(code) > LARGEST_CODE {
             return None;
         }
         Some(ProgrammeCode { code })
@@ -70,7 +79,7 @@ impl ProgrammeCode {
     /// The code itself.
     pub fn get(&self) -> u32
         ensures value { result ≡ self.now }
-        ensures limits { (1 ≤ self.now) × (self.now ≤ 999999999) }
+        ensures limits { (1 ≤ self.now) × (self.now ≤ LARGEST_CODE) }
     {
         self.code
     }

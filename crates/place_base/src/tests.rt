@@ -1,3 +1,5 @@
+// Values at their limits.
+
 use crate::{CandidateNo, FaultKind, FileKind, ProgrammeCode, TypeName};
 use std::test::Fail;
 

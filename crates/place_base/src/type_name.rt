@@ -1,3 +1,5 @@
+// Names of score types.
+
 ghost use Rattle.std.specs.Prelude.{◌≡◌, ◌≤◌, ◌++◌, ◌-◌, length, replicate, IsTrue, Some, None, if◌then◌else◌, bytes_eq};
 ghost use Rattle.std.specs.Cmp;
 ghost use Rattle.std.specs.Cmp.Lexicographic.{slice_cmp, nat_list_eq_equiv, nat_list_cmp_total, texts_ties, texts_po};
@@ -7,6 +9,7 @@ ghost use Rattle.std.specs.Ordering.{nat_cmp};
 ghost use Rattle.std.proofs.Common.{refl, rules};
 ghost use Rattle.place_base.specs.TypeName.{is_type_name, is_type_byte};
 
+use crate::limits::LONGEST_NAME;
 use std::cmp::Ordering;
 use std::hash::{Hash, Hasher};
 use std::marker::Model;
@@ -17,7 +20,7 @@ use std::marker::Model;
 #[derive(Clone, Copy, Debug)]
 pub struct TypeName {
     // The name, and zeros behind it.
-    bytes: [u8; 8],
+    bytes: [u8; LONGEST_NAME],
     size: u8,
 }
 
@@ -25,6 +28,7 @@ impl Model for TypeName {
     ghost use Rattle.std.specs.Prelude.{ℕ, List, ◌≡◌, ◌++◌, ◌-◌, IsTrue, take, length, replicate};
     ghost use Rattle.std.proofs.Common.{ap, sym};
     ghost use Rattle.place_base.specs.TypeName.{is_type_name};
+    ghost use Rattle.place_base.specs.declared.limits.TheConstants.{LONGEST_NAME};
 
     ghost Value = { List ℕ };
 
@@ -32,9 +36,9 @@ impl Model for TypeName {
 
     ghost invariant = { λ name. IsTrue (is_type_name (take name.size name.bytes))
         × (length (take name.size name.bytes) ≡ name.size)
-        × (name.bytes ≡ take name.size name.bytes ++ replicate (8 - name.size) 0) };
+        × (name.bytes ≡ take name.size name.bytes ++ replicate (LONGEST_NAME - name.size) 0) };
 
-    ghost inverse = { λ text. record { bytes = text ++ replicate (8 - length text) 0; size = length text } };
+    ghost inverse = { λ text. record { bytes = text ++ replicate (LONGEST_NAME - length text) 0; size = length text } };
 
     ghost inverse_ok = { λ a h.
         let with_bytes : List ℕ → Inside = λ bytes. record { bytes = bytes; size = a.size } in
@@ -67,7 +71,7 @@ impl TypeName {
 fn is_name(bytes: &[u8]) -> bool
     ensures { result ≡ is_type_name bytes.now }
 {
-    if bytes.is_empty() || bytes.len() > 8 {
+    if bytes.is_empty() || bytes.len() > LONGEST_NAME {
         return false;
     }
     for byte in bytes {
@@ -79,11 +83,11 @@ fn is_name(bytes: &[u8]) -> bool
 }
 
 // The bytes, and zeros behind them.
-fn padded(bytes: &[u8]) -> [u8; 8]
-    requires { length bytes.now ≤ 8 }
-    ensures { result ≡ bytes.now ++ replicate (8 - length bytes.now) 0 }
+fn padded(bytes: &[u8]) -> [u8; LONGEST_NAME]
+    requires { length bytes.now ≤ LONGEST_NAME }
+    ensures { result ≡ bytes.now ++ replicate (LONGEST_NAME - length bytes.now) 0 }
 {
-    let mut padded = [0; 8];
+    let mut padded = [0; LONGEST_NAME];
     padded[..bytes.len()].copy_from_slice(bytes);
     padded
 }

@@ -11,7 +11,7 @@ use Rattle.std.proofs.lemmas.Bool.Decides.{nat_tests}
 use Rattle.std.proofs.lemmas.List.Folds.{list_any-append, position_or_len_push}
 use Rattle.std.proofs.lemmas.Map.Views.{any-filter_same}
 use Rattle.indexmap.specs.IndexSet.{insert_key}
-use Rattle.programme_table.specs.Programmes.{first_appearances}
+use Rattle.programme_table.specs.Rows.{first_appearances}
 
 -- the names other than one
 abbrev others : List ℕ → List (List ℕ) → List (List ℕ)

@@ -14,12 +14,16 @@ use Rattle.programme_table.specs.declared.row.ProgrammeRow.{ProgrammeRow}
 use Rattle.indexmap.specs.IndexSet.{insert_key}
 use Rattle.place_base.specs.declared.fault.FaultKind.TheVariants.{OutOfRange}
 use Rattle.place_base.specs.declared.fault.FileKind.TheVariants.{Programmes as programmes}
-use Rattle.record_files.specs.FirstFaults.{duplicate_at, fault_at, fault_if, first_of, repeat_fault, shape_fault}
+use Rattle.place_base.specs.declared.limits.TheConstants.{LARGEST_QUOTA, MOST_PROGRAMMES, MOST_TYPES}
+use Rattle.record_files.proofs.Keys.{repeat_fault-line_of}
+use Rattle.record_files.specs.FirstFaults.{duplicate_at, fault_at, fault_if, first_of}
+use Rattle.record_files.specs.Keys.{line_of, with_line}
 use Rattle.record_files.specs.Rows.{Row}
 use Rattle.programme_table.proofs.FirstAppearances.{any-first, any-insert_key_added, length-insert_key, first_appearances-snoc, place-insert_key_other, place-within}
-use Rattle.programme_table.specs.Growth.{clash, with_programme, is_full_for, line_with, row_fault_in, with_row}
-use Rattle.programme_table.specs.Programmes.{code_of, first_appearances, form, is_seventeenth, meaning, quota_of, reading, type_of, types_of}
-use Rattle.programme_table.specs.Table.{IsTable, Programmes, kind_in, line_of, programme_in, table_of}
+use Rattle.programme_table.specs.Growth.{IsFieldsOf, clash, with_programme, is_full_for}
+use Rattle.programme_table.specs.Rows.{code_of, first_appearances, is_type_too_many, meaning, quota_of, type_of, types_of}
+use Rattle.programme_table.specs.Table.{IsTable, Programmes, kind_in, programme_in, table_of}
+use Rattle.programme_table.specs.declared.row.Fields.{Fields}
 
 -- the row's type is among the names
 abbrev IsTyped : List (List ℕ) → Row → Type 0
@@ -52,9 +56,13 @@ map-programme_in names added (row ∷ rows) all =
     cc
 
 -- the table of one more row
-pub table_of-snoc : (rows : List Row) (row : Row)
-    → table_of (rows ++ row ∷ []) ≡ with_row (table_of rows) row
-table_of-snoc rows row =
+pub table_of-snoc : (rows : List Row) (row : Row) (fields : Fields) → IsFieldsOf row fields
+    → with_programme (table_of rows) fields ≡ table_of (rows ++ row ∷ [])
+table_of-snoc rows row fields f =
+    let line = f.line in
+    let code = f.code in
+    let name = f.name in
+    let quota = f.quota in
     let before = types_of rows in
     let after = insert_key bytes_eq before (type_of row) in
     let names : types_of (rows ++ row ∷ []) ≡ after =
@@ -66,86 +74,91 @@ table_of-snoc rows row =
     ∙ map-append (programme_in after) rows (row ∷ [])
     ∙ ap (λ earlier. earlier ++ programme_in after row ∷ [])
     (map-programme_in before (type_of row) rows (typed rows)) in
-    let lines = map-append line_of rows (row ∷ []) in
-    λ j. record { rows = programmes_are j; lines = lines j; names = names j }
-
--- the earlier line of a code
-repeat_fault-lookup : (code line : ℕ) (rows : List Row)
-    → option_map (duplicate_at programmes line 1) (lookup (nat_eq code) (map line_of rows))
-    ≡ repeat_fault programmes line 1 (λ other. code == code_of other) rows
-repeat_fault-lookup code line [] = refl
-repeat_fault-lookup code line (row ∷ rows) =
-    let later = repeat_fault-lookup code line rows in
-    elim (nat_eq code (code_of row)) as
-    (λ b. option_map (duplicate_at programmes line 1)
-    (cond b (Some row.0) (lookup (nat_eq code) (map line_of rows)))
-    ≡ option_map (λ other. duplicate_at programmes line 1 other.0)
-    (cond b (Some row) (find (λ other. code == code_of other) rows)))
-    [ true ↦ refl | false ↦ later ]
+    let codes = map-append (with_line code_of) rows (row ∷ []) in
+    let grown : with_programme (table_of rows) fields ≡ record {
+      rows = map (programme_in before) rows ++ programme_in after row ∷ [];
+      codes = map (with_line code_of) rows ++ with_line code_of row ∷ [];
+      names = after;
+    } = λ j.
+    let all = insert_key bytes_eq before (name j) in
+    record {
+      rows = map (programme_in before) rows
+          ++ record { code = code j; kind = kind_in all (name j); quota = quota j } ∷ [];
+      codes = map (with_line code_of) rows ++ (code j, line j) ∷ [];
+      names = all;
+    } in
+    grown ∙ sym (λ j. record { rows = programmes_are j; codes = codes j; names = names j })
 
 -- what is wrong with a row beside the earlier rows is what is wrong with it beside their table
-pub row_fault_in-table_of : (rows : List Row) (row : Row)
-    → row_fault_in (table_of rows) row
-    ≡ first_of (shape_fault form (length rows) row) (first_of (reading row) (meaning rows row))
-row_fault_in-table_of rows row =
-    let count = length-map rows (programme_in (types_of rows)) in
-    let repeated = repeat_fault-lookup (code_of row) row.0 rows in
-    let full = fault_if (is_seventeenth rows row) (fault_at programmes row.0 2 OutOfRange) in
-    λ j. first_of (shape_fault form (count j) row) (first_of (reading row) (first_of (repeated j) full))
+pub clash-table_of : (rows : List Row) (row : Row) (fields : Fields) → IsFieldsOf row fields
+    → clash (table_of rows) fields ≡ meaning rows row
+clash-table_of rows row fields f =
+    let line = f.line in
+    let code = f.code in
+    let name = f.name in
+    let repeated = repeat_fault-line_of programmes 1 row.0 code_of (code_of row) rows in
+    let full = fault_if (is_type_too_many rows row) (fault_at programmes row.0 2 OutOfRange) in
+    (λ j. first_of
+    (option_map (duplicate_at programmes (line j) 1) (line_of (table_of rows).codes (code j)))
+    (fault_if (is_full_for (table_of rows) (name j)) (fault_at programmes (line j) 2 OutOfRange)))
+    ∙ (λ j. first_of (repeated j) full)
 
 -- where nothing clashes, no earlier programme has the code
-pub clash-new : (table : Programmes) (line code : ℕ) (name : List ℕ) → clash table line code name ≡ None
-    → line_with table code ≡ None
-clash-new table line code name none = by (line_with table code) none
+pub clash-new : (table : Programmes) (fields : Fields) → clash table fields ≡ None
+    → line_of table.codes fields.code ≡ None
+clash-new table fields none = by (line_of table.codes fields.code) none
   where
     by : (found : Option ℕ)
-        → first_of (option_map (duplicate_at programmes line 1) found)
-        (fault_if (is_full_for table name) (fault_at programmes line 2 OutOfRange)) ≡ None
+        → first_of (option_map (duplicate_at programmes fields.line 1) found)
+        (fault_if (is_full_for table fields.name) (fault_at programmes fields.line 2 OutOfRange))
+        ≡ None
         → found ≡ None
     by None h = refl
     by (Some earlier) h = cc
 
 -- and there is room for the type
-pub clash-room : (table : Programmes) (line code : ℕ) (name : List ℕ)
-    → clash table line code name ≡ None → length table.names ≤ 16
-    → length (insert_key bytes_eq table.names name) ≤ 16
-clash-room table line code name none few =
-    let new = clash-new table line code name none in
-    let room : fault_if (is_full_for table name) (fault_at programmes line 2 OutOfRange) ≡ None =
-    rw new at none in
-    by (is_full_for table name) refl room (list_any (bytes_eq name) table.names) refl
+pub clash-room : (table : Programmes) (fields : Fields) → clash table fields ≡ None
+    → length table.names ≤ MOST_TYPES
+    → length (insert_key bytes_eq table.names fields.name) ≤ MOST_TYPES
+clash-room table fields none few =
+    let new = clash-new table fields none in
+    let room : fault_if (is_full_for table fields.name) (fault_at programmes fields.line 2 OutOfRange)
+    ≡ None = rw new at none in
+    by (is_full_for table fields.name) refl room (list_any (bytes_eq fields.name) table.names) refl
   where
-    by : (full : Bool) → is_full_for table name ≡ full
-        → fault_if full (fault_at programmes line 2 OutOfRange) ≡ None → (known : Bool)
-        → list_any (bytes_eq name) table.names ≡ known
-        → length (insert_key bytes_eq table.names name) ≤ 16
+    by : (full : Bool) → is_full_for table fields.name ≡ full
+        → fault_if full (fault_at programmes fields.line 2 OutOfRange) ≡ None → (known : Bool)
+        → list_any (bytes_eq fields.name) table.names ≡ known
+        → length (insert_key bytes_eq table.names fields.name) ≤ MOST_TYPES
     by true full none known there = cc
     by false full none true there = rw there few
     by false full none false there =
-        let room : nat_le 16 (length table.names) ≡ false =
-        sym (and-true (nat_le 16 (length table.names))) ∙ (rw there at full) in
-        let below : length table.names < 16 = leb-false 16 (length table.names) room in
+        let room : nat_le MOST_TYPES (length table.names) ≡ false =
+        sym (and-true (nat_le MOST_TYPES (length table.names))) ∙ (rw there at full) in
+        let below : length table.names < MOST_TYPES = leb-false MOST_TYPES (length table.names) room in
         rw there (omega (arith, length-append {A = List ℕ}))
 
 -- a table with one more programme fits
-pub IsTable-with : (table : Programmes) (line code : ℕ) (name : List ℕ) (quota : ℕ) → IsTable table
-    → length table.rows < 60000 → quota ≤ 100000
-    → clash table line code name ≡ None → IsTable (with_programme table line code name quota)
-IsTable-with table line code name quota fits room small none =
-    let names = insert_key bytes_eq table.names name in
-    let row : ProgrammeRow = record { code = code; kind = kind_in names name; quota = quota } in
-    let grown : length table.names ≤ length names = length-insert_key table.names name in
-    let kind : kind_in names name < length names =
-    place-within (bytes_eq name) names (any-insert_key_added table.names name) in
+pub IsTable-with : (table : Programmes) (fields : Fields) → IsTable table
+    → length table.rows < MOST_PROGRAMMES → clash table fields ≡ None
+    → IsTable (with_programme table fields)
+IsTable-with table fields fits room none =
+    let names = insert_key bytes_eq table.names fields.name in
+    let row : ProgrammeRow =
+    record { code = fields.code; kind = kind_in names fields.name; quota = fields.quota } in
+    let grown : length table.names ≤ length names = length-insert_key table.names fields.name in
+    let kind : kind_in names fields.name < length names =
+    place-within (bytes_eq fields.name) names (any-insert_key_added table.names fields.name) in
     record {
-      codes = map-append (λ (at : ℕ × ℕ). at.0) table.lines ((code, line) ∷ [])
-          ∙ ap (λ codes. codes ++ code ∷ []) fits.codes
+      codes = map-append (λ (at : ℕ × ℕ). at.0) table.codes ((fields.code, fields.line) ∷ [])
+          ∙ ap (λ codes. codes ++ fields.code ∷ []) fits.codes
           ∙ sym (map-append (λ (one : ProgrammeRow). one.code) table.rows (row ∷ []));
       kinds = All-push (λ (one : ProgrammeRow). one.kind < length names) table.rows row
           (All-weaker (λ (one : ProgrammeRow). one.kind < length table.names)
           (λ (one : ProgrammeRow). one.kind < length names) (λ one below. omega arith) table.rows
           fits.kinds) kind;
-      quotas = All-push (λ (one : ProgrammeRow). one.quota ≤ 100000) table.rows row fits.quotas small;
+      quotas = All-push (λ (one : ProgrammeRow). one.quota ≤ LARGEST_QUOTA) table.rows row
+          fits.quotas fields.limit;
       few_rows = omega (arith, length-append table.rows (row ∷ []));
-      few_names = clash-room table line code name none fits.few_names;
+      few_names = clash-room table fields none fits.few_names;
     }

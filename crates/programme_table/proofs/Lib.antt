@@ -1,3 +1,2 @@
 pub mod FirstAppearances
 pub mod Growing
-pub mod Reading

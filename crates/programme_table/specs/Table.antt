@@ -2,16 +2,17 @@
 use Rattle.std.specs.Prelude.{ℕ, List, All, map, bytes_eq, length, ◌≡◌, ◌≤◌, ◌<◌}
 use Rattle.std.specs.List.{position_or_len}
 use Rattle.market.specs.declared.programme.Prog.{Prog}
-use Rattle.record_files.specs.FirstFaults.{data_rows}
-use Rattle.record_files.specs.Rows.{Row}
-use Rattle.programme_table.specs.Programmes.{code_of, type_of, quota_of, types_of}
+use Rattle.place_base.specs.declared.limits.TheConstants.{LARGEST_QUOTA, MOST_PROGRAMMES, MOST_TYPES}
+use Rattle.record_files.specs.Keys.{keys_of, with_line}
+use Rattle.record_files.specs.Rows.{Row, data_rows}
+use Rattle.programme_table.specs.Rows.{code_of, type_of, quota_of, types_of}
 use Rattle.programme_table.specs.declared.row.ProgrammeRow.{ProgrammeRow}
 
 -- the programmes in file order, the code of each with its line, and the names of their score types in
 -- order of first appearance
 pub record Programmes : Type 0 where
   pub rows : List ProgrammeRow
-  pub lines : List (ℕ × ℕ)
+  pub codes : List (ℕ × ℕ)
   pub names : List (List ℕ)
 
 -- the index of a name among names
@@ -20,15 +21,16 @@ kind_in names name = position_or_len (bytes_eq name) names
 
 -- the programme that a row holds, beside the names of the types
 abbrev pub programme_in : List (List ℕ) → Row → ProgrammeRow
-programme_in names row = record { code = code_of row; kind = kind_in names (type_of row); quota = quota_of row }
-
--- the code that a row holds, with its line
-abbrev pub line_of : Row → ℕ × ℕ
-line_of row = (code_of row, row.0)
+programme_in names row =
+    record { code = code_of row; kind = kind_in names (type_of row); quota = quota_of row }
 
 -- the table of data rows
 abbrev pub table_of : List Row → Programmes
-table_of rows = record { rows = map (programme_in (types_of rows)) rows; lines = map line_of rows; names = types_of rows }
+table_of rows = record {
+  rows = map (programme_in (types_of rows)) rows;
+  codes = map (with_line code_of) rows;
+  names = types_of rows;
+}
 
 -- the table of a file
 abbrev pub programmes_table : List ℕ → Programmes
@@ -44,10 +46,10 @@ prog_of row = record { kind = row.kind; quota = row.quota }
 
 -- the parts of a table fit each other and the limits of a file
 pub record IsTable (table : Programmes) : Type 0 where
-  -- a line stands for each programme's code
-  pub codes : map (λ line. line.0) table.lines ≡ codes_of table.rows
+  -- each programme's code has its line
+  pub codes : keys_of table.codes ≡ codes_of table.rows
   -- each type has its place, and each quota is in its limit
   pub kinds : All (λ row. row.kind < length table.names) table.rows
-  pub quotas : All (λ row. row.quota ≤ 100000) table.rows
-  pub few_rows : length table.rows ≤ 60000
-  pub few_names : length table.names ≤ 16
+  pub quotas : All (λ row. row.quota ≤ LARGEST_QUOTA) table.rows
+  pub few_rows : length table.rows ≤ MOST_PROGRAMMES
+  pub few_names : length table.names ≤ MOST_TYPES

@@ -2,10 +2,10 @@
 //! file's first fault.
 #![tactic(auto)]
 
-// What the fields of a row say.
-mod fields;
-// A programme of the table.
+// What a row of the file says, and the programme that it makes.
 mod row;
+// What a row says by itself.
+mod fields;
 // The table, its reading and its look-ups.
 mod table;
 

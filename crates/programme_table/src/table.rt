@@ -1,30 +1,30 @@
 // The table, its reading and its look-ups.
-ghost use Rattle.std.specs.Prelude.{◌≡◌, ◌^◌, ◌≤◌, ◌<◌, [], All, length, map, slice_get, Some, None, IfOk, OnOk};
-ghost use Rattle.record_files.specs.FirstFaults.{IsTableRead};
-ghost use Rattle.programme_table.specs.Growth.{IsRowTaken, clash, with_programme};
-ghost use Rattle.programme_table.specs.Programmes.{form as programmes, programmes_fault};
+ghost use Rattle.std.specs.Prelude.{◌≡◌, ◌≤◌, ◌<◌, [], All, length, map, slice_get, Some, None, IfOk, OnOk};
+ghost use Rattle.record_files.specs.ReadTo.{IsTableRead};
+ghost use Rattle.programme_table.specs.Growth.{clash, with_programme};
+ghost use Rattle.programme_table.specs.Rows.{programmes_fault};
 ghost use Rattle.programme_table.specs.Table.{prog_of, programmes_table, table_of};
 
-use crate::fields::{Fields, read_fields};
-use crate::row::ProgrammeRow;
+use crate::fields::read_fields;
+use crate::row::{Fields, ProgrammeRow};
 use indexmap::{IndexMap, IndexSet};
 use market::Prog;
+use place_base::limits::{LARGEST_FILE, LARGEST_QUOTA, MOST_PIECES, MOST_PROGRAMMES, MOST_TYPES};
 use place_base::{FaultKind, FileFault, FileKind, Finder, TypeFinder, TypeName};
-use record_files::{FileForm, RecordRow, Records, TableStop, duplicate_at, fault_at};
+use record_files::{
+    FileForm, Header, RecordRow, RowTable, TableStop, duplicate_at, fault_at, read_table,
+};
 use std::alloc::{AllocError, Global};
 use std::marker::Model;
 use std::thread::Threads;
-
-// How many score types a file may have.
-const MOST_TYPES: usize = 16;
 
 /// The programmes of a file in file order, and the names of their score types in order of first
 /// appearance.
 #[derive(Drop)]
 pub struct ProgrammeTable {
     rows: Vec<ProgrammeRow>,
-    // The line of each code.
-    lines: IndexMap<u64, u32>,
+    // The code of each with its line.
+    codes: IndexMap<u64, u32>,
     names: IndexSet<TypeName>,
 }
 
@@ -35,12 +35,12 @@ impl Model for ProgrammeTable {
 
     ghost view = { λ t. record {
       rows = t.rows.items;
-      lines = t.lines.entries;
+      codes = t.codes.entries;
       names = t.names.keys;
     } };
 
     ghost invariant = { λ t.
-        IsTable (record { rows = t.rows.items; lines = t.lines.entries; names = t.names.keys }) };
+        IsTable (record { rows = t.rows.items; codes = t.codes.entries; names = t.names.keys }) };
 }
 
 impl ProgrammeTable {
@@ -55,18 +55,11 @@ impl ProgrammeTable {
         bytes: &[u8],
         pieces: u32,
     ) -> Result<ProgrammeTable, TableStop>
-        requires size { length bytes.now ≤ 2 ^ 30 }
-        requires pieces { (1 ≤ pieces) × (pieces ≤ 64) }
+        requires size { length bytes.now ≤ LARGEST_FILE }
+        requires pieces { (1 ≤ pieces) × (pieces ≤ MOST_PIECES) }
         ensures { IsTableRead (programmes_fault bytes.now) (programmes_table bytes.now) result }
     {
-        let form = programmes_form();
-        let mut records = Records::of_bytes(bytes);
-        form.read_header(&mut records)?;
-        let mut table = ProgrammeTable::new(alloc);
-        'rows: while let Some(row) = records.next() {
-            table.take_row(&form, &row)?;
-        }
-        Ok(table)
+        read_table(alloc, bytes, &(), ProgrammeTable::new(alloc))
     }
 
     /// The programme at an index, counted from 0 in file order.
@@ -86,9 +79,9 @@ impl ProgrammeTable {
         ensures kinds { IfOk result (λ programmes.
             All (λ one. one.kind < length self.now.names) programmes.items) }
         ensures quotas { IfOk result (λ programmes.
-            All (λ one. one.quota ≤ 100000) programmes.items) }
-        ensures few_programmes { length self.now.rows ≤ 60000 }
-        ensures few_types { length self.now.names ≤ 16 }
+            All (λ one. one.quota ≤ LARGEST_QUOTA) programmes.items) }
+        ensures few_programmes { length self.now.rows ≤ MOST_PROGRAMMES }
+        ensures few_types { length self.now.names ≤ MOST_TYPES }
     {
         self.rows
             .iter()
@@ -105,33 +98,17 @@ impl ProgrammeTable {
     {
         ProgrammeTable {
             rows: Vec::new(alloc),
-            lines: IndexMap::new(alloc),
+            codes: IndexMap::new(alloc),
             names: IndexSet::new(alloc),
         }
     }
 
-    // Takes the next row over, or says what is wrong with it.
-    fn take_row(&mut self, form: &FileForm, row: &RecordRow<'_>) -> Result<(), TableStop>
-        requires { form.now ≡ programmes }
-        ensures { IsRowTaken self.old row.now result self.new }
-    {
-        if let Some(fault) = form.shape_fault(self.rows.len() as u32, row) {
-            return Err(TableStop::Fault(fault));
-        }
-        let fields = read_fields(row)?;
-        if let Some(fault) = self.clash(row, &fields) {
-            return Err(TableStop::Fault(fault));
-        }
-        self.add(row.line(), &fields)?;
-        Ok(())
-    }
-
     // What is wrong with a row beside the table.
-    fn clash(&self, row: &RecordRow<'_>, fields: &Fields) -> Option<FileFault>
-        ensures { result ≡ clash self.now row.now.0 fields.now.code fields.now.name }
+    fn clash(&self, fields: &Fields) -> Option<FileFault>
+        ensures { result ≡ clash self.now fields.now }
     {
-        let (file, line) = (FileKind::Programmes, row.line());
-        if let Some(earlier) = self.lines.get(&u64::from(fields.code.get())) {
+        let (file, line) = (FileKind::Programmes, fields.line);
+        if let Some(earlier) = self.codes.get(&u64::from(fields.code.get())) {
             return Some(duplicate_at(file, line, 1, *earlier));
         }
         if self.names.len() >= MOST_TYPES && !self.names.contains(&fields.name) {
@@ -141,19 +118,17 @@ impl ProgrammeTable {
     }
 
     // Adds a programme with a new code, whose type fits.
-    fn add(&mut self, line: u32, fields: &Fields) -> Result<(), AllocError>
-        requires rows { length self.old.rows < 60000 }
-        requires quota { fields.now.quota ≤ 100000 }
-        requires fits { clash self.old line fields.now.code fields.now.name ≡ None }
-        ensures { OnOk result (self.new
-            ≡ with_programme self.old line fields.now.code fields.now.name fields.now.quota) }
+    fn add(&mut self, fields: &Fields) -> Result<(), AllocError>
+        requires rows { length self.old.rows < MOST_PROGRAMMES }
+        requires fits { clash self.old fields.now ≡ None }
+        ensures { OnOk result (self.new ≡ with_programme self.old fields.now) }
     {
         self.names.reserve(1)?;
-        self.lines.reserve(1)?;
+        self.codes.reserve(1)?;
         self.rows.reserve(1)?;
         let (kind, _) = self.names.insert_full(fields.name).unwrap();
-        self.lines
-            .insert(u64::from(fields.code.get()), line)
+        self.codes
+            .insert(u64::from(fields.code.get()), fields.line)
             .unwrap();
         self.rows
             .push(ProgrammeRow {
@@ -166,13 +141,59 @@ impl ProgrammeTable {
     }
 }
 
+impl RowTable<()> for ProgrammeTable {
+    ghost use Rattle.std.specs.Prelude.{◌≡◌};
+    ghost use Rattle.programme_table.specs.Growth.{IsFieldsOf};
+    ghost use Rattle.programme_table.specs.Rows.{programmes_rules};
+    ghost use Rattle.programme_table.specs.Table.{table_of};
+
+    type Fields = Fields;
+
+    ghost rules = { λ _. programmes_rules };
+
+    ghost says = { IsFieldsOf };
+
+    ghost has_rows = { λ _ rows table. table ≡ table_of rows };
+
+    fn form(_beside: &()) -> FileForm {
+        FileForm::new(
+            FileKind::Programmes,
+            &[b"programme,type,quota"],
+            MOST_PROGRAMMES,
+        )
+    }
+
+    fn read_fields(
+        _beside: &(),
+        _header: Header,
+        row: &RecordRow<'_>,
+    ) -> Result<Fields, FileFault> {
+        read_fields(row)
+    }
+
+    fn take(
+        &mut self,
+        _alloc: Global,
+        _beside: &(),
+        fields: Fields,
+    ) -> Result<Option<FileFault>, AllocError> {
+        match self.clash(&fields) {
+            Some(fault) => Ok(Some(fault)),
+            None => {
+                self.add(&fields)?;
+                Ok(None)
+            }
+        }
+    }
+}
+
 impl Finder for ProgrammeTable {
     ghost use Rattle.programme_table.specs.Table.{codes_of};
 
     ghost numbers = { λ table. codes_of table.rows };
 
     fn count(&self) -> u32 {
-        self.lines.len() as u32
+        self.codes.len() as u32
     }
 
     fn number_at(&self, index: u32) -> u64 {
@@ -180,7 +201,7 @@ impl Finder for ProgrammeTable {
     }
 
     fn find(&self, number: u64) -> Option<u32> {
-        let index = self.lines.get_index_of(&number)?;
+        let index = self.codes.get_index_of(&number)?;
         Some(index as u32)
     }
 }
@@ -200,11 +221,4 @@ impl TypeFinder for ProgrammeTable {
         let kind = self.names.get_index_of(&name)?;
         Some(kind as u32)
     }
-}
-
-// The form of a programmes file.
-fn programmes_form() -> FileForm
-    ensures { result ≡ programmes }
-{
-    FileForm::new(FileKind::Programmes, b"programme,type,quota", 3, 60_000)
 }

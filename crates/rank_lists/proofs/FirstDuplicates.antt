@@ -1,22 +1,20 @@
 -- The rows of a ranks file that have no fault of their own: up to the first row that repeats an
 -- earlier one none has a fault at all, and that row's fault is the file's first.
-use Rattle.std.proofs.Common.{◌≡◌, ℕ, zero, suc, ◌+◌, ◌<◌, ◌≤◌, List, [], ◌∷◌, Bool, true, false, length, map, take, drop, find, refl, sym, ap, ◌∙◌, arith, subst, ⊎_elim, Option, Some, None, length-take-le}
+use Rattle.std.proofs.Common.{◌≡◌, ℕ, zero, suc, ◌+◌, ◌<◌, ◌≤◌, List, [], ◌∷◌, Bool, true, false, length, map, take, find, refl, sym, ap, ◌∙◌, arith, ⊎_elim, Option, Some, None, length-take-le}
 use Rattle.std.specs.Prelude.{slice_index, option_and_then, option_map}
-use Rattle.std.proofs.Math.Seq.{drop-cons}
 use Rattle.std.proofs.lemmas.Bool.{cases_Bool}
 use Rattle.std.proofs.lemmas.List.{get_or-map, get_or-take, length-map}
 use Rattle.std.proofs.lemmas.Option.{slice_get-get_or}
 use Rattle.place_base.specs.declared.fault.FileFault.{FileFault}
 use Rattle.place_base.specs.declared.fault.FileKind.{FileKind}
 use Rattle.place_base.specs.declared.fault.FileKind.TheVariants.{Ranks}
-use Rattle.record_files.specs.FirstFaults.{first_of, shape_fault, fault_behind, row_fault, least_fault, data_rows, repeat_fault, duplicate_at}
-use Rattle.record_files.specs.ReadTo.{IsReadTo}
-use Rattle.record_files.specs.Rows.{Row}
-use Rattle.record_files.proofs.FirstFaultLemmas.{IsReadTo-stops, first_of-none, least_fault-each}
+use Rattle.record_files.specs.FirstFaults.{FileRules, first_of, first_row_fault, shape_fault, fault_behind, row_fault, least_fault, repeat_fault, duplicate_at}
+use Rattle.record_files.specs.Form.{header_in}
+use Rattle.record_files.specs.Rows.{Row, rows, data_rows}
+use Rattle.record_files.proofs.FirstFaultLemmas.{first_of-none, least_fault-each, least_fault-found}
 use Rattle.rank_lists.specs.Groups.{candidate_group, rank_group}
-use Rattle.rank_lists.specs.RankRows.{ranks_form, reading, meaning, same_candidate, same_rank, ranks_fault}
 use Rattle.rank_lists.specs.Repeats.{NoRepeat, IsFirstRepeat}
-use Rattle.rank_lists.specs.RowsRead.{unrelated, row_at}
+use Rattle.rank_lists.specs.Rows.{ranks_form, ranks_rules, own_rules, reading, meaning, same_candidate, same_rank, ranks_fault, row_at}
 use Rattle.rank_lists.proofs.RowGroups.{HasFields, HasFields-from, candidate_group-same, rank_group-same, same_candidate-group, same_rank-group}
 
 -- where each fault is none, the least is none
@@ -27,17 +25,15 @@ least_fault-none fault zero h = refl
 least_fault-none fault (suc n) h =
     rw (least_fault-none fault n (λ k lt. h k (omega arith))) (h n (omega arith))
 
-row_fault-at : (meaning : List Row → Row → Option FileFault) (body : List Row) (k : ℕ)
-    → k < length body
-    → row_fault ranks_form reading meaning body k
-    ≡ first_of (shape_fault ranks_form k (row_at body k))
-    (first_of (reading (row_at body k)) (meaning (take k body) (row_at body k)))
-row_fault-at meaning body k lt =
-    ap (option_and_then (fault_behind ranks_form reading meaning (take k body)))
-    (slice_get-get_or body k (0, []) lt)
-    ∙ ap (λ n. first_of (shape_fault ranks_form n (row_at body k))
-    (first_of (reading (row_at body k)) (meaning (take k body) (row_at body k))))
-    (length-take-le k body (omega arith))
+-- the fault of a row that is there
+pub row_fault-at : (rules : FileRules) (bytes : List ℕ) (k : ℕ) → k < length (data_rows bytes)
+    → row_fault rules bytes k
+    ≡ fault_behind rules (header_in rules.form (rows bytes)) (take k (data_rows bytes))
+    (row_at (data_rows bytes) k)
+row_fault-at rules bytes k lt =
+    ap (option_and_then
+    (fault_behind rules (header_in rules.form (rows bytes)) (take k (data_rows bytes))))
+    (slice_get-get_or (data_rows bytes) k (0, []) lt)
 
 not-true : (b : Bool) → (b ≡ true → ⊥) → b ≡ false
 not-true b h = ⊎_elim (λ (yes : b ≡ true). absurd (h yes)) (λ (no : b ≡ false). no) (cases_Bool b)
@@ -113,22 +109,29 @@ module _ (body : List Row) (n : ℕ) (all : n ≤ length body) (group : Row → 
       ap (option_map (λ row. duplicate_at file line field row.0))
       (found ∙ ap (λ row. Some row) (earlier-at k i within order))
 
-module _ (bytes : List ℕ) (n : ℕ) (left : List Row)
-    (r : IsReadTo ranks_form reading unrelated bytes n left) where
+module _ (bytes : List ℕ) (n : ℕ) (within : n ≤ length (data_rows bytes))
+    (header : 0 < n → first_row_fault ranks_form (rows bytes) ≡ None)
+    (none : least_fault (row_fault own_rules bytes) n ≡ None) where
   abbrev body : List Row
   body = data_rows bytes
 
   abbrev at : ℕ → Row
   at k = row_at body k
 
+  -- how many fields a row has to have
+  abbrev count : ℕ
+  count = (header_in ranks_form (rows bytes)).fields
+
   -- a row that was read has no fault of its own
-  own : (k : ℕ) → k < n → (shape_fault ranks_form k (at k) ≡ None) × (reading (at k) ≡ None)
+  own : (k : ℕ) → k < n
+      → (shape_fault ranks_form count (length (take k body)) (at k) ≡ None)
+      × (reading (at k) ≡ None)
   own k lt =
-      let within = r.within in
-      let here = sym (row_fault-at unrelated body k (omega arith))
-      ∙ least_fault-each _ n r.none k lt in
-      let parts = first_of-none _ _ here in
-      (parts.0, (first_of-none _ _ parts.1).0)
+      let here = sym (row_fault-at own_rules bytes k (omega arith))
+      ∙ least_fault-each _ n none k lt in
+      let parts = first_of-none (shape_fault ranks_form count (length (take k body)) (at k)) _ here
+      in
+      (parts.0, (first_of-none (reading (at k)) None parts.1).0)
 
   pub read-fields : (k : ℕ) → k < n → HasFields (at k)
   read-fields k lt = HasFields-from (at k) (own k lt).1
@@ -159,13 +162,13 @@ module _ (bytes : List ℕ) (n : ℕ) (left : List Row)
   no-candidate : (m k : ℕ) → NoRepeat candidates m → k < m → m ≤ n
       → repeat_fault Ranks (at k).0 2 (same_candidate (at k)) (take k body) ≡ None
   no-candidate m k distinct lt le =
-      repeat-none body n r.within candidate_group same_candidate to-candidate from-candidate m k
+      repeat-none body n within candidate_group same_candidate to-candidate from-candidate m k
       Ranks (at k).0 2 distinct lt le
 
   no-rank : (m k : ℕ) → NoRepeat ranks m → k < m → m ≤ n
       → repeat_fault Ranks (at k).0 3 (same_rank (at k)) (take k body) ≡ None
   no-rank m k distinct lt le =
-      repeat-none body n r.within rank_group same_rank to-rank from-rank m k Ranks
+      repeat-none body n within rank_group same_rank to-rank from-rank m k Ranks
       (at k).0 3 distinct lt le
 
   first_of-both : (a b : Option FileFault) → a ≡ None → b ≡ None → first_of a b ≡ None
@@ -173,46 +176,35 @@ module _ (bytes : List ℕ) (n : ℕ) (left : List Row)
 
   -- the rows before the first repeat have no fault
   clear : (m : ℕ) → m ≤ n → NoRepeat candidates m → NoRepeat ranks m
-      → IsReadTo ranks_form reading meaning bytes m (drop m body)
-  clear m le c d =
-      let within = r.within in
-      record {
-        header = r.header;
-        left_is = refl;
-        within = omega arith;
-        none = least_fault-none _ m (λ k lt.
-            let free = own k (omega arith) in
-            row_fault-at meaning body k (omega arith)
-            ∙ first_of-both _ _ free.0
-            (first_of-both _ _ free.1
-            (first_of-both _ _ (no-candidate m k c lt le) (no-rank m k d lt le))));
-      }
+      → least_fault (row_fault ranks_rules bytes) m ≡ None
+  clear m le c d = least_fault-none _ m (λ k lt.
+      let free = own k (omega arith) in
+      row_fault-at ranks_rules bytes k (omega arith)
+      ∙ first_of-both _ _ free.0 (first_of-both _ _ free.1
+      (first_of-both _ _ (no-candidate m k c lt le) (no-rank m k d lt le))))
 
   -- a row behind clear ones that repeats one of them has the file's first fault
   stops : (k : ℕ) (f : FileFault) → k < n → NoRepeat candidates k → NoRepeat ranks k
       → meaning (take k body) (at k) ≡ Some f → ranks_fault bytes ≡ Some f
   stops k f lt c d found =
-      let within = r.within in
       let free = own k lt in
-      let rest : drop k body ≡ at k ∷ drop (suc k) body = drop-cons body k (0, []) (omega arith) in
-      let read = subst (λ rows. IsReadTo ranks_form reading meaning bytes k rows) rest
-      (clear k (omega arith) c d) in
-      IsReadTo-stops ranks_form reading meaning bytes k (at k) (drop (suc k) body) f read
-      (rw (free.0, free.1) found)
+      let here : row_fault ranks_rules bytes k ≡ Some f =
+      row_fault-at ranks_rules bytes k (omega arith) ∙ rw (free.0, free.1) found in
+      rw (header (omega arith)) (least_fault-found (row_fault ranks_rules bytes) k (length body) f
+      (omega arith) (clear k (omega arith) c d) here)
 
   size : length (take n body) ≡ n
-  size = length-take-le n body r.within
+  size = length-take-le n body within
 
   -- no repeat at all
   pub clear-all : NoRepeat candidates (length candidates) → NoRepeat ranks (length ranks)
-      → IsReadTo ranks_form reading meaning bytes n left
+      → least_fault (row_fault ranks_rules bytes) n ≡ None
   clear-all c d =
       let sizes = length-map (take n body) candidate_group in
       let sizes' = length-map (take n body) rank_group in
       let whole = size in
-      let read = clear n (omega arith) (λ i j below lt. c i j below (omega arith))
-      (λ i j below lt. d i j below (omega arith)) in
-      subst (λ rows. IsReadTo ranks_form reading meaning bytes n rows) (sym r.left_is) read
+      clear n (omega arith) (λ i j below lt. c i j below (omega arith))
+      (λ i j below lt. d i j below (omega arith))
 
   -- the first repeat is that of a candidate in a type
   pub candidate-first : (i k : ℕ) → IsFirstRepeat candidates i k → NoRepeat ranks k
@@ -220,10 +212,10 @@ module _ (bytes : List ℕ) (n : ℕ) (left : List Row)
   candidate-first i k first d =
       let sizes = length-map (take n body) candidate_group in
       let whole = size in
-      let within : k < n = omega (arith, first.within) in
-      let found = repeat-found body n r.within candidate_group same_candidate to-candidate
+      let inside : k < n = omega (arith, first.within) in
+      let found = repeat-found body n within candidate_group same_candidate to-candidate
       from-candidate i k Ranks (at k).0 2 first in
-      stops k (duplicate_at Ranks (at k).0 2 (at i).0) within first.first d (rw found refl)
+      stops k (duplicate_at Ranks (at k).0 2 (at i).0) inside first.first d (rw found refl)
 
   -- the first repeat is that of a rank in a type
   pub rank-first : (i k : ℕ) → IsFirstRepeat ranks i k → NoRepeat candidates (k + 1)
@@ -231,9 +223,9 @@ module _ (bytes : List ℕ) (n : ℕ) (left : List Row)
   rank-first i k first c =
       let sizes = length-map (take n body) rank_group in
       let whole = size in
-      let within : k < n = omega (arith, first.within) in
-      let found = repeat-found body n r.within rank_group same_rank to-rank from-rank i k Ranks
+      let inside : k < n = omega (arith, first.within) in
+      let found = repeat-found body n within rank_group same_rank to-rank from-rank i k Ranks
       (at k).0 3 first in
-      stops k (duplicate_at Ranks (at k).0 3 (at i).0) within
+      stops k (duplicate_at Ranks (at k).0 3 (at i).0) inside
       (λ a b below lt. c a b below (omega arith)) first.first
       (rw (no-candidate (k + 1) k c (omega arith) (omega arith)) found)

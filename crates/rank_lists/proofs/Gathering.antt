@@ -9,14 +9,16 @@ use Rattle.std.proofs.lemmas.Bool.Decides.{nat_tests}
 use Rattle.std.proofs.lemmas.List.{map-append, get_or-set_same, get_or-set_other}
 use Rattle.std.proofs.lemmas.List.Elements.{filter-append}
 use Rattle.record_files.specs.Rows.{Row}
-use Rattle.rank_lists.specs.Gathered.{row_key, is_kind, in_kind, given_in, with_rank, HasRows}
+use Rattle.rank_lists.specs.declared.keys.TheConstants.{INDEXES, NUMBERS}
+use Rattle.place_base.specs.declared.limits.TheConstants.{LARGEST_NUMBER}
+use Rattle.rank_lists.specs.Growth.{row_key, is_kind, in_kind, given_in, with_rank, HasRows}
 use Rattle.rank_lists.specs.Groups.{candidate_group, rank_group}
-use Rattle.rank_lists.specs.RankRows.{candidate_in, type_in, rank_in}
-use Rattle.rank_lists.specs.RankTables.{Standing, key_of, standing_of, standings, in_type}
-use Rattle.rank_lists.specs.RowsRead.{row_at}
+use Rattle.rank_lists.specs.Rows.{candidate_in, type_in, rank_in, row_at}
+use Rattle.rank_lists.specs.Table.{Standing, standing_of, standings, in_type}
 use Rattle.rank_lists.specs.Turns.{known_key, known_keys}
-use Rattle.rank_lists.specs.declared.gather.RankRows.{RankRows}
+use Rattle.rank_lists.specs.declared.rows.RankRows.{RankRows}
 use Rattle.rank_lists.proofs.RowGroups.{HasFields}
+use Rattle.rank_lists.proofs.Standings.{key_of}
 
 pub append-nothing : {X : Type 0} (xs : List X) → xs ++ [] ≡ xs
 append-nothing [] = refl
@@ -102,7 +104,7 @@ HasRows-next names earlier row old new h candidates ranks given = record {
 module _ (names : List (List ℕ)) (numbers : List ℕ) (kind : ℕ) where
   -- one row more in front
   front : (type candidate : Option ℕ) (row : Row) (rows : List Row) (ss : List Standing)
-      → known_key numbers (row_key row) ≡ option_map (λ index. rank_in row * 4294967296 + index)
+      → known_key numbers (row_key row) ≡ option_map (λ index. rank_in row * INDEXES + index)
       candidate
       → known_keys numbers (map row_key rows) ≡ map key_of (in_type kind ss)
       → known_keys numbers (map row_key (cond (is_kind kind type) (row ∷ rows) rows))
@@ -129,15 +131,15 @@ module _ (names : List (List ℕ)) (numbers : List ℕ) (kind : ℕ) where
 
   -- the key of a row within the limits
   known-row : (row : Row) → HasFields row
-      → known_key numbers (row_key row) ≡ option_map (λ index. rank_in row * 4294967296 + index)
+      → known_key numbers (row_key row) ≡ option_map (λ index. rank_in row * INDEXES + index)
       (position (nat_eq (candidate_in row)) numbers)
   known-row row h =
-      let limit : candidate_in row ≤ 99999999999 = h.candidate in
-      let number : row_key row % 137438953472 ≡ candidate_in row = omega arith in
-      let rank : row_key row / 137438953472 ≡ rank_in row = omega arith in
-      ap (λ n. option_map (λ index. n * 4294967296 + index)
-      (position (nat_eq (row_key row % 137438953472)) numbers)) rank
-      ∙ ap (λ n. option_map (λ index. rank_in row * 4294967296 + index)
+      let limit : candidate_in row ≤ LARGEST_NUMBER = h.candidate in
+      let number : row_key row % NUMBERS ≡ candidate_in row = omega arith in
+      let rank : row_key row / NUMBERS ≡ rank_in row = omega arith in
+      ap (λ n. option_map (λ index. n * INDEXES + index)
+      (position (nat_eq (row_key row % NUMBERS)) numbers)) rank
+      ∙ ap (λ n. option_map (λ index. rank_in row * INDEXES + index)
       (position (nat_eq n) numbers)) number
 
   -- the ranks of known candidates that rows give in a type are the type's standings

@@ -6,6 +6,7 @@ pub mod Names
 pub mod RowGroups
 pub mod Sorting
 pub mod Standings
+pub mod TurnOrder
 pub mod Ranking
 pub mod TableLemmas
 pub mod Reading

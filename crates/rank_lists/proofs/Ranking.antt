@@ -10,10 +10,10 @@ use Rattle.std.proofs.lemmas.List.Quantifiers.{position-Some}
 use Rattle.std.proofs.lemmas.Slice.Eq.{bytes_eq-Decides}
 use Rattle.record_files.specs.Rows.{Row}
 use Rattle.rank_lists.specs.Groups.{name_number, candidate_group, rank_group}
-use Rattle.rank_lists.specs.RankRows.{candidate_in, type_in, rank_in}
-use Rattle.rank_lists.specs.RankTables.{Standing, standing_of, standing_in, standings, in_type}
+use Rattle.rank_lists.specs.Rows.{candidate_in, type_in, rank_in}
+use Rattle.rank_lists.specs.Table.{Standing, standing_of, standing_in, standings, in_type}
 use Rattle.rank_lists.specs.Repeats.{NoRepeat}
-use Rattle.rank_lists.specs.RowsRead.{row_at}
+use Rattle.rank_lists.specs.Rows.{row_at}
 use Rattle.rank_lists.proofs.Counts.{copies, one_if, one_if-same, one_if-other, one_if-cases}
 use Rattle.rank_lists.proofs.Standings.{Each}
 

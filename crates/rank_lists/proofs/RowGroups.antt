@@ -6,26 +6,24 @@ use Rattle.std.proofs.lemmas.Bool.Decides.{nat_tests}
 use Rattle.std.proofs.lemmas.Slice.Eq.{bytes_eq-Decides}
 use Rattle.place_base.specs.TypeName.{is_type_name}
 use Rattle.place_base.specs.declared.fault.FaultKind.{FaultKind}
-use Rattle.place_base.specs.declared.fault.FaultKind.TheVariants.{NotNumber, OutOfRange, BadTypeName, TooManyRows, FieldCount}
-use Rattle.place_base.specs.declared.fault.FileFault.{FileFault}
+use Rattle.place_base.specs.declared.fault.FaultKind.TheVariants.{NotNumber, OutOfRange, BadTypeName}
 use Rattle.place_base.specs.declared.fault.FileKind.{FileKind}
 use Rattle.place_base.specs.declared.fault.FileKind.TheVariants.{Ranks}
-use Rattle.record_files.specs.FirstFaults.{first_of, fault_at, fault_if, long_fault, shape_fault, reading_fault}
-use Rattle.record_files.specs.Numbers.{value, is_number, number_of}
-use Rattle.record_files.specs.Rows.{Row, field_at, fields_of}
-use Rattle.record_files.specs.TypeNames.{type_name_of}
+use Rattle.record_files.specs.FirstFaults.{reading_fault}
+use Rattle.record_files.specs.Numbers.{value, is_number, number_of, type_name_of}
+use Rattle.record_files.specs.Rows.{Row, field_at}
 use Rattle.record_files.proofs.FirstFaultLemmas.{first_of-none}
+use Rattle.place_base.specs.declared.limits.TheConstants.{LARGEST_NUMBER, LARGEST_RANK, MOST_RANKS}
 use Rattle.rank_lists.specs.Groups.{name_number, candidate_group, rank_group}
-use Rattle.rank_lists.specs.RankRows.{ranks_form, candidate_in, type_in, rank_in, reading, same_candidate, same_rank}
-use Rattle.rank_lists.specs.RowsRead.{own_fault}
+use Rattle.rank_lists.specs.Rows.{candidate_in, type_in, rank_in, reading, same_candidate, same_rank}
 use Rattle.rank_lists.proofs.Names.{IsName, IsName-from, IsName-same}
 
 -- the parts of a row are within their limits
 pub record HasFields (row : Row) : Type 0 where
-  pub candidate : candidate_in row ≤ 99999999999
+  pub candidate : candidate_in row ≤ LARGEST_NUMBER
   pub name : IsName (type_in row)
   pub low : 1 ≤ rank_in row
-  pub rank : rank_in row ≤ 99999999
+  pub rank : rank_in row ≤ LARGEST_RANK
 
 number-read : (file : FileKind) (line field : ℕ) (text : List ℕ) (low high : ℕ)
     → reading_fault file line field (number_of text low high) ≡ None
@@ -56,8 +54,8 @@ pub HasFields-from : (row : Row) → reading row ≡ None → HasFields row
 HasFields-from row h =
     let parts = first_of-none _ _ h in
     let later = first_of-none _ _ parts.1 in
-    let candidate = number-read Ranks row.0 1 (field_at row 0) 1 99999999999 parts.0 in
-    let rank = number-read Ranks row.0 3 (field_at row 2) 1 99999999 later.1 in
+    let candidate = number-read Ranks row.0 1 (field_at row 0) 1 LARGEST_NUMBER parts.0 in
+    let rank = number-read Ranks row.0 3 (field_at row 2) 1 LARGEST_RANK later.1 in
     record {
       candidate = candidate.1;
       name = name-read Ranks row.0 2 (field_at row 1) later.0;
@@ -100,8 +98,8 @@ rank_group-same row other h =
 pub same_candidate-group : (row other : Row) → HasFields row → HasFields other
     → candidate_group other ≡ candidate_group row → same_candidate row other ≡ true
 same_candidate-group row other g h e =
-    let low : candidate_in row ≤ 99999999999 = g.candidate in
-    let high : candidate_in other ≤ 99999999999 = h.candidate in
+    let low : candidate_in row ≤ LARGEST_NUMBER = g.candidate in
+    let high : candidate_in other ≤ LARGEST_NUMBER = h.candidate in
     let candidates : candidate_in row ≡ candidate_in other = omega arith in
     let numbers : name_number (type_in row) ≡ name_number (type_in other) = omega arith in
     let names : type_in row ≡ type_in other = IsName-same _ _ g.name h.name numbers in
@@ -110,42 +108,9 @@ same_candidate-group row other g h e =
 pub same_rank-group : (row other : Row) → HasFields row → HasFields other
     → rank_group other ≡ rank_group row → same_rank row other ≡ true
 same_rank-group row other g h e =
-    let low : rank_in row ≤ 99999999 = g.rank in
-    let high : rank_in other ≤ 99999999 = h.rank in
+    let low : rank_in row ≤ LARGEST_RANK = g.rank in
+    let high : rank_in other ≤ LARGEST_RANK = h.rank in
     let ranks : rank_in row ≡ rank_in other = omega arith in
     let numbers : name_number (type_in row) ≡ name_number (type_in other) = omega arith in
     let names : type_in row ≡ type_in other = IsName-same _ _ g.name h.name numbers in
     both-and _ _ (eq-true _ _ ranks) ((bytes_eq-Decides (type_in row) (type_in other)).1 names)
-
--- a row without a fault of its own is not one too many
-pub few-rows : (index : ℕ) (row : Row) → own_fault index row ≡ None → index < 20000000
-few-rows index row h =
-    let shape = first_of-none (shape_fault ranks_form index row) (reading row) h in
-    let rows = fault_if (nat_le 20000000 index) (fault_at Ranks row.0 0 TooManyRows) in
-    let behind = first_of-none (long_fault ranks_form row) (first_of rows (count_fault row))
-    shape.0 in
-    allowed (nat_le 20000000 index) (fault_at Ranks row.0 0 TooManyRows) (below index)
-    (first_of-none rows (count_fault row) behind.1).0
-  where
-    count_fault : Row → Option FileFault
-    count_fault row = fault_if (not (length (fields_of row) == 3))
-        (fault_at Ranks row.0 0 FieldCount)
-
-    below : (index : ℕ) → nat_le 20000000 index ≡ false → index < 20000000
-    below index h = grind (arith, nat_tests)
-
-    allowed : (test : Bool) (fault : FileFault) → (test ≡ false → index < 20000000)
-        → fault_if test fault ≡ None → index < 20000000
-    allowed true fault h none = absurd (cc)
-    allowed false fault h none = h refl
-
-first_of-nothing : (a : Option FileFault) → first_of a None ≡ a
-first_of-nothing (Some f) = refl
-first_of-nothing None = refl
-
--- the fault of a row by itself is its fault beside rows that it has nothing to do with
-pub own_fault-unrelated : (index : ℕ) (row : Row)
-    → first_of (shape_fault ranks_form index row) (first_of (reading row) None)
-    ≡ own_fault index row
-own_fault-unrelated index row =
-    ap (first_of (shape_fault ranks_form index row)) (first_of-nothing (reading row))

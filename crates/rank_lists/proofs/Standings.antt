@@ -1,11 +1,30 @@
 -- Standings by rising rank, and the same as sorted numbers, each a rank with its candidate behind
 -- it.
-use Rattle.std.proofs.Common.{◌≡◌, ℕ, zero, suc, ◌+◌, ◌/◌, ◌%◌, ◌<◌, ◌≤◌, List, [], ◌∷◌, true, false, length, map, refl, sym, ap, ◌∙◌, arith}
+use Rattle.std.proofs.Common.{◌≡◌, ℕ, zero, suc, ◌+◌, ◌*◌, ◌/◌, ◌%◌, ◌<◌, ◌≤◌, ◌==◌, ◌&&◌, ◌||◌, List, [], ◌∷◌, Bool, true, false, if◌then◌else◌, nat_le, nat_lt, length, map, refl, sym, ap, ◌∙◌, arith}
 use Rattle.std.specs.Prelude.{slice_index, slice_index_or, IsPermutation}
 use Rattle.std.proofs.lemmas.Bool.{cond_both}
 use Rattle.std.proofs.lemmas.Bool.Decides.{nat_tests}
-use Rattle.rank_lists.specs.RankTables.{Standing, key_of, is_before, put_in, by_rank}
+use Rattle.rank_lists.specs.declared.keys.TheConstants.{INDEXES}
+use Rattle.rank_lists.specs.Table.{Standing}
 use Rattle.rank_lists.proofs.Counts.{copies, one_if, copies-permutation, Rises, Rises-unique}
+
+-- a rank with its candidate behind it
+abbrev pub key_of : Standing → ℕ
+key_of s = s.rank * INDEXES + s.candidate
+
+-- a better rank, and of equal ranks the lesser index
+abbrev is_before : Standing → Standing → Bool
+is_before s t = nat_lt s.rank t.rank || ((s.rank == t.rank) && nat_le s.candidate t.candidate)
+
+-- a standing put into its place
+abbrev put_in : Standing → List Standing → List Standing
+put_in s [] = s ∷ []
+put_in s (t ∷ ts) = if is_before s t then s ∷ t ∷ ts else t ∷ put_in s ts
+
+-- standings sorted by rank
+abbrev pub sorted : List Standing → List Standing
+sorted [] = []
+sorted (s ∷ ss) = put_in s (sorted ss)
 
 -- a fact of each standing
 abbrev pub Each : (Standing → Type 0) → List Standing → Type 0
@@ -18,15 +37,20 @@ Each-at P [] h k d lt = absurd (omega arith)
 Each-at P (s ∷ ss) h zero d lt = h.0
 Each-at P (s ∷ ss) h (suc k) d lt = Each-at P ss h.1 k d (omega arith)
 
+pub Each-weaker : (P Q : Standing → Type 0) → ((s : Standing) → P s → Q s) → (ss : List Standing)
+    → Each P ss → Each Q ss
+Each-weaker P Q w [] h = tt
+Each-weaker P Q w (s ∷ ss) h = (w s h.0, Each-weaker P Q w ss h.1)
+
 -- the candidates of standings are small enough to stand behind a rank
 abbrev pub AreSmall : List Standing → Type 0
-AreSmall = Each (λ s. s.candidate < 4294967296)
+AreSmall = Each (λ s. s.candidate < INDEXES)
 
-before-key : (s t : Standing) → s.candidate < 4294967296 → t.candidate < 4294967296
+before-key : (s t : Standing) → s.candidate < INDEXES → t.candidate < INDEXES
     → is_before s t ≡ true → key_of s ≤ key_of t
 before-key s t a b e = grind (arith, nat_tests)
 
-behind-key : (s t : Standing) → s.candidate < 4294967296 → t.candidate < 4294967296
+behind-key : (s t : Standing) → s.candidate < INDEXES → t.candidate < INDEXES
     → is_before s t ≡ false → key_of t ≤ key_of s
 behind-key s t a b e = grind (arith, nat_tests)
 
@@ -65,7 +89,7 @@ AtLeast-put_in x s (t ∷ ts) le h =
     (λ yes. (le, h))
     (λ no. (h.0, AtLeast-put_in x s ts le h.1))
 
-put_in-Climbs : (s : Standing) (ts : List Standing) → s.candidate < 4294967296 → AreSmall ts
+put_in-Climbs : (s : Standing) (ts : List Standing) → s.candidate < INDEXES → AreSmall ts
     → Climbs (map key_of ts) → Climbs (map key_of (put_in s ts))
 put_in-Climbs s [] a b h = (tt, tt)
 put_in-Climbs s (t ∷ ts) a b h =
@@ -83,18 +107,42 @@ module _ (P : Standing → Type 0) where
       (λ no. (b.0, put_in-Each s ts a b.1))
 
   -- sorting keeps what holds of each
-  pub by_rank-Each : (ss : List Standing) → Each P ss → Each P (by_rank ss)
-  by_rank-Each [] h = tt
-  by_rank-Each (s ∷ ss) h = put_in-Each s (by_rank ss) h.0 (by_rank-Each ss h.1)
+  pub sorted-Each : (ss : List Standing) → Each P ss → Each P (sorted ss)
+  sorted-Each [] h = tt
+  sorted-Each (s ∷ ss) h = put_in-Each s (sorted ss) h.0 (sorted-Each ss h.1)
 
-pub by_rank-AreSmall : (ss : List Standing) → AreSmall ss → AreSmall (by_rank ss)
-by_rank-AreSmall = by_rank-Each (λ s. s.candidate < 4294967296)
+  put_in-back : (s : Standing) (ts : List Standing) → Each P (put_in s ts) → P s × Each P ts
+  put_in-back s [] h = h
+  put_in-back s (t ∷ ts) h = cond_both (is_before s t) (s ∷ t ∷ ts) (t ∷ put_in s ts)
+      (λ all. Each P all → P s × (P t × Each P ts))
+      (λ yes all. all)
+      (λ no all. let later = put_in-back s ts all.1 in (later.0, (all.0, later.1))) h
+
+  -- and takes none in
+  pub sorted-Each-back : (ss : List Standing) → Each P (sorted ss) → Each P ss
+  sorted-Each-back [] h = tt
+  sorted-Each-back (s ∷ ss) h = let both = put_in-back s (sorted ss) h in
+      (both.0, sorted-Each-back ss both.1)
+
+length-put_in : (s : Standing) (ts : List Standing) → length (put_in s ts) ≡ suc (length ts)
+length-put_in s [] = refl
+length-put_in s (t ∷ ts) = cond_both (is_before s t) (s ∷ t ∷ ts) (t ∷ put_in s ts)
+    (λ all. length all ≡ suc (suc (length ts))) (λ yes. refl)
+    (λ no. ap (λ n. suc n) (length-put_in s ts))
+
+-- nor lets any go
+pub length-sorted : (ss : List Standing) → length (sorted ss) ≡ length ss
+length-sorted [] = refl
+length-sorted (s ∷ ss) = length-put_in s (sorted ss) ∙ ap (λ n. suc n) (length-sorted ss)
+
+pub sorted-AreSmall : (ss : List Standing) → AreSmall ss → AreSmall (sorted ss)
+sorted-AreSmall = sorted-Each (λ s. s.candidate < INDEXES)
 
 -- sorted, the keys climb
-by_rank-Climbs : (ss : List Standing) → AreSmall ss → Climbs (map key_of (by_rank ss))
-by_rank-Climbs [] h = tt
-by_rank-Climbs (s ∷ ss) h =
-    put_in-Climbs s (by_rank ss) h.0 (by_rank-AreSmall ss h.1) (by_rank-Climbs ss h.1)
+sorted-Climbs : (ss : List Standing) → AreSmall ss → Climbs (map key_of (sorted ss))
+sorted-Climbs [] h = tt
+sorted-Climbs (s ∷ ss) h =
+    put_in-Climbs s (sorted ss) h.0 (sorted-AreSmall ss h.1) (sorted-Climbs ss h.1)
 
 module _ (f : Standing → ℕ) where
   copies-put_in : (x : ℕ) (s : Standing) (ts : List Standing)
@@ -107,39 +155,39 @@ module _ (f : Standing → ℕ) where
       copies-put_in x s ts in omega arith)
 
   -- sorting keeps how often each number stands
-  pub copies-by_rank : (x : ℕ) (ss : List Standing)
-      → copies x (map f (by_rank ss)) ≡ copies x (map f ss)
-  copies-by_rank x [] = refl
-  copies-by_rank x (s ∷ ss) = copies-put_in x s (by_rank ss)
-      ∙ ap (λ n. one_if x (f s) + n) (copies-by_rank x ss)
+  pub copies-sorted : (x : ℕ) (ss : List Standing)
+      → copies x (map f (sorted ss)) ≡ copies x (map f ss)
+  copies-sorted x [] = refl
+  copies-sorted x (s ∷ ss) = copies-put_in x s (sorted ss)
+      ∙ ap (λ n. one_if x (f s) + n) (copies-sorted x ss)
 
 -- the keys of the standings by rising rank rise
-pub by_rank-Rises : (ss : List Standing) → AreSmall ss → Rises (map key_of (by_rank ss))
-by_rank-Rises ss small = Climbs-Rises (map key_of (by_rank ss)) (by_rank-Climbs ss small)
+pub sorted-Rises : (ss : List Standing) → AreSmall ss → Rises (map key_of (sorted ss))
+sorted-Rises ss small = Climbs-Rises (map key_of (sorted ss)) (sorted-Climbs ss small)
 
 -- the sorted keys are the keys of the standings by rising rank
-pub sorted-keys : (ss : List Standing) (sorted : List ℕ) → AreSmall ss
-    → IsPermutation (map key_of ss) sorted → Rises sorted → sorted ≡ map key_of (by_rank ss)
-sorted-keys ss sorted small p up =
-    Rises-unique sorted (map key_of (by_rank ss)) up (Climbs-Rises _ (by_rank-Climbs ss small))
-    (λ x. copies-permutation x (map key_of ss) sorted p ∙ sym (copies-by_rank key_of x ss))
+pub sorted-keys : (ss : List Standing) (keys : List ℕ) → AreSmall ss
+    → IsPermutation (map key_of ss) keys → Rises keys → keys ≡ map key_of (sorted ss)
+sorted-keys ss keys small p up =
+    Rises-unique keys (map key_of (sorted ss)) up (Climbs-Rises _ (sorted-Climbs ss small))
+    (λ x. copies-permutation x (map key_of ss) keys p ∙ sym (copies-sorted key_of x ss))
 
 -- the candidates of the sorted keys
 pub keys-candidates : (ss : List Standing) → AreSmall ss
-    → map (λ key. key % 4294967296) (map key_of ss) ≡ map (λ s. s.candidate) ss
+    → map (λ key. key % INDEXES) (map key_of ss) ≡ map (λ s. s.candidate) ss
 keys-candidates [] h = refl
 keys-candidates (s ∷ ss) h =
-    let small : s.candidate < 4294967296 = h.0 in
-    let head : key_of s % 4294967296 ≡ s.candidate = omega arith in
+    let small : s.candidate < INDEXES = h.0 in
+    let head : key_of s % INDEXES ≡ s.candidate = omega arith in
     let rest = keys-candidates ss h.1 in
     cc
 
 -- the ranks of the sorted keys
 pub keys-ranks : (ss : List Standing) → AreSmall ss
-    → map (λ key. key / 4294967296) (map key_of ss) ≡ map (λ s. s.rank) ss
+    → map (λ key. key / INDEXES) (map key_of ss) ≡ map (λ s. s.rank) ss
 keys-ranks [] h = refl
 keys-ranks (s ∷ ss) h =
-    let small : s.candidate < 4294967296 = h.0 in
-    let head : key_of s / 4294967296 ≡ s.rank = omega arith in
+    let small : s.candidate < INDEXES = h.0 in
+    let head : key_of s / INDEXES ≡ s.rank = omega arith in
     let rest = keys-ranks ss h.1 in
     cc

@@ -5,21 +5,24 @@ use Rattle.std.specs.Prelude.{slice_index, slice_index_or, IsPermutation}
 use Rattle.std.proofs.lemmas.Bool.{cases_lt}
 use Rattle.std.proofs.lemmas.List.{get_or-map, length-map, same_lists, get_or_default}
 use Rattle.std.proofs.lemmas.List.FromFn.{get_or-map-range_with_len, length-map-range_with_len}
-use Rattle.market.specs.Problems.{IsDistinct}
+use Rattle.market.specs.Problems.{HasNoRepeats}
 use Rattle.record_files.specs.Rows.{Row}
+use Rattle.rank_lists.specs.declared.keys.TheConstants.{INDEXES}
+use Rattle.place_base.specs.declared.limits.TheConstants.{LARGEST_RANK}
 use Rattle.rank_lists.specs.Groups.{candidate_group, rank_group}
-use Rattle.rank_lists.specs.RankTables.{Standing, key_of, standings, in_type, by_rank, turns_of, ranks_of, RankTable, table_of, order_at, ranks_at}
+use Rattle.rank_lists.specs.Table.{Standing, standings, in_type, by_rank, turns_of, ranks_of, RankTable, table_of, order_at, ranks_at}
 use Rattle.rank_lists.specs.Repeats.{NoRepeat}
-use Rattle.rank_lists.specs.RowsRead.{row_at}
-use Rattle.rank_lists.specs.Soundness.{IsSound}
+use Rattle.rank_lists.specs.Rows.{row_at}
+use Rattle.rank_lists.specs.Table.{IsSound}
 use Rattle.rank_lists.specs.Turns.{AreTurns, AreAllTurns, known_keys}
 use Rattle.rank_lists.proofs.Counts.{copies, copies-twice}
 use Rattle.rank_lists.proofs.Ranking.{Comes-candidate, candidates-once, ranks-once, standings-Each}
 use Rattle.rank_lists.proofs.RowGroups.{HasFields}
-use Rattle.rank_lists.proofs.Standings.{Each, Each-at, AreSmall, by_rank-Each, by_rank-AreSmall, by_rank-Rises, copies-by_rank, sorted-keys, keys-candidates, keys-ranks}
+use Rattle.rank_lists.proofs.Standings.{Each, Each-at, AreSmall, copies-sorted, key_of, keys-candidates, keys-ranks, sorted, sorted-AreSmall, sorted-Each, sorted-Rises, sorted-keys}
+use Rattle.rank_lists.proofs.TurnOrder.{by_rank-sorted}
 
 module _ (names : List (List ℕ)) (numbers : List ℕ) (rows : List Row)
-    (few : length numbers ≤ 4294967296) where
+    (few : length numbers ≤ INDEXES) where
   abbrev all : List Standing
   all = standings names numbers rows
 
@@ -27,66 +30,25 @@ module _ (names : List (List ℕ)) (numbers : List ℕ) (rows : List Row)
   table = table_of (length names) (length numbers) all
 
   abbrev sorted_in : ℕ → List Standing
-  sorted_in kind = by_rank (in_type kind all)
+  sorted_in kind = sorted (in_type kind all)
 
   small : (kind : ℕ) → AreSmall (in_type kind all)
-  small kind = standings-Each names numbers (λ s. s.candidate < 4294967296) kind rows
+  small kind = standings-Each names numbers (λ s. s.candidate < INDEXES) kind rows
       (λ k s lt c. let below : s.candidate < length numbers =
       Comes-candidate names numbers (row_at rows k) s c in omega arith)
 
-  order-at : (kind : ℕ) → kind < length names → order_at table kind ≡ turns_of all kind
-  order-at kind lt = get_or-map-range_with_len (turns_of all) 0 (length names) kind kind [] lt
-      (zero-add kind)
+  -- the candidates and the ranks of the standings sorted by rank
+  abbrev order_in : ℕ → List ℕ
+  order_in kind = map (λ s. s.candidate) (sorted_in kind)
 
-  ranks-at : (kind : ℕ) → kind < length names → ranks_at table kind ≡ ranks_of all kind
-  ranks-at kind lt = get_or-map-range_with_len (ranks_of all) 0 (length names) kind kind [] lt
-      (zero-add kind)
+  abbrev ranks_in : ℕ → List ℕ
+  ranks_in kind = map (λ s. s.rank) (sorted_in kind)
 
   orders-size : length table.orders ≡ length names
   orders-size = length-map-range_with_len (turns_of all) 0 (length names)
 
   ranks-size : length table.ranks ≡ length names
   ranks-size = length-map-range_with_len (ranks_of all) 0 (length names)
-
-  -- the turns of a type are its standings by rising rank
-  turns-are : (kind : ℕ) (keys order ranks : List ℕ) → keys ≡ map key_of (in_type kind all)
-      → AreTurns keys order ranks
-      → (order ≡ turns_of all kind) × (ranks ≡ ranks_of all kind)
-  turns-are kind keys order ranks e t =
-      let perm = subst (λ xs. IsPermutation xs t.sorted) e t.permutation in
-      let sorted : t.sorted ≡ map key_of (sorted_in kind) =
-      sorted-keys (in_type kind all) t.sorted (small kind) perm t.rises in
-      let fits = by_rank-AreSmall (in_type kind all) (small kind) in (
-        t.order_is ∙ ap (map (λ key. key % 4294967296)) sorted
-            ∙ keys-candidates (sorted_in kind) fits,
-        t.ranks_are ∙ ap (map (λ key. key / 4294967296)) sorted ∙ keys-ranks (sorted_in kind) fits,
-      )
-
-  -- the turns of all types are the table
-  pub all-turns : (given orders ranks : List (List ℕ)) → length given ≡ length names
-      → ((kind : ℕ) → kind < length names → known_keys numbers (slice_index_or given kind [])
-      ≡ map key_of (in_type kind all))
-      → AreAllTurns numbers given orders ranks → (orders ≡ table.orders) × (ranks ≡ table.ranks)
-  all-turns given orders ranks size keys t =
-      let orders_size = t.orders_size in
-      let ranks_size = t.ranks_size in
-      let whole = orders-size in
-      let whole' = ranks-size in (
-        same_lists orders table.orders (omega arith) (λ kind d lt.
-            get_or_default orders kind d [] lt
-            ∙ (turns-are kind (known_keys numbers (slice_index_or given kind []))
-            (slice_index_or orders kind []) (slice_index_or ranks kind [])
-            (keys kind (omega arith)) (t.turns kind (omega arith))).0
-            ∙ sym (order-at kind (omega arith))
-            ∙ get_or_default table.orders kind [] d (omega arith)),
-        same_lists ranks table.ranks (omega arith) (λ kind d lt.
-            get_or_default ranks kind d [] lt
-            ∙ (turns-are kind (known_keys numbers (slice_index_or given kind []))
-            (slice_index_or orders kind []) (slice_index_or ranks kind [])
-            (keys kind (omega arith)) (t.turns kind (omega arith))).1
-            ∙ sym (ranks-at kind (omega arith))
-            ∙ get_or_default table.ranks kind [] d (omega arith)),
-      )
 
   module _ (fields : (k : ℕ) → k < length rows → HasFields (row_at rows k))
       (one_candidate : NoRepeat (map candidate_group rows) (length rows))
@@ -95,10 +57,10 @@ module _ (names : List (List ℕ)) (numbers : List ℕ) (rows : List Row)
     record IsGood (s : Standing) : Type 0 where
       candidate : s.candidate < length numbers
       low : 1 ≤ s.rank
-      high : s.rank ≤ 99999999
+      high : s.rank ≤ LARGEST_RANK
 
     good : (kind : ℕ) → Each IsGood (sorted_in kind)
-    good kind = by_rank-Each IsGood (in_type kind all)
+    good kind = sorted-Each IsGood (in_type kind all)
         (standings-Each names numbers IsGood kind rows (λ k s lt c.
         let f = fields k lt in
         let rank = c.rank in
@@ -118,11 +80,11 @@ module _ (names : List (List ℕ)) (numbers : List ℕ) (rows : List Row)
     good-at kind k lt = Each-at IsGood (sorted_in kind) (good kind) k first lt
 
     candidate-at : (kind k : ℕ) → k < length (sorted_in kind)
-        → slice_index (turns_of all kind) k ≡ (slice_index_or (sorted_in kind) k first).candidate
+        → slice_index (order_in kind) k ≡ (slice_index_or (sorted_in kind) k first).candidate
     candidate-at kind k lt = get_or-map (λ s. s.candidate) (sorted_in kind) k first 0 lt
 
     rank-at : (kind k : ℕ) → k < length (sorted_in kind)
-        → slice_index (ranks_of all kind) k ≡ (slice_index_or (sorted_in kind) k first).rank
+        → slice_index (ranks_in kind) k ≡ (slice_index_or (sorted_in kind) k first).rank
     rank-at kind k lt = get_or-map (λ s. s.rank) (sorted_in kind) k first 0 lt
 
     key-at : (kind k : ℕ) → k < length (sorted_in kind)
@@ -130,31 +92,31 @@ module _ (names : List (List ℕ)) (numbers : List ℕ) (rows : List Row)
         ≡ key_of (slice_index_or (sorted_in kind) k first)
     key-at kind k lt = get_or-map key_of (sorted_in kind) k first 0 lt
 
-    distinct : (kind : ℕ) → IsDistinct (turns_of all kind)
+    distinct : (kind : ℕ) → HasNoRepeats (order_in kind)
     distinct kind i j below lt same =
-        let x = slice_index (turns_of all kind) j in
-        let twice : 2 ≤ copies x (turns_of all kind) =
-        copies-twice (turns_of all kind) i j below lt same in
-        let kept : copies x (turns_of all kind)
+        let x = slice_index (order_in kind) j in
+        let twice : 2 ≤ copies x (order_in kind) =
+        copies-twice (order_in kind) i j below lt same in
+        let kept : copies x (order_in kind)
         ≡ copies x (map (λ s. s.candidate) (in_type kind all)) =
-        copies-by_rank (λ s. s.candidate) x (in_type kind all) in
+        copies-sorted (λ s. s.candidate) x (in_type kind all) in
         let once : copies x (map (λ s. s.candidate) (in_type kind all)) ≤ 1 =
         candidates-once names numbers kind x rows one_candidate in
         omega arith
 
-    distinct-ranks : (kind : ℕ) → IsDistinct (ranks_of all kind)
+    distinct-ranks : (kind : ℕ) → HasNoRepeats (ranks_in kind)
     distinct-ranks kind i j below lt same =
-        let x = slice_index (ranks_of all kind) j in
-        let twice : 2 ≤ copies x (ranks_of all kind) =
-        copies-twice (ranks_of all kind) i j below lt same in
-        let kept : copies x (ranks_of all kind) ≡ copies x (map (λ s. s.rank) (in_type kind all)) =
-        copies-by_rank (λ s. s.rank) x (in_type kind all) in
+        let x = slice_index (ranks_in kind) j in
+        let twice : 2 ≤ copies x (ranks_in kind) =
+        copies-twice (ranks_in kind) i j below lt same in
+        let kept : copies x (ranks_in kind) ≡ copies x (map (λ s. s.rank) (in_type kind all)) =
+        copies-sorted (λ s. s.rank) x (in_type kind all) in
         let once : copies x (map (λ s. s.rank) (in_type kind all)) ≤ 1 =
         ranks-once names numbers kind x rows one_rank in
         omega arith
 
-    rise : (kind j k : ℕ) → j < k → k < length (ranks_of all kind)
-        → slice_index (ranks_of all kind) j < slice_index (ranks_of all kind) k
+    rise : (kind j k : ℕ) → j < k → k < length (ranks_in kind)
+        → slice_index (ranks_in kind) j < slice_index (ranks_in kind) k
     rise kind j k below lt =
         let size = length-map (sorted_in kind) (λ s. s.rank) in
         let keys_size = length-map (sorted_in kind) key_of in
@@ -162,16 +124,68 @@ module _ (names : List (List ℕ)) (numbers : List ℕ) (rows : List Row)
         let high = (good-at kind k (omega arith)).candidate in
         let keys : slice_index (map key_of (sorted_in kind)) j ≤ slice_index
         (map key_of (sorted_in kind)) k =
-        by_rank-Rises (in_type kind all) (small kind) j k (omega arith) (omega arith) in
+        sorted-Rises (in_type kind all) (small kind) j k (omega arith) (omega arith) in
         let key_j = key-at kind j (omega arith) in
         let key_k = key-at kind k (omega arith) in
         let rank_j = rank-at kind j (omega arith) in
         let rank_k = rank-at kind k (omega arith) in
         ⊎_elim
-        (λ (less : slice_index (ranks_of all kind) j < slice_index (ranks_of all kind) k). less)
-        (λ (more : slice_index (ranks_of all kind) k ≤ slice_index (ranks_of all kind) j).
+        (λ (less : slice_index (ranks_in kind) j < slice_index (ranks_in kind) k). less)
+        (λ (more : slice_index (ranks_in kind) k ≤ slice_index (ranks_in kind) j).
         absurd (distinct-ranks kind j k below lt (omega arith)))
-        (cases_lt (slice_index (ranks_of all kind) j) (slice_index (ranks_of all kind) k))
+        (cases_lt (slice_index (ranks_in kind) j) (slice_index (ranks_in kind) k))
+
+    -- in a type the standings of the turns are those sorted by rank
+    turns-sorted : (kind : ℕ) → by_rank (in_type kind all) ≡ sorted_in kind
+    turns-sorted kind = by_rank-sorted (in_type kind all) (rise kind) first
+
+    order-at : (kind : ℕ) → kind < length names → order_at table kind ≡ order_in kind
+    order-at kind lt = get_or-map-range_with_len (turns_of all) 0 (length names) kind kind [] lt
+        (zero-add kind) ∙ ap (map (λ s. s.candidate)) (turns-sorted kind)
+
+    ranks-at : (kind : ℕ) → kind < length names → ranks_at table kind ≡ ranks_in kind
+    ranks-at kind lt = get_or-map-range_with_len (ranks_of all) 0 (length names) kind kind [] lt
+        (zero-add kind) ∙ ap (map (λ s. s.rank)) (turns-sorted kind)
+
+    -- the turns of a type are its standings by rising rank
+    turns-are : (kind : ℕ) (keys order ranks : List ℕ) → keys ≡ map key_of (in_type kind all)
+        → AreTurns keys order ranks
+        → (order ≡ order_in kind) × (ranks ≡ ranks_in kind)
+    turns-are kind keys order ranks e t =
+        let perm = subst (λ xs. IsPermutation xs t.sorted) e t.permutation in
+        let same : t.sorted ≡ map key_of (sorted_in kind) =
+        sorted-keys (in_type kind all) t.sorted (small kind) perm t.rises in
+        let fits = sorted-AreSmall (in_type kind all) (small kind) in (
+          t.order_is ∙ ap (map (λ key. key % INDEXES)) same
+              ∙ keys-candidates (sorted_in kind) fits,
+          t.ranks_are ∙ ap (map (λ key. key / INDEXES)) same ∙ keys-ranks (sorted_in kind) fits,
+        )
+
+    -- the turns of all types are the table
+    pub all-turns : (given orders ranks : List (List ℕ)) → length given ≡ length names
+        → ((kind : ℕ) → kind < length names → known_keys numbers (slice_index_or given kind [])
+        ≡ map key_of (in_type kind all))
+        → AreAllTurns numbers given orders ranks → (orders ≡ table.orders) × (ranks ≡ table.ranks)
+    all-turns given orders ranks size keys t =
+        let orders_size = t.orders_size in
+        let ranks_size = t.ranks_size in
+        let whole = orders-size in
+        let whole' = ranks-size in (
+          same_lists orders table.orders (omega arith) (λ kind d lt.
+              get_or_default orders kind d [] lt
+              ∙ (turns-are kind (known_keys numbers (slice_index_or given kind []))
+              (slice_index_or orders kind []) (slice_index_or ranks kind [])
+              (keys kind (omega arith)) (t.turns kind (omega arith))).0
+              ∙ sym (order-at kind (omega arith))
+              ∙ get_or_default table.orders kind [] d (omega arith)),
+          same_lists ranks table.ranks (omega arith) (λ kind d lt.
+              get_or_default ranks kind d [] lt
+              ∙ (turns-are kind (known_keys numbers (slice_index_or given kind []))
+              (slice_index_or orders kind []) (slice_index_or ranks kind [])
+              (keys kind (omega arith)) (t.turns kind (omega arith))).1
+              ∙ sym (ranks-at kind (omega arith))
+              ∙ get_or_default table.ranks kind [] d (omega arith)),
+        )
 
     -- the table meets what a market asks
     pub table-is-sound : IsSound table

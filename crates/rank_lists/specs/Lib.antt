@@ -1,10 +1,16 @@
-pub mod Duplicates
-pub mod Gathered
+-- what the rows of the file say, and what is wrong with them
+pub mod Rows
+-- the turn orders and ranks
+pub mod Table
+-- what a row ranks, and the rank that it gives, each with the type as one number
 pub mod Groups
+-- what the rows say, gathered row by row
+pub mod Growth
+-- numbers with their places behind them
 pub mod Placed
-pub mod RankRows
-pub mod RankTables
+-- numbers that stand twice
 pub mod Repeats
-pub mod RowsRead
-pub mod Soundness
+-- the first row that repeats an earlier one
+pub mod Duplicates
+-- turn orders sorted from given ranks
 pub mod Turns

@@ -1,5 +1,6 @@
 -- Numbers that stand twice in a list.
-use Rattle.std.specs.Prelude.{◌≡◌, ◌≢◌, ℕ, ◌+◌, ◌*◌, ◌^◌, ◌/◌, ◌%◌, ◌<◌, ◌≤◌, List, length, slice_index, nat_le, if◌then◌else◌, Option, Some, None}
+use Rattle.std.specs.Prelude.{◌≡◌, ◌≢◌, ℕ, ◌+◌, ◌/◌, ◌%◌, ◌<◌, ◌≤◌, List, length, slice_index, nat_le, if◌then◌else◌, Option, Some, None}
+use Rattle.rank_lists.specs.declared.keys.TheConstants.{PLACES}
 use Rattle.rank_lists.specs.declared.repeats.Repeat.{Repeat}
 
 -- no number among the first ones repeats an earlier one
@@ -15,17 +16,17 @@ pub record IsFirstRepeat (xs : List ℕ) (earlier later : ℕ) : Type 0 where
 
 -- two neighbours, each a number with its place behind it, have the same number
 abbrev pub IsPair : List ℕ → ℕ → Type 0
-IsPair sorted k = slice_index sorted k / 33554432 ≡ slice_index sorted (k + 1) / 33554432
+IsPair sorted k = slice_index sorted k / PLACES ≡ slice_index sorted (k + 1) / PLACES
 
 -- a repeat is one of the pairs of neighbours, and no pair has a lesser later place
 pub record IsLeastOfPairs (sorted : List ℕ) (n : ℕ) (r : Repeat) : Type 0 where
   pub at : ℕ
   pub inside : at + 1 < n
   pub pair : IsPair sorted at
-  pub earlier : r.earlier ≡ slice_index sorted at % 33554432
-  pub later : r.later ≡ slice_index sorted (at + 1) % 33554432
+  pub earlier : r.earlier ≡ slice_index sorted at % PLACES
+  pub later : r.later ≡ slice_index sorted (at + 1) % PLACES
   pub least : (k : ℕ) → k + 1 < n → IsPair sorted k
-      → r.later ≤ slice_index sorted (k + 1) % 33554432
+      → r.later ≤ slice_index sorted (k + 1) % PLACES
 
 -- the pair whose later place is least, if there is a pair among the first ones
 abbrev pub IsLeastPair : List ℕ → ℕ → Option Repeat → Type 0
@@ -40,8 +41,3 @@ earlier_repeat (Some least) other = if nat_le least.later other.later then least
 -- no two neighbours among the first numbers are equal
 abbrev pub NeighboursDiffer : List ℕ → ℕ → Type 0
 NeighboursDiffer sorted n = (k : ℕ) → k + 1 < n → slice_index sorted k ≢ slice_index sorted (k + 1)
-
--- a number as one word
-abbrev pub short_of : ℕ → ℕ
-short_of number =
-    (number % 2 ^ 64 + (number / 2 ^ 64) * 11400714819323198485 % 2 ^ 64) % 2 ^ 64

@@ -1,12 +1,13 @@
 -- Turn orders sorted from given ranks.
 use Rattle.std.specs.Prelude.{◌≡◌, ℕ, ◌+◌, ◌*◌, ◌/◌, ◌%◌, Option, option_map, position, nat_eq, ◌≤◌, ◌<◌, List, [], length, map, slice_index, slice_index_or, IsPermutation}
 use Rattle.std.specs.List.{filter_map}
+use Rattle.rank_lists.specs.declared.keys.TheConstants.{INDEXES, NUMBERS}
 
 -- a rank with the index of a known candidate behind it, in place of the number
 abbrev pub known_key : List ℕ → ℕ → Option ℕ
 known_key numbers key =
-    option_map (λ index. key / 137438953472 * 4294967296 + index)
-    (position (nat_eq (key % 137438953472)) numbers)
+    option_map (λ index. key / NUMBERS * INDEXES + index)
+    (position (nat_eq (key % NUMBERS)) numbers)
 
 -- the keys of known candidates
 abbrev pub known_keys : List ℕ → List ℕ → List ℕ
@@ -17,8 +18,8 @@ pub record AreTurns (keys order ranks : List ℕ) : Type 0 where
   pub sorted : List ℕ
   pub permutation : IsPermutation keys sorted
   pub rises : (i j : ℕ) → i ≤ j → j < length sorted → slice_index sorted i ≤ slice_index sorted j
-  pub order_is : order ≡ map (λ key. key % 4294967296) sorted
-  pub ranks_are : ranks ≡ map (λ key. key / 4294967296) sorted
+  pub order_is : order ≡ map (λ key. key % INDEXES) sorted
+  pub ranks_are : ranks ≡ map (λ key. key / INDEXES) sorted
 
 -- the same of each type
 pub record AreAllTurns (numbers : List ℕ) (given orders ranks : List (List ℕ)) : Type 0 where

@@ -1,11 +1,12 @@
 // The first row that repeats what an earlier row says.
-
-ghost use Rattle.std.specs.Prelude.{◌≡◌, ◌^◌, ◌≤◌, ◌<◌, ◌+◌, length, IfOk};
-ghost use Rattle.record_files.specs.FirstFaults.{data_rows, duplicate_at};
+ghost use Rattle.std.specs.Prelude.{◌≡◌, ◌≤◌, ◌<◌, ◌+◌, length, IfOk};
+ghost use Rattle.record_files.specs.FirstFaults.{duplicate_at};
+ghost use Rattle.record_files.specs.Rows.{data_rows};
 ghost use Rattle.rank_lists.specs.Duplicates.{IsFirstDuplicate, duplicate_of, earlier_duplicate};
-ghost use Rattle.rank_lists.specs.RowsRead.{row_at};
+ghost use Rattle.rank_lists.specs.Rows.{row_at};
 
 use crate::repeats::{Repeat, Repeats};
+use place_base::limits::LARGEST_FILE;
 use place_base::{FileFault, FileKind};
 use record_files::{Records, duplicate_at};
 use std::alloc::{AllocError, Global};
@@ -54,7 +55,7 @@ fn earlier_of(candidate: Option<Repeat>, rank: Option<Repeat>) -> Option<Duplica
 impl Duplicate {
     /// The fault of the row.
     pub(crate) fn fault(self, bytes: &[u8]) -> FileFault
-        requires size { length bytes.now ≤ 2 ^ 30 }
+        requires size { length bytes.now ≤ LARGEST_FILE }
         requires earlier { (duplicate_of self).0.earlier < length (data_rows bytes.now) }
         requires later { (duplicate_of self).0.later < length (data_rows bytes.now) }
         ensures { let rows = data_rows bytes.now in let found = duplicate_of self in
@@ -65,15 +66,15 @@ impl Duplicate {
             Duplicate::Candidate(repeat) => (repeat, 2),
             Duplicate::Rank(repeat) => (repeat, 3),
         };
-        let line = line_of(bytes, repeat.later);
-        let earlier = line_of(bytes, repeat.earlier);
+        let line = line_at(bytes, repeat.later);
+        let earlier = line_at(bytes, repeat.earlier);
         duplicate_at(FileKind::Ranks, line, field, earlier)
     }
 }
 
 // The line of the data row at an index.
-fn line_of(bytes: &[u8], index: u32) -> u32
-    requires size { length bytes.now ≤ 2 ^ 30 }
+fn line_at(bytes: &[u8], index: u32) -> u32
+    requires size { length bytes.now ≤ LARGEST_FILE }
     requires within { index < length (data_rows bytes.now) }
     ensures { result ≡ (row_at (data_rows bytes.now) index).0 }
 {

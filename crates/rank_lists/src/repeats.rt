@@ -1,13 +1,10 @@
 // Numbers in order, and the first of them that stands twice.
+ghost use Rattle.std.specs.Prelude.{◌≡◌, ℕ, ◌+◌, ◌*◌, ◌/◌, ◌%◌, ◌<◌, ◌++◌, ◌∷◌, [], length, map, ◌^◌, Some, IsTrue, OnOk, IfOk, MatchOption};
+ghost use Rattle.rank_lists.specs.Repeats.{IsFirstRepeat, NoRepeat, IsLeastPair, NeighboursDiffer, earlier_repeat};
 
-ghost use Rattle.std.specs.Prelude.{◌≡◌, ℕ, ◌+◌, ◌*◌, ◌/◌, ◌%◌, ◌<◌, ◌≤◌, ◌++◌, ◌∷◌, [], length, slice_index, map, ◌^◌, Some, IsTrue, OnOk, IfOk, MatchOption};
-ghost use Rattle.rank_lists.specs.Repeats.{IsFirstRepeat, NoRepeat, IsLeastPair, NeighboursDiffer, earlier_repeat, short_of};
-
+use crate::keys::PLACES;
 use std::alloc::{AllocError, Global};
 use std::marker::Model;
-
-/// How many numbers there may be.
-pub(crate) const PLACES: u128 = 1 << 25;
 
 // A value that no word of 64 bits has.
 const WORDS: u128 = 1 << 64;
@@ -31,13 +28,14 @@ pub(crate) struct Repeats {
 
 impl Model for Repeats {
     ghost use Rattle.std.specs.Prelude.{ℕ, List, map, ◌/◌};
-    ghost use Rattle.rank_lists.specs.Placed.{IsPlaced};
+    ghost use Rattle.rank_lists.specs.Placed.{HasPlaces};
+    ghost use Rattle.rank_lists.specs.declared.keys.TheConstants.{PLACES};
 
     ghost Value = { List ℕ };
 
-    ghost view = { λ r. map (λ p. p / 33554432) r.placed.items };
+    ghost view = { λ r. map (λ p. p / PLACES) r.placed.items };
 
-    ghost invariant = { λ r. IsPlaced r.placed.items };
+    ghost invariant = { λ r. HasPlaces r.placed.items };
 }
 
 impl Repeats {
@@ -52,7 +50,7 @@ impl Repeats {
 
     /// Adds a number.
     pub(crate) fn push(&mut self, number: u128) -> Result<(), AllocError>
-        requires room { length self.old < 33554432 }
+        requires room { length self.old < PLACES }
         requires small { number < 2 ^ 102 }
         ensures { OnOk result (self.new ≡ self.old ++ number ∷ []) }
     {
@@ -79,26 +77,28 @@ impl Repeats {
 // Whether the short forms of all numbers differ, and so the numbers themselves.
 fn are_distinct(alloc: Global, placed: &[u128]) -> Result<bool, AllocError>
     ensures { IfOk result (λ distinct. IsTrue distinct
-        → NoRepeat (map (λ p. p / 33554432) placed.now) (length placed.now)) }
+        → NoRepeat (map (λ p. p / PLACES) placed.now) (length placed.now)) }
 {
     let mut short = short_forms(alloc, placed)?;
     short.sort_unstable();
     Ok(neighbours_differ(&short))
 }
 
-// The short forms of the numbers.
+// The short forms of the numbers: equal numbers have one form.
 fn short_forms(alloc: Global, placed: &[u128]) -> Result<Vec<u64>, AllocError>
-    ensures { IfOk result (λ short. short.items ≡ map (λ p. short_of (p / 33554432)) placed.now) }
+    ensures { IfOk result (λ short. (form : ℕ → ℕ)
+        × (short.items ≡ map (λ p. form (p / PLACES)) placed.now)) }
 {
-    placed
+    let short = placed
         .iter()
         .map(|number| short_form(*number / PLACES))
-        .collect(alloc)
+        .collect(alloc)?;
+    Ok(short)
 }
 
 // A number as one word: numbers of one word are themselves, and few others share a form.
 fn short_form(number: u128) -> u64
-    ensures { result ≡ short_of number }
+    ensures { result ≡ (number % WORDS + (number / WORDS) * SPREAD % WORDS) % WORDS }
 {
     let low = (number % WORDS) as u64;
     let high = (number / WORDS) as u64;

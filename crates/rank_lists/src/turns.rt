@@ -1,20 +1,14 @@
 // The turn order of one type, sorted from the ranks given in it.
-
 ghost use Rattle.std.specs.Prelude.{◌≡◌, ◌+◌, ◌*◌, ◌^◌, ◌<◌, ◌/◌, ◌%◌, ◌++◌, ◌∷◌, [], map, OnOk, IfOk};
 ghost use Rattle.rank_lists.specs.Turns.{AreTurns, AreAllTurns, known_keys};
 
-use crate::lists::RankParts;
-use crate::rank_row::RankRow;
+use crate::keys::{INDEXES, NUMBERS};
+use crate::row::Fields;
+use crate::table::RankParts;
 use market::List;
 use place_base::Finder;
 use std::alloc::{AllocError, Global};
 use std::marker::Model;
-
-// More than the number of any candidate: a key is a rank times this, and the candidate's number.
-const NUMBERS: u64 = 1 << 37;
-
-// More than any index: a key that is sorted is a rank times this, and the candidate's index.
-const INDEXES: u64 = 1 << 32;
 
 /// The ranks given in one type, each with the number of its candidate behind it, in file order.
 #[derive(Drop)]
@@ -48,12 +42,12 @@ impl GivenRanks {
     }
 
     /// Adds the rank of a row.
-    pub(crate) fn push(&mut self, row: &RankRow) -> Result<(), AllocError>
+    pub(crate) fn push(&mut self, fields: &Fields) -> Result<(), AllocError>
         ensures { OnOk result (self.new
-            ≡ self.old ++ (row.now.rank * 2 ^ 37 + row.now.candidate) ∷ []) }
+            ≡ self.old ++ (fields.now.rank * NUMBERS + fields.now.candidate) ∷ []) }
     {
         self.keys
-            .push(u64::from(row.rank) * NUMBERS + row.candidate)?;
+            .push(u64::from(fields.rank) * NUMBERS + fields.candidate.get())?;
         Ok(())
     }
 
@@ -109,7 +103,7 @@ pub(crate) fn all_turns<C: Finder>(
 
 // The candidates of keys.
 fn candidates_of(alloc: Global, keys: &[u64]) -> Result<Vec<u32>, AllocError>
-    ensures { IfOk result (λ order. order.items ≡ map (λ key. key % 4294967296) keys.now) }
+    ensures { IfOk result (λ order. order.items ≡ map (λ key. key % INDEXES) keys.now) }
 {
     keys.iter()
         .map(|key| (*key % INDEXES) as u32)
@@ -118,7 +112,7 @@ fn candidates_of(alloc: Global, keys: &[u64]) -> Result<Vec<u32>, AllocError>
 
 // The ranks of keys.
 fn ranks_of(alloc: Global, keys: &[u64]) -> Result<Vec<u32>, AllocError>
-    ensures { IfOk result (λ ranks. ranks.items ≡ map (λ key. key / 4294967296) keys.now) }
+    ensures { IfOk result (λ ranks. ranks.items ≡ map (λ key. key / INDEXES) keys.now) }
 {
     keys.iter()
         .map(|key| (*key / INDEXES) as u32)

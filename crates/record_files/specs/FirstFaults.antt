@@ -1,13 +1,13 @@
 -- The first fault of a file, apart from any order of reading.
-use Rattle.std.specs.Prelude.{ℕ, zero, suc, List, [], ◌∷◌, Bool, ◌==◌, not, nat_lt, nat_le, bytes_eq, length, take, drop, find, slice_get, if◌then◌else◌, Option, Some, None, option_map, option_and_then, Result, Ok, Err, ◌≡◌, ⊤}
+use Rattle.std.specs.Prelude.{ℕ, zero, suc, List, [], ◌∷◌, Bool, ◌==◌, not, nat_lt, nat_le, is_none, length, take, find, slice_get, if◌then◌else◌, Option, Some, None, option_map, option_and_then, Result, Ok, Err}
 use Rattle.place_base.specs.declared.fault.FaultKind.{FaultKind}
-use Rattle.place_base.specs.declared.fault.FaultKind.TheVariants.{Header, FieldCount, Duplicate, TooManyRows, LineTooLong}
+use Rattle.place_base.specs.declared.fault.FaultKind.TheVariants.{Header as BadHeader, FieldCount, Duplicate, TooManyRows, LineTooLong}
 use Rattle.place_base.specs.declared.fault.FileFault.{FileFault}
 use Rattle.place_base.specs.declared.fault.FileKind.{FileKind}
-use Rattle.record_files.specs.Rows.{Row, rows, fields_of}
-use Rattle.record_files.specs.Form.{Form}
-use Rattle.record_files.specs.declared.table_stop.TableStop.{TableStop}
-use Rattle.record_files.specs.declared.table_stop.TableStop.TheVariants.{Fault, Memory}
+use Rattle.place_base.specs.declared.limits.TheConstants.{LONGEST_LINE}
+use Rattle.record_files.specs.Rows.{Row, rows, data_rows, fields_of}
+use Rattle.record_files.specs.Form.{Form, header_in, version_of}
+use Rattle.record_files.specs.declared.form.Header.{Header}
 
 -- a fault that repeats no line
 abbrev pub fault_at : FileKind → ℕ → ℕ → FaultKind → FileFault
@@ -38,61 +38,58 @@ abbrev pub repeat_fault : FileKind → ℕ → ℕ → (Row → Bool) → List R
 repeat_fault file line field same earlier =
     option_map (λ row. duplicate_at file line field row.0) (find same earlier)
 
--- a line of more than 1,024 bytes
+-- a line that is too long
 abbrev pub long_fault : Form → Row → Option FileFault
-long_fault form row = fault_if (nat_lt 1024 (length row.1)) (fault_at form.file row.0 0 LineTooLong)
+long_fault form row =
+    fault_if (nat_lt LONGEST_LINE (length row.1)) (fault_at form.file row.0 0 LineTooLong)
 
 -- the fault of a first row
 abbrev pub header_fault : Form → Row → Option FileFault
 header_fault form row =
     first_of (long_fault form row)
-    (fault_if (not (bytes_eq row.1 form.header)) (fault_at form.file row.0 0 Header))
+    (fault_if (is_none (version_of form row)) (fault_at form.file row.0 0 BadHeader))
 
 -- the fault of the first row of a file, or that of a file without rows
 abbrev pub first_row_fault : Form → List Row → Option FileFault
-first_row_fault form [] = Some (fault_at form.file 1 0 Header)
+first_row_fault form [] = Some (fault_at form.file 1 0 BadHeader)
 first_row_fault form (row ∷ behind) = header_fault form row
 
--- the fault of the data row at an index, before its fields are read
-abbrev pub shape_fault : Form → ℕ → Row → Option FileFault
-shape_fault form index row =
+-- the fault of the data row at an index, before its fields are read, under a header of so many
+-- fields
+abbrev pub shape_fault : Form → ℕ → ℕ → Row → Option FileFault
+shape_fault form fields index row =
     first_of (long_fault form row)
     (first_of (fault_if (nat_le form.most_rows index) (fault_at form.file row.0 0 TooManyRows))
-    (fault_if (not (length (fields_of row) == form.fields))
-    (fault_at form.file row.0 0 FieldCount)))
+    (fault_if (not (length (fields_of row) == fields)) (fault_at form.file row.0 0 FieldCount)))
+
+-- what a kind of file may have: its form, what is wrong with the fields of a row by themselves under
+-- one of its headers, and what is wrong with a row beside the earlier rows and the other files
+pub record FileRules : Type 0 where
+  pub form : Form
+  pub reading : ℕ → Row → Option FileFault
+  pub meaning : List Row → Row → Option FileFault
 
 -- the fault of a data row behind the earlier ones: its shape, then its fields by themselves, then
--- what it means beside the earlier rows and the other files
-abbrev pub fault_behind : Form → (Row → Option FileFault) → (List Row → Row → Option FileFault)
-    → List Row → Row → Option FileFault
-fault_behind form reading meaning earlier row =
-    first_of (shape_fault form (length earlier) row) (first_of (reading row) (meaning earlier row))
+-- what it means
+abbrev pub fault_behind : FileRules → Header → List Row → Row → Option FileFault
+fault_behind rules header earlier row =
+    first_of (shape_fault rules.form header.fields (length earlier) row)
+    (first_of (rules.reading header.version row) (rules.meaning earlier row))
 
 -- the fault of the data row at an index
-abbrev pub row_fault : Form → (Row → Option FileFault) → (List Row → Row → Option FileFault)
-    → List Row → ℕ → Option FileFault
-row_fault form reading meaning lines index =
-    option_and_then (fault_behind form reading meaning (take index lines)) (slice_get lines index)
+abbrev pub row_fault : FileRules → List ℕ → ℕ → Option FileFault
+row_fault rules bytes index =
+    option_and_then
+    (fault_behind rules (header_in rules.form (rows bytes)) (take index (data_rows bytes)))
+    (slice_get (data_rows bytes) index)
 
 -- the fault of the least index below a number that has one
 unfoldable pub least_fault : (ℕ → Option FileFault) → ℕ → Option FileFault
 least_fault fault zero = None
 least_fault fault (suc n) = first_of (least_fault fault n) (fault n)
 
--- the rows behind the header
-abbrev pub data_rows : List ℕ → List Row
-data_rows bytes = drop 1 (rows bytes)
-
 -- the first fault of a file: that of its first row, or that of the least data row that has one
-abbrev pub first_fault : Form → (Row → Option FileFault) → (List Row → Row → Option FileFault)
-    → List ℕ → Option FileFault
-first_fault form reading meaning bytes =
-    first_of (first_row_fault form (rows bytes))
-    (least_fault (row_fault form reading meaning (data_rows bytes)) (length (data_rows bytes)))
-
--- what reading a table comes to: the table where there is no fault, else the fault; want of memory
--- says nothing
-abbrev pub IsTableRead : {T : Type 0} → Option FileFault → T → Result T TableStop → Type 0
-IsTableRead fault table (Ok read) = (fault ≡ None) × (read ≡ table)
-IsTableRead fault table (Err (Fault found)) = fault ≡ Some found
-IsTableRead fault table (Err Memory) = ⊤
+abbrev pub first_fault : FileRules → List ℕ → Option FileFault
+first_fault rules bytes =
+    first_of (first_row_fault rules.form (rows bytes))
+    (least_fault (row_fault rules bytes) (length (data_rows bytes)))

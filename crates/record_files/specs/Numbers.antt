@@ -1,30 +1,24 @@
--- Numbers in decimal digits.
-use Rattle.std.specs.Prelude.{ℕ, ◌+◌, ◌-◌, ◌*◌, List, [], ◌∷◌, Bool, true, false, ◌&&◌, nat_le, if◌then◌else◌, Result, Ok, Err}
+-- Numbers in decimal digits, and names of score types in a field.
+use Rattle.std.specs.Prelude.{ℕ, List, [], ◌∷◌, Bool, false, ◌&&◌, nat_le, if◌then◌else◌, Result, Ok, Err}
+use Rattle.std.specs.Char.{is_ascii_digit}
+use Rattle.std.specs.List.{list_all}
+use Rattle.std.specs.Str.Parse.{digits_value}
+use Rattle.place_base.specs.TypeName.{is_type_name}
 use Rattle.place_base.specs.declared.fault.FaultKind.{FaultKind}
-use Rattle.place_base.specs.declared.fault.FaultKind.TheVariants.{NotNumber, OutOfRange}
-
--- 0 to 9
-abbrev pub is_digit : ℕ → Bool
-is_digit b = nat_le 48 b && nat_le b 57
+use Rattle.place_base.specs.declared.fault.FaultKind.TheVariants.{BadTypeName, NotNumber, OutOfRange}
 
 -- only digits
 abbrev pub all_digits : List ℕ → Bool
-all_digits [] = true
-all_digits (b ∷ bs) = is_digit b && all_digits bs
+all_digits field = list_all is_ascii_digit field
 
 -- not empty, and only digits
 abbrev pub is_number : List ℕ → Bool
 is_number [] = false
 is_number (b ∷ bs) = all_digits (b ∷ bs)
 
--- the value of further digits behind a number
-abbrev pub value_after : ℕ → List ℕ → ℕ
-value_after v [] = v
-value_after v (b ∷ bs) = value_after (10 * v + (b - 48)) bs
-
--- the value of a number
+-- the number that the digits write
 abbrev pub value : List ℕ → ℕ
-value bs = value_after 0 bs
+value field = digits_value 10 field
 
 -- the value of a number field between two limits, or what is wrong with it
 abbrev pub number_of : List ℕ → ℕ → ℕ → Result ℕ FaultKind
@@ -34,3 +28,7 @@ number_of field low high =
     then Ok (value field)
     else Err OutOfRange)
     else Err NotNumber
+
+-- the name in a field, or what is wrong with it
+abbrev pub type_name_of : List ℕ → Result (List ℕ) FaultKind
+type_name_of field = if is_type_name field then Ok field else Err BadTypeName

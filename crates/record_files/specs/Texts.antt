@@ -1,6 +1,7 @@
 -- Rows of a text.
 use Rattle.std.specs.Prelude.{ℕ, List, [], ◌∷◌, ◌++◌, decimal}
 use Rattle.std.specs.List.{join_with_byte}
+use Rattle.place_base.specs.declared.limits.TheConstants.{COMMA, LF}
 use Rattle.record_files.specs.declared.row_texts.Field.{Field}
 use Rattle.record_files.specs.declared.row_texts.Field.TheVariants.{Number, Text}
 
@@ -11,4 +12,4 @@ text_of (Text bytes) = bytes.now
 
 -- fields with commas between them, and an LF
 abbrev pub row_text : List (List ℕ) → List ℕ
-row_text fields = join_with_byte 44 fields ++ 10 ∷ []
+row_text fields = join_with_byte COMMA fields ++ LF ∷ []

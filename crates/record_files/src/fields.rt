@@ -1,6 +1,6 @@
+// Numbers and type names in fields.
 ghost use Rattle.std.specs.Prelude.{◌≡◌, ◌^◌, ◌≤◌, length, min, MatchOption, true, false};
-ghost use Rattle.record_files.specs.Numbers.{number_of, all_digits, value};
-ghost use Rattle.record_files.specs.TypeNames.{type_name_of};
+ghost use Rattle.record_files.specs.Numbers.{number_of, all_digits, type_name_of, value};
 
 use place_base::{FaultKind, TypeName};
 

@@ -1,86 +1,107 @@
-ghost use Rattle.std.specs.Prelude.{◌≡◌, None, Some, drop, codes, MatchResult};
-ghost use Rattle.record_files.specs.FirstFaults.{first_row_fault, shape_fault, fault_at};
+// The form of a file, its headers and the shape of its rows.
+ghost use Rattle.std.specs.Prelude.{◌≡◌, None, Some, bytes_eq, drop, map, position, MatchResult};
+ghost use Rattle.record_files.specs.FirstFaults.{first_row_fault, long_fault, shape_fault, fault_at};
+ghost use Rattle.record_files.specs.Form.{IsHeaderOf, header_in};
 
 use crate::faults::fault_at;
 use crate::rows::{RecordRow, Records};
+use place_base::limits::LONGEST_LINE;
 use place_base::{FaultKind, FileFault, FileKind};
 use std::marker::Model;
 
-/// The form of a file: its header, the number of its fields, and how many data rows it may have.
+/// A header that was read: which one of the file's form, from 0, and how many fields it has.
+#[derive(Clone, Copy, Debug, PartialEq, Eq)]
+pub struct Header {
+    pub version: usize,
+    pub fields: u32,
+}
+
+/// The form of a file: the headers that it may have, and how many data rows. A data row has as many
+/// fields as the file's header.
 #[derive(Drop)]
 pub struct FileForm {
     file: FileKind,
-    header: &'static [u8],
-    fields: u32,
+    headers: &'static [&'static [u8]],
     most_rows: u32,
 }
 
 impl Model for FileForm {
+    ghost use Rattle.std.specs.Prelude.{◌<◌, ◌^◌, map};
     ghost use Rattle.record_files.specs.Form.{Form};
 
     ghost Value = { Form };
 
     ghost view = { λ form. record {
       file = form.file;
-      header = form.header.now;
-      fields = form.fields;
+      headers = map (λ header. header.now) form.headers.now;
       most_rows = form.most_rows;
     } };
+
+    ghost invariant = { λ form. form.most_rows < 2 ^ 32 };
 }
 
-/// The longest line, without its end.
-const LONGEST_LINE: usize = 1024;
-
 impl FileForm {
-    /// The form of a file.
-    pub fn new(file: FileKind, header: &'static [u8], fields: u32, most_rows: u32) -> FileForm
+    /// The form of a file with these headers.
+    pub fn new(file: FileKind, headers: &'static [&'static [u8]], most_rows: u32) -> FileForm
         ensures { result ≡ record {
           file = file;
-          header = header.entry.now;
-          fields = fields;
+          headers = map (λ header. header.now) headers.entry.now;
           most_rows = most_rows;
         } }
     {
         FileForm {
             file,
-            header,
-            fields,
+            headers,
             most_rows,
         }
     }
 
-    /// Passes the header, or refuses the fault of the first row.
-    pub fn read_header(&self, records: &mut Records<'_>) -> Result<(), FileFault>
+    /// Passes the header and answers which one it is, or refuses the fault of the first row.
+    pub fn read_header(&self, records: &mut Records<'_>) -> Result<Header, FileFault>
         ensures result { MatchResult result
-            (λ _. first_row_fault self.now records.old ≡ None)
+            (λ header. (first_row_fault self.now records.old ≡ None)
+            × (header ≡ header_in self.now records.old) × IsHeaderOf self.now header)
             (λ fault. first_row_fault self.now records.old ≡ Some fault) }
         ensures passed { records.new ≡ drop 1 records.old }
     {
         let Some(row) = records.next() else {
             return Err(self.fault(1, FaultKind::Header));
         };
-        if row.bytes().len() > LONGEST_LINE {
-            return Err(self.fault(row.line(), FaultKind::LineTooLong));
+        if let Some(fault) = self.long_fault(&row) {
+            return Err(fault);
         }
-        if row.bytes() != self.header {
+        let Some(version) = version_of(self.headers, row.bytes()) else {
             return Err(self.fault(row.line(), FaultKind::Header));
-        }
-        Ok(())
+        };
+        Ok(Header {
+            version,
+            fields: row.field_count(),
+        })
     }
 
-    /// The fault of a data row before its fields are read. The index counts the data rows before
-    /// it.
-    pub fn shape_fault(&self, index: u32, row: &RecordRow<'_>) -> Option<FileFault>
-        ensures { result ≡ shape_fault self.now index row.now }
+    /// The fault of a data row before its fields are read, under a header of so many fields. The
+    /// index counts the data rows before it.
+    pub fn shape_fault(&self, fields: u32, index: u32, row: &RecordRow<'_>) -> Option<FileFault>
+        ensures { result ≡ shape_fault self.now fields index row.now }
     {
-        if row.bytes().len() > LONGEST_LINE {
-            return Some(self.fault(row.line(), FaultKind::LineTooLong));
+        if let Some(fault) = self.long_fault(row) {
+            return Some(fault);
         }
         if index >= self.most_rows {
             return Some(self.fault(row.line(), FaultKind::TooManyRows));
         }
-        if row.field_count() != self.fields {
+        if row.field_count() != fields {
             return Some(self.fault(row.line(), FaultKind::FieldCount));
+        }
+        None
+    }
+
+    // The fault of a line that is too long.
+    fn long_fault(&self, row: &RecordRow<'_>) -> Option<FileFault>
+        ensures { result ≡ long_fault self.now row.now }
+    {
+        if row.bytes().len() > LONGEST_LINE {
+            return Some(self.fault(row.line(), FaultKind::LineTooLong));
         }
         None
     }
@@ -91,4 +112,16 @@ impl FileForm {
     {
         fault_at(self.file, line, 0, kind)
     }
+}
+
+// Which of the headers the text is, from 0.
+fn version_of(headers: &[&[u8]], text: &[u8]) -> Option<usize>
+    ensures { result ≡ position (bytes_eq text.now) (map (λ header. header.now) headers.now) }
+{
+    for (version, header) in headers.iter().enumerate() {
+        if text == *header {
+            return Some(version);
+        }
+    }
+    None
 }

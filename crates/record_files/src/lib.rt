@@ -4,10 +4,12 @@
 
 // The faults of rows and fields.
 mod faults;
-// The form of a file, its header and the shape of its rows.
+// The form of a file, its headers and the shape of its rows.
 mod form;
 // Numbers and type names in fields.
 mod fields;
+// What is read by rows, and the reading of all rows of a file.
+mod row_table;
 // The texts of rows.
 mod row_texts;
 // Rows and their fields.
@@ -17,7 +19,8 @@ mod table_stop;
 
 pub use faults::{duplicate_at, fault_at, in_field};
 pub use fields::{number, type_name};
-pub use form::FileForm;
+pub use form::{FileForm, Header};
+pub use row_table::{RowTable, RowsRead, read_rows, read_table};
 pub use row_texts::{Field, put_row_1, put_row_2, put_row_3, put_row_4};
 pub use rows::{RecordRow, Records, RowPart, find_byte};
 pub use table_stop::TableStop;

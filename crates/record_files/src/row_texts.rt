@@ -1,7 +1,9 @@
+// The texts of rows.
 ghost use Rattle.std.specs.Prelude.{◌≡◌, ◌+◌, ◌≤◌, ◌++◌, ◌∷◌, [], OnOk, OnErr, length, vec_len, vec_capacity};
 ghost use Rattle.record_files.specs.Texts.{text_of, row_text};
 
 use itoa::Buffer;
+use place_base::limits::{COMMA, LF};
 use std::alloc::AllocError;
 
 /// A field of a row that is written.
@@ -21,7 +23,7 @@ pub fn put_row_1(out: &mut Vec<u8>, a: Field<'_>) -> Result<(), AllocError>
     let mut buffer = Buffer::new();
     let a = field_text(a, &mut buffer);
     out.reserve(a.len().saturating_add(1))?;
-    put_text(out, a, b'\n');
+    put_text(out, a, LF);
     Ok(())
 }
 
@@ -35,8 +37,8 @@ pub fn put_row_2(out: &mut Vec<u8>, a: Field<'_>, b: Field<'_>) -> Result<(), Al
     let a = field_text(a, &mut buffer_a);
     let b = field_text(b, &mut buffer_b);
     out.reserve(a.len().saturating_add(b.len()).saturating_add(2))?;
-    put_text(out, a, b',');
-    put_text(out, b, b'\n');
+    put_text(out, a, COMMA);
+    put_text(out, b, LF);
     Ok(())
 }
 
@@ -57,9 +59,9 @@ pub fn put_row_3(
     let c = field_text(c, &mut buffer_c);
     let texts = a.len().saturating_add(b.len()).saturating_add(c.len());
     out.reserve(texts.saturating_add(3))?;
-    put_text(out, a, b',');
-    put_text(out, b, b',');
-    put_text(out, c, b'\n');
+    put_text(out, a, COMMA);
+    put_text(out, b, COMMA);
+    put_text(out, c, LF);
     Ok(())
 }
 
@@ -84,10 +86,10 @@ pub fn put_row_4(
     let front = a.len().saturating_add(b.len());
     let back = c.len().saturating_add(d.len());
     out.reserve(front.saturating_add(back).saturating_add(4))?;
-    put_text(out, a, b',');
-    put_text(out, b, b',');
-    put_text(out, c, b',');
-    put_text(out, d, b'\n');
+    put_text(out, a, COMMA);
+    put_text(out, b, COMMA);
+    put_text(out, c, COMMA);
+    put_text(out, d, LF);
     Ok(())
 }
 

@@ -1,8 +1,11 @@
+// Rows and their fields.
 ghost use Rattle.std.specs.Prelude.{◌≡◌, ℕ, ◌^◌, ◌≤◌, ◌<◌, ◌∷◌, ◌+◌, [], length, take, drop, slice_get, slice_index, Some, MatchOption};
 ghost use Rattle.record_files.specs.Cuts.{IsCutAt};
-ghost use Rattle.record_files.specs.Rows.{rows, part_rows, split, without_cr, without_mark, fields_of, field_at};
+ghost use Rattle.std.specs.Str.Lines.{strip_carriage_return};
+ghost use Rattle.record_files.specs.Rows.{rows, part_rows, split, without_mark, fields_of, field_at};
 
 use memchr::memchr;
+use place_base::limits::{BYTE_ORDER_MARK, COMMA, CR, LARGEST_FILE, LF};
 use std::marker::Model;
 
 /// A stretch of a file, from a byte up to another, that starts at a line with this number.
@@ -23,20 +26,21 @@ pub struct RecordRow<'a> {
 }
 
 impl<'a> Model for RecordRow<'a> {
-    ghost use Rattle.std.specs.Prelude.{ℕ, List, ◌^◌, ◌≤◌, length};
+    ghost use Rattle.std.specs.Prelude.{ℕ, List, ◌≤◌, length};
+    ghost use Rattle.place_base.specs.declared.limits.TheConstants.{LARGEST_FILE};
     ghost use Rattle.record_files.specs.Cuts.{IsCutAt};
 
     ghost Value = { ℕ × List ℕ };
 
     ghost view = { λ row. (row.line, row.bytes.now) };
 
-    ghost invariant = { λ row. (length row.bytes.now ≤ 2 ^ 30) × IsCutAt row.bytes.now row.cuts.ends row.cuts.count };
+    ghost invariant = { λ row. (length row.bytes.now ≤ LARGEST_FILE) × IsCutAt row.bytes.now row.cuts.ends row.cuts.count };
 }
 
 impl<'a> RecordRow<'a> {
     // A row of this text.
     fn new(line: u32, bytes: &'a [u8]) -> RecordRow<'a>
-        requires { length bytes.now ≤ 2 ^ 30 }
+        requires { length bytes.now ≤ LARGEST_FILE }
         ensures { result ≡ (line, bytes.entry.now) }
     {
         RecordRow {
@@ -108,7 +112,7 @@ impl Cuts {
 
 // The cuts of a text at its commas.
 fn cut(text: &[u8]) -> Cuts
-    requires { length text.now ≤ 2 ^ 30 }
+    requires { length text.now ≤ LARGEST_FILE }
     ensures { IsCutAt text.now result.ends result.count }
 {
     let mut cuts = Cuts {
@@ -117,7 +121,7 @@ fn cut(text: &[u8]) -> Cuts
     };
     let mut start = 0;
     'fields: loop {
-        let end = start + find_byte(b',', &text[start..]);
+        let end = start + find_byte(COMMA, &text[start..]);
         cuts.add(end as u32);
         if end == text.len() {
             return cuts;
@@ -128,16 +132,16 @@ fn cut(text: &[u8]) -> Cuts
 
 // The field at an index, found from the start of the text.
 fn later_field(text: &[u8], index: u32) -> &[u8]
-    requires short { length text.now ≤ 2 ^ 30 }
-    requires there { index < length (split 44 text.now) }
-    ensures { slice_get (split 44 text.entry.now) index ≡ Some result.now }
+    requires short { length text.now ≤ LARGEST_FILE }
+    requires there { index < length (split COMMA text.now) }
+    ensures { slice_get (split COMMA text.entry.now) index ≡ Some result.now }
 {
     let mut rest = text;
     for _ in 0..index {
-        let at = find_byte(b',', rest);
+        let at = find_byte(COMMA, rest);
         rest = &rest[at + 1..];
     }
-    &rest[..find_byte(b',', rest)]
+    &rest[..find_byte(COMMA, rest)]
 }
 
 /// The rows of a file, one after the other. Contracts see it as the list of the rows left.
@@ -150,19 +154,20 @@ pub struct Records<'a> {
 
 impl<'a> Model for Records<'a> {
     ghost use Rattle.std.specs.Prelude.{ℕ, List, ◌+◌, ◌^◌, ◌≤◌, length};
+    ghost use Rattle.place_base.specs.declared.limits.TheConstants.{LARGEST_FILE};
     ghost use Rattle.record_files.specs.Rows.{rows_left};
 
     ghost Value = { List (ℕ × List ℕ) };
 
     ghost view = { λ r. rows_left r.done r.line r.rest.now };
 
-    ghost invariant = { λ r. (r.line + length r.rest.now ≤ 2 ^ 31 + 1) × (length r.rest.now ≤ 2 ^ 30) };
+    ghost invariant = { λ r. (r.line + length r.rest.now ≤ 2 ^ 31 + 1) × (length r.rest.now ≤ LARGEST_FILE) };
 }
 
 impl<'a> Records<'a> {
     /// The rows of a whole file.
     pub fn of_bytes(bytes: &'a [u8]) -> Records<'a>
-        requires { length bytes.now ≤ 2 ^ 30 }
+        requires { length bytes.now ≤ LARGEST_FILE }
         ensures { result ≡ rows bytes.now }
     {
         Records {
@@ -176,9 +181,9 @@ impl<'a> Records<'a> {
     /// where the stretch starts at 0 or behind an LF, at the line of that number, and ends behind
     /// an LF or with the file; else its first or its last row may be a cut one.
     pub fn of_part(bytes: &'a [u8], part: RowPart) -> Records<'a>
-        requires size { length bytes.now ≤ 2 ^ 30 }
+        requires size { length bytes.now ≤ LARGEST_FILE }
         requires stretch { (part.start ≤ part.end) × (part.end ≤ length bytes.now) }
-        requires line { part.line ≤ 2 ^ 30 + 1 }
+        requires line { part.line ≤ LARGEST_FILE + 1 }
         ensures { result ≡ part_rows bytes.entry.now part }
     {
         let stretch = &bytes[part.start as usize..part.end as usize];
@@ -201,7 +206,7 @@ impl<'a> Records<'a> {
     {
         'lines: while !self.done {
             let line = self.line;
-            let end = find_byte(b'\n', self.rest);
+            let end = find_byte(LF, self.rest);
             let text = past_cr(&self.rest[..end]);
             if end < self.rest.len() {
                 self.rest = &self.rest[end + 1..];
@@ -235,24 +240,21 @@ pub fn find_byte(sought: u8, bytes: &[u8]) -> usize
 
 // Without one CR at the end.
 fn past_cr(text: &[u8]) -> &[u8]
-    ensures { result.now ≡ without_cr text.now }
+    ensures { result.now ≡ strip_carriage_return text.now }
 {
     match text {
-        [front @ .., b'\r'] => front,
+        [front @ .., CR] => front,
         _ => text,
     }
 }
-
-// The byte order mark of UTF-8.
-const MARK: [u8; 3] = [0xEF, 0xBB, 0xBF];
 
 // Without a byte order mark.
 fn past_mark(bytes: &[u8]) -> &[u8]
     ensures value { result.now ≡ without_mark bytes.now }
     ensures shorter { length result.now ≤ length bytes.now }
 {
-    if bytes.starts_with(&MARK) {
-        &bytes[MARK.len()..]
+    if bytes.starts_with(&BYTE_ORDER_MARK) {
+        &bytes[BYTE_ORDER_MARK.len()..]
     } else {
         bytes
     }

@@ -1,3 +1,4 @@
+// Why a table could not be read.
 use place_base::FileFault;
 use std::alloc::AllocError;
 

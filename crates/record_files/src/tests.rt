@@ -1,3 +1,4 @@
+// Rows, fields and faults of files.
 use crate::{
     Field, FileForm, Records, RowPart, number, put_row_1, put_row_2, put_row_3, put_row_4,
     type_name,
@@ -104,24 +105,26 @@ fn numbers_and_names(rt: HostRuntime) {
 
 #[test]
 fn first_rows(rt: HostRuntime) {
-    let form = FileForm::new(FileKind::Ranks, b"candidate,type,rank", 3, 2);
-    for (bytes, kind) in [
-        ("", Some(FaultKind::Header)),
-        ("candidate,type", Some(FaultKind::Header)),
-        ("\n\u{FEFF}candidate,type,rank", Some(FaultKind::Header)),
-        ("\u{FEFF}candidate,type,rank\r\n", None),
+    let form = FileForm::new(FileKind::Ranks, &[b"candidate,type,rank", b"candidate,rank"], 2);
+    for (bytes, read) in [
+        ("", Err(FaultKind::Header)),
+        ("candidate,type", Err(FaultKind::Header)),
+        ("\n\u{FEFF}candidate,type,rank", Err(FaultKind::Header)),
+        ("\u{FEFF}candidate,type,rank\r\n", Ok((0, 3))),
+        ("\n\ncandidate,rank", Ok((1, 2))),
     ] {
         let mut records = Records::of_bytes(bytes.as_bytes());
-        assert_eq!(rt;
-            form.read_header(&mut records).err().map(|fault| fault.kind),
-            kind
-        );
+        let header = match form.read_header(&mut records) {
+            Ok(header) => Ok((header.version, header.fields)),
+            Err(fault) => Err(fault.kind),
+        };
+        assert_eq!(rt; header, read);
     }
 }
 
 #[test]
 fn shapes_of_rows(rt: HostRuntime) -> Result<(), Fail> {
-    let form = FileForm::new(FileKind::Ranks, b"candidate,type,rank", 3, 2);
+    let form = FileForm::new(FileKind::Ranks, &[b"candidate,type,rank"], 2);
     for (fields, index, padding, kind) in [
         ("1,2,", 1, 1020, None),
         ("1,2,", 1, 1021, Some(FaultKind::LineTooLong)),
@@ -137,7 +140,7 @@ fn shapes_of_rows(rt: HostRuntime) -> Result<(), Fail> {
         line.extend_from_slice(b"\r\n")?;
         assert!(rt; line.len() < 2000);
         let row = Records::of_bytes(&line).next().expect(&rt, "a row");
-        assert_eq!(rt; form.shape_fault(index, &row).map(|fault| fault.kind), kind);
+        assert_eq!(rt; form.shape_fault(3, index, &row).map(|fault| fault.kind), kind);
     }
     Ok(())
 }

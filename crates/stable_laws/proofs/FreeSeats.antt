@@ -13,9 +13,9 @@ use Rattle.std.proofs.lemmas.List.Elements.{filter-append}
 use Rattle.std.proofs.lemmas.Option.{none-some, same_Some}
 use Rattle.market.specs.Counting.{is_programme}
 use Rattle.market.specs.Problems.{Problem, place_of, list_of, order_of, turn_of}
-use Rattle.market.specs.Dictatorships.{Dictatorship, picked, taken, list_at, IsPrefixOf, ShortensLists, FreesSeats}
+use Rattle.market.specs.Dictatorships.{Dictatorship, pick, seats_taken, list_at, IsPrefixOf, ShortensLists, FreesSeats}
 use Rattle.market.specs.Mechanism.{is_offered, turn_list, type_dictatorship, tentative}
-use Rattle.market.proofs.Turns.{is_open, is_open-true, is_open-from, picked-find, picked-open, taken-zero, taken-suc, is_programme-true, is_programme-from, one_more, no_more}
+use Rattle.market.proofs.Turns.{is_open, is_open-true, is_open-from, pick-find, pick-open, seats_taken-zero, seats_taken-suc, is_programme-true, is_programme-from, one_more, no_more}
 use Rattle.market.proofs.Tentatives.{type-list, type-list_past, TakesBy, tentative-takes, takes_by, seats_before}
 
 -- ---- the first entry that passes
@@ -41,7 +41,7 @@ find_free f g sub (x ∷ xs) rest p e o =
 
 -- a programme that is open under the older lists is open under the newer ones
 open_free : (older newer : Dictatorship) → ShortensLists older newer → (k : ℕ)
-    → ((q : ℕ) → taken newer k q ≤ taken older k q) → (p : ℕ) → is_open older k p ≡ true
+    → ((q : ℕ) → seats_taken newer k q ≤ seats_taken older k q) → (p : ℕ) → is_open older k p ≡ true
     → is_open newer k p ≡ true
 open_free older newer s k ih p o =
     let l = is_open-true older k p o in
@@ -51,41 +51,41 @@ open_free older newer s k ih p o =
     is_open-from newer k p (omega arith)
 
 -- what the newer list takes and is open under the older ones is taken under the older ones
-picked_free : (older newer : Dictatorship) → ShortensLists older newer → (k : ℕ)
-    → ((q : ℕ) → taken newer k q ≤ taken older k q) → (p : ℕ) → picked newer k ≡ Some p
-    → is_open older k p ≡ true → picked older k ≡ Some p
-picked_free older newer s k ih p e o =
+pick_free : (older newer : Dictatorship) → ShortensLists older newer → (k : ℕ)
+    → ((q : ℕ) → seats_taken newer k q ≤ seats_taken older k q) → (p : ℕ) → pick newer k ≡ Some p
+    → is_open older k p ≡ true → pick older k ≡ Some p
+pick_free older newer s k ih p e o =
     let rest = s.lists k in
     let found =
     find_free (is_open older k) (is_open newer k) (open_free older newer s k ih)
-    (list_at newer k) rest.0 p (sym (picked-find newer k) ∙ e) o in
-    picked-find older k ∙ ap (find (is_open older k)) (sym rest.1) ∙ found
+    (list_at newer k) rest.0 p (sym (pick-find newer k) ∙ e) o in
+    pick-find older k ∙ ap (find (is_open older k)) (sym rest.1) ∙ found
 
 -- with shorter lists each programme has at every turn at most as many seats taken
 pub shorter_lists_free_seats : (older newer : Dictatorship) → ShortensLists older newer
     → FreesSeats older newer
-shorter_lists_free_seats older newer s zero p = let e = taken-zero newer p in omega arith
+shorter_lists_free_seats older newer s zero p = let e = seats_taken-zero newer p in omega arith
 shorter_lists_free_seats older newer s (suc k) p =
     let ih = shorter_lists_free_seats older newer s k in
     let here = ih p in
-    let n = taken-suc newer k p in
-    let o = taken-suc older k p in
+    let n = seats_taken-suc newer k p in
+    let o = seats_taken-suc older k p in
     ⊎_elim
     (λ t.
-    let took = is_programme-true p (picked newer k) t in
-    let room = is_open-true newer k p (picked-open newer k p took) in
+    let took = is_programme-true p (pick newer k) t in
+    let room = is_open-true newer k p (pick-open newer k p took) in
     let f = ap (λ (xs : List ℕ). slice_index xs p) s.fill in
     let q = ap (λ (xs : List ℕ). slice_index xs p) s.quota in
-    let one = one_more (is_programme p (picked newer k)) t in
+    let one = one_more (is_programme p (pick newer k)) t in
     ⊎_elim
     (λ less. omega arith)
     (λ same.
-    let old = picked_free older newer s k ih p took (is_open-from older k p (omega arith)) in
-    let too = one_more (is_programme p (picked older k)) (is_programme-from p (picked older k) old) in
+    let old = pick_free older newer s k ih p took (is_open-from older k p (omega arith)) in
+    let too = one_more (is_programme p (pick older k)) (is_programme-from p (pick older k) old) in
     omega arith)
-    (cases_lt (taken newer k p) (taken older k p)))
-    (λ f. let none = no_more (is_programme p (picked newer k)) f in omega arith)
-    (cases_Bool (is_programme p (picked newer k)))
+    (cases_lt (seats_taken newer k p) (seats_taken older k p)))
+    (λ f. let none = no_more (is_programme p (pick newer k)) f in omega arith)
+    (cases_Bool (is_programme p (pick newer k)))
 
 -- ---- a round after cuts
 

@@ -11,24 +11,24 @@ use Rattle.std.proofs.lemmas.Bool.{cases_lt}
 use Rattle.std.proofs.lemmas.Option.{none-some}
 use Rattle.market.specs.Problems.{Problem, IsValid, IsAcceptable, place_of, kind_of, quota_of, list_of, turn_of}
 use Rattle.market.specs.Stability.{held_by, Prefers, IsBlocking, IsStable}
-use Rattle.market.specs.Dictatorships.{picked}
-use Rattle.market.specs.Mechanism.{type_dictatorship, tentative, cuts_after, is_settled, cutting_rounds, placed_at, placed, mechanism_placement}
-use Rattle.market.proofs.Tallies.{taken-tally, tally-mono}
+use Rattle.market.specs.Dictatorships.{pick}
+use Rattle.market.specs.Mechanism.{type_dictatorship, tentative, cuts_after, is_settled, cutting_rounds, best_programme, best_programmes, mechanism_placement}
+use Rattle.market.proofs.Tallies.{seats_taken-tally, tally-mono}
 use Rattle.market.proofs.Tentatives.{tentative-takes, takes_by, seats_before, offered-from}
-use Rattle.market.proofs.Rounds.{placed-takes, best_by, rounds_end}
+use Rattle.market.proofs.Rounds.{best_programme-takes, best_by, rounds_end}
 use Rattle.market.proofs.Valid.{candidate_lt, listed_kind, admitted-turn, better-turn}
 use Rattle.stable_laws.proofs.CutCandidates.{CutTakes, cut_takes}
-use Rattle.stable_laws.proofs.Holders.{placed-within, holder-takes, is_placement, seats-held}
+use Rattle.stable_laws.proofs.Holders.{best_programme-within, holder-takes, is_placement, seats-held}
 
 -- ---- a programme that the candidate prefers to what is placed
 
 -- it stands within the cut
 preferred-within : (m : Problem) (cuts : List ℕ) → CutTakes m cuts → (i p : ℕ)
     → place_of p (list_of m i) < length (list_of m i)
-    → Prefers (list_of m i) p (placed_at m cuts i) → place_of p (list_of m i) < slice_index cuts i
-preferred-within m cuts cut i p listed preferred = by_placed (placed_at m cuts i) refl preferred
+    → Prefers (list_of m i) p (best_programme m cuts i) → place_of p (list_of m i) < slice_index cuts i
+preferred-within m cuts cut i p listed preferred = by_placed (best_programme m cuts i) refl preferred
   where
-    by_placed : (o : Option ℕ) → placed_at m cuts i ≡ o → Prefers (list_of m i) p o
+    by_placed : (o : Option ℕ) → best_programme m cuts i ≡ o → Prefers (list_of m i) p o
         → place_of p (list_of m i) < slice_index cuts i
     by_placed None nothing pref =
         ⊎_elim
@@ -39,12 +39,12 @@ preferred-within m cuts cut i p listed preferred = by_placed (placed_at m cuts i
         (λ whole. omega arith)
         (cases_lt (slice_index cuts i) (length (list_of m i)))
     by_placed (Some b) something pref =
-        let x = tentative-takes m cuts (kind_of m b) i b (placed-takes m cuts i b something) in
+        let x = tentative-takes m cuts (kind_of m b) i b (best_programme-takes m cuts i b something) in
         omega (arith, x.within, pref.0)
 
 -- no tentative programme is as good
 nothing_as_good : (m : Problem) (cuts : List ℕ) (i p t q : ℕ)
-    → Prefers (list_of m i) p (placed_at m cuts i) → tentative m cuts t i ≡ Some q
+    → Prefers (list_of m i) p (best_programme m cuts i) → tentative m cuts t i ≡ Some q
     → place_of q (list_of m i) ≤ place_of p (list_of m i) → ⊥
 nothing_as_good m cuts i p t q preferred takes no_later =
     let best = best_by m cuts t i q takes in
@@ -53,13 +53,13 @@ nothing_as_good m cuts i p t q preferred takes no_later =
 
 module _ (m : Problem) (v : IsValid m) (cuts : List ℕ) (cut : CutTakes m cuts) where
   -- it has no seat left at the candidate's turn, where it is acceptable
-  full-at : (i p : ℕ) → IsAcceptable m i p → Prefers (list_of m i) p (held_by (placed m cuts) i)
+  full-at : (i p : ℕ) → IsAcceptable m i p → Prefers (list_of m i) p (held_by (best_programmes m cuts) i)
       → quota_of m p ≤ seats_before m cuts (kind_of m p) i p
   full-at i p acceptable preferred =
       let t = kind_of m p in
       let listed = acceptable.listed in
       let candidate = candidate_lt m i (place_of p (list_of m i)) listed in
-      let pref = subst (Prefers (list_of m i) p) (placed-within m cuts i candidate) preferred in
+      let pref = subst (Prefers (list_of m i) p) (best_programme-within m cuts i candidate) preferred in
       ⊎_elim
       (λ room.
       let as_good =
@@ -79,7 +79,7 @@ module _ (m : Problem) (v : IsValid m) (cuts : List ℕ) (cut : CutTakes m cuts)
   -- ---- stability
 
   -- where nobody has several, the seats taken are held, and by candidates with earlier turns
-  unblocked : is_settled m cuts ≡ true → (i p : ℕ) → IsBlocking m (placed m cuts) i p → ⊥
+  unblocked : is_settled m cuts ≡ true → (i p : ℕ) → IsBlocking m (best_programmes m cuts) i p → ⊥
   unfolding seats_before
   unblocked settled i p blocking =
       let t = kind_of m p in
@@ -95,13 +95,13 @@ module _ (m : Problem) (v : IsValid m) (cuts : List ℕ) (cut : CutTakes m cuts)
       let j = worse_holder.holder in
       let x = tentative-takes m cuts t j p (holder-takes m cuts j p worse_holder.holds) in
       let later = better-turn m v t i j types turn x.turn worse_holder.worse in
-      let more = tally-mono (picked d) (turn_of m t i) (turn_of m t j) p (omega arith) in
-      let seats_i = taken-tally d (turn_of m t i) p in
-      let seats_j = taken-tally d (turn_of m t j) p in
+      let more = tally-mono (pick d) (turn_of m t i) (turn_of m t j) p (omega arith) in
+      let seats_i = seats_taken-tally d (turn_of m t i) p in
+      let seats_j = seats_taken-tally d (turn_of m t j) p in
       omega (arith, x.room))
       blocking.room
 
-  pub settled-stable : is_settled m cuts ≡ true → IsStable m (placed m cuts)
+  pub settled-stable : is_settled m cuts ≡ true → IsStable m (best_programmes m cuts)
   settled-stable settled =
       record { placement = is_placement m v cuts; unblocked = unblocked settled }
 

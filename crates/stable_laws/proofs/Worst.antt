@@ -15,12 +15,12 @@ use Rattle.market.specs.Counting.{is_programme, count_of}
 use Rattle.market.specs.Problems.{Problem, IsValid, place_of, kind_of, quota_of, list_of, order_of, turn_of}
 use Rattle.market.specs.Stability.{held_by, Prefers, HasWorseHolder, IsStable}
 use Rattle.market.specs.Comparisons.{HoldsAtLeast, Widens, GivesAtLeast, IsWorstStable}
-use Rattle.market.specs.Dictatorships.{picked}
-use Rattle.market.specs.Mechanism.{type_dictatorship, tentative, has_several, cuts_after, cutting_rounds, placed, mechanism_placement}
+use Rattle.market.specs.Dictatorships.{pick}
+use Rattle.market.specs.Mechanism.{type_dictatorship, tentative, has_several, cuts_after, cutting_rounds, best_programmes, mechanism_placement}
 use Rattle.market.proofs.Firsts.{place_same}
 use Rattle.market.proofs.Turns.{is_programme-true, is_programme-from}
-use Rattle.market.proofs.Tallies.{tally, taken-tally, tally-mono, tally_gap, at_turn, count-le-tally}
-use Rattle.market.proofs.Tentatives.{turn_at, candidate_at, tentative-picked, tentative-takes, takes_by, seats_before, offered-from}
+use Rattle.market.proofs.Tallies.{tally, seats_taken-tally, tally-mono, tally_gap, at_turn, count-le-tally}
+use Rattle.market.proofs.Tentatives.{turn_at, candidate_at, tentative-pick, tentative-takes, takes_by, seats_before, offered-from}
 use Rattle.market.proofs.Rounds.{several-takes, best_by, next_cut-same, next_cut-several, next_cuts-at, cuts_after-suc, cuts_after-zero}
 use Rattle.market.proofs.Valid.{candidate_lt, kind_lt}
 use Rattle.stable_laws.proofs.Holders.{holder-takes}
@@ -176,21 +176,21 @@ module _ (m w : Problem) (v : IsValid m) (vw : IsValid w) (wide : Widens m w)
           let k = turn_of m (kind_of m p) i in
           let o = candidate_of m (kind_of m p) in
           let x = tentative-takes m cuts (kind_of m p) i p takes in
-          let seats = taken-tally d k p in
+          let seats = seats_taken-tally d k p in
           let wider = wide.quotas p in
           let full = all_held i p x.listed x.turn preferred in
           let holders = holders_before i p x.listed x.turn preferred in
-          let gap = tally_gap (picked d) (at_turn other o) k p (omega (arith, x.room)) in
+          let gap = tally_gap (pick d) (at_turn other o) k p (omega (arith, x.room)) in
           let j = gap.turn in
           let has_turn : j < length (order_of m (kind_of m p)) = omega (arith, gap.before, x.turn) in
           let at = turn_at m v (kind_of m p) j (kind_lt m v (kind_of m p) j has_turn) has_turn in
           let earlier : turn_of m (kind_of m p) (o j) < k = omega (arith, gap.before) in
-          let fewer = tally-mono (picked d) (turn_of m (kind_of m p) (o j)) k p (omega arith) in
-          let seats_then = taken-tally d (turn_of m (kind_of m p) (o j)) p in
+          let fewer = tally-mono (pick d) (turn_of m (kind_of m p) (o j)) k p (omega arith) in
+          let seats_then = seats_taken-tally d (turn_of m (kind_of m p) (o j)) p in
           let too = takes_too cuts keeps (o j) p (before (o j) earlier) gap.has (omega (arith, x.room)) in
           let own : turn_of m (kind_of m p) (o j) < length (order_of m (kind_of m p)) = omega arith in
-          let took = ap (picked d) (sym at) ∙ sym (tentative-picked m cuts (kind_of m p) (o j) own) ∙ too in
-          false≢true (sym gap.has_not ∙ is_programme-from p (picked d j) took)
+          let took = ap (pick d) (sym at) ∙ sym (tentative-pick m cuts (kind_of m p) (o j) own) ∙ too in
+          false≢true (sym gap.has_not ∙ is_programme-from p (pick d j) took)
 
       by_held : (h : Option ℕ) → held_by other i ≡ h
           → HoldsAtLeast (list_of m i) (Some p) (held_by other i)
@@ -252,9 +252,9 @@ module _ (m w : Problem) (v : IsValid m) (vw : IsValid w) (wide : Widens m w)
 
   pub worst : GivesAtLeast m (mechanism_placement m) other
   unfolding mechanism_placement TakesLeast
-  worst i = by_given (held_by (placed m (cuts_after m (cutting_rounds m))) i) refl
+  worst i = by_given (held_by (best_programmes m (cuts_after m (cutting_rounds m))) i) refl
     where
-      by_given : (o : Option ℕ) → held_by (placed m (cuts_after m (cutting_rounds m))) i ≡ o
+      by_given : (o : Option ℕ) → held_by (best_programmes m (cuts_after m (cutting_rounds m))) i ≡ o
           → HoldsAtLeast (list_of m i) o (held_by other i)
       by_given None e = tt
       by_given (Some p) e =

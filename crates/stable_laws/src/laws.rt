@@ -3,7 +3,7 @@
 ghost use Rattle.market.specs.Dictatorships.{ShortensLists, FreesSeats};
 ghost use Rattle.market.specs.Stability.{IsStable};
 ghost use Rattle.market.specs.Comparisons.{Widens, GivesAtLeast, IsWorstStable};
-ghost use Rattle.market.specs.Mechanism.{mechanism_placement, RoundsEnd};
+ghost use Rattle.market.specs.Mechanism.{mechanism_placement, HasLastRound};
 
 use market::{Dict, Market, Placement};
 
@@ -17,7 +17,7 @@ pub fn prefix_lists_free_seats(older: &Dict, newer: &Dict)
 /// There is at most one round more than there are list entries. The last one is settled, and each
 /// earlier one cuts at least one entry away.
 pub fn rounds_bounded(market: &Market)
-    ensures { RoundsEnd market.now }
+    ensures { HasLastRound market.now }
 {}
 
 /// The mechanism's placement is stable.

@@ -1,7 +1,6 @@
-use Rattle.std.proofs.Common.{ℕ, ◌∙◌, ap, sym, subst, arith, List, Option}
-use Rattle.market.proofs.Plain.{IsRoundsUpto-none, IsRoundsUpto-more, rounds-fall, rounds_small, total_small, outcome_is, settled-cuts}
-use Rattle.market.specs.Mechanism.{placed}
-use Rattle.market.specs.Choices.{IsRound}
+use Rattle.std.proofs.Common.{◌∙◌, sym, arith}
+use Rattle.market.proofs.Plain.{IsRoundsUpto-none, IsRoundsUpto-more, rounds-fall, rounds_small, total_small, outcome_is}
+use Rattle.market.proofs.Replays.{round-table, round-best_programmes}
 use Rattle.dictatorship.proofs.mechanism.mechanism_plain.Goals as goal
 
 pub rounds-init : goal.rounds-init
@@ -23,10 +22,8 @@ returns-then-settled c =
     c.all_turns-turns.result c.rounds.cuts c.from_vec.result c.rounds.invariant
     (sym c.cut_round-count.ensures.count ∙ c.if-settled.true)
     (c.from_vec.ensures ∙ c.in_ok-held.ensures
-    ∙ ap (placed c.args.market.now)
-    (c.cut_round-count.ensures.cuts
-    ∙ settled-cuts c.args.market.now c.rounds.cuts c.rounds.invariant.cuts_fit
-    (sym c.cut_round-count.ensures.count ∙ c.if-settled.true)))
+    ∙ round-best_programmes c.args.market.now c.all_turns-turns.ensures.valid c.rounds.cuts
+    c.in_ok-table.table c.in_ok-table.ensures)
     c.from.ensures
     c.all_turns-turns.ensures.turns
 
@@ -52,12 +49,6 @@ rounds-preserved c =
     c.rounds.cuts c.cut_round-count.new.cuts c.rounds.invariant c.cut_round-count.ensures.cuts
     c.cut_round-count.ensures.count c.if-settled.false
 
-pub place_round-requires-clause-round : goal.place_round-requires-clause-round
-place_round-requires-clause-round c =
-    let same = c.cut_round-count.ensures.cuts
-    ∙ settled-cuts c.args.market.now c.rounds.cuts c.rounds.invariant.cuts_fit
-    (sym c.cut_round-count.ensures.count ∙ c.if-settled.true) in
-    subst (λ (table : List (List (Option ℕ))). IsRound c.args.market.now c.cut_round-count.new.cuts
-    table) (sym c.deref-then-settled.ensures.value)
-    (subst (λ (cuts : List ℕ). IsRound c.args.market.now cuts c.in_ok-table.table.items) (sym same)
-    c.in_ok-table.ensures)
+pub best_programmes-requires : goal.best_programmes-requires
+best_programmes-requires c =
+    round-table c.args.market.now c.rounds.cuts c.in_ok-table.table c.in_ok-table.ensures

@@ -25,11 +25,11 @@ returns-then-place-list-clause-seats c =
     let d = c.args.dict.now in
     let f = has_room d c.args.seats.now in
     let n = ap (λ (xs : List ℕ). length xs) c.list-list.ensures in
-    let chosen =
+    let picks =
     place-choice d c.args.turn _ c.args.seats.now c.requires.valid c.requires.turn
     c.requires.seats (c.first_place-place.ensures
     ∙ ap (position_or_len f) c.list-list.ensures) in
-    seats-pass d c.args.turn c.first_place-place.result c.args.seats.now c.requires.seats chosen
+    seats-pass d c.args.turn c.first_place-place.result c.args.seats.now c.requires.seats picks
     (omega arith)
 
 pub overflow_add-seats : goal.overflow_add-seats
@@ -59,7 +59,7 @@ returns-clause-seats c =
     let f = has_room d c.args.seats.now in
     let n = ap (λ (xs : List ℕ). length xs) c.list-list.ensures in
     let place = c.first_place-place.result in
-    let chosen =
+    let picks =
     place-choice d c.args.turn _ c.args.seats.now c.requires.valid c.requires.turn
     c.requires.seats (c.first_place-place.ensures
     ∙ ap (position_or_len f) c.list-list.ensures) in
@@ -67,4 +67,4 @@ returns-clause-seats c =
     (slice_set c.args.seats.now (slice_index xs place)
     (slice_index c.args.seats.now (slice_index xs place) + 1))) (sym c.list-list.ensures)
     (seats-take d c.args.turn place c.args.seats.now c.requires.valid c.requires.turn
-    c.requires.seats chosen (omega arith))
+    c.requires.seats picks (omega arith))

@@ -1,29 +1,29 @@
 use Rattle.std.proofs.Common.{◌≡◌, ◌∙◌, ◌<◌, ℕ, List, [], Option, Some, length, ap, sym, subst, arith}
 use Rattle.std.specs.Prelude.{slice_index_or, slice_set}
 use Rattle.market.specs.Problems.{Problem}
-use Rattle.market.specs.Choices.{no_choices}
+use Rattle.market.specs.Choices.{empty_table}
 use Rattle.market.specs.Examples.{three_rounds}
 use Rattle.market.proofs.tests.keeps_choices_and_placements.Goals as goal
 
 -- a table of the example with no choice, and with the one that is set, has room for each candidate
-rows : (m : Problem) (table : List (List (Option ℕ))) → table ≡ no_choices m → m ≡ three_rounds
+rows : (m : Problem) (table : List (List (Option ℕ))) → table ≡ empty_table m → m ≡ three_rounds
     → (0 < length table) × (1 < length (slice_index_or table 0 []))
-unfolding no_choices
+unfolding empty_table
 rows m table e em =
     subst (λ (xs : List (List (Option ℕ))). (0 < length xs) × (1 < length (slice_index_or xs 0 [])))
-    (sym (e ∙ ap no_choices em)) (omega arith, omega arith)
+    (sym (e ∙ ap empty_table em)) (omega arith, omega arith)
 
 abbrev changed : List (List (Option ℕ)) → List (List (Option ℕ))
 changed table = slice_set table 0 (slice_set (slice_index_or table 0 []) 1 (Some 0))
 
-rows_after : (m : Problem) (table new' : List (List (Option ℕ))) → table ≡ no_choices m
+rows_after : (m : Problem) (table new' : List (List (Option ℕ))) → table ≡ empty_table m
     → m ≡ three_rounds → new' ≡ changed table
     → (1 < length new') × (1 < length (slice_index_or new' 0 []))
     × (1 < length (slice_index_or new' 1 []))
-unfolding no_choices
+unfolding empty_table
 rows_after m table new' e em en =
     subst (λ (xs : List (List (Option ℕ))). (1 < length xs) × (1 < length (slice_index_or xs 0 []))
-    × (1 < length (slice_index_or xs 1 []))) (sym (en ∙ ap changed (e ∙ ap no_choices em)))
+    × (1 < length (slice_index_or xs 1 []))) (sym (en ∙ ap changed (e ∙ ap empty_table em)))
     (omega arith, omega arith, omega arith)
 
 pub set-requires-clause-kind : goal.set-requires-clause-kind

@@ -1,40 +1,78 @@
-use Rattle.std.proofs.Common.{ℕ, ◌∙◌, ap, Vec, Global}
-use Rattle.std.specs.Prelude.{slice_index, ◌==◌}
+use Rattle.std.proofs.Common.{◌≡◌, ℕ, ◌<◌, ◌∷◌, [], ◌++◌, ◌∙◌, ap, List, Vec, Global, arith, map, length}
+use Rattle.std.specs.Prelude.{slice_index, filter}
 use Rattle.std.proofs.lemmas.Bool.{eq-eqb, ne_eqb}
-use Rattle.market.specs.Problems.{kind_in}
-use Rattle.market.proofs.Kept.{places_more, places_same, items_more, items_same}
+use Rattle.std.proofs.lemmas.List.{take_all}
+use Rattle.market.specs.Problems.{Problem, IsValid, list_of}
+use Rattle.market.specs.Mechanism.{is_offered}
+use Rattle.market.specs.LocalNumbers.{local_of}
+use Rattle.market.specs.TypeLists.{places_from, type_items, type_places}
+use Rattle.market.proofs.Tentatives.{offered-is}
+use Rattle.market.proofs.Below.{places_more, places_same, items_more, items_same}
 use Rattle.market.proofs.type_lists.add_list.Goals as goal
-use Rattle.market.proofs.type_lists.add_list.Goals.{then-programmes-index+in_ok-push+in_ok-push-2, else-programmes-index}
+use Rattle.market.proofs.type_lists.add_list.Goals.{then-programme-kind+in_ok-push+in_ok-push-2, else-programme-kind}
+
+-- an entry of the list is a programme
+entry_fits : (m : Problem) → IsValid m → (i k : ℕ) (list : List ℕ) → i < length m.lists
+    → list ≡ list_of m i → k < length list → slice_index list k < length m.programmes
+entry_fits m v i k list li e l =
+    let n = ap (λ (xs : List ℕ). length xs) e in
+    let x = ap (λ (xs : List ℕ). slice_index xs k) e in
+    let h = v.list_entries i k li (omega arith) in
+    omega arith
 
 pub loop-place-preserved : goal.loop-place-preserved
 loop-place-preserved c =
+    let m = c.args.parts.now in
     let k = c.loop-place.place in
-    let xs = c.args.list.now in
+    let xs = c.list-list.result.now in
     let t = c.args.kind in
-    let kind = kind_in c.args.programmes.now (slice_index xs k) in
-    let f = λ (p : ℕ). kind_in c.args.programmes.now p == t in
-    let g = slice_index c.args.locals.now in
-    elim c.if-programmes-index.branch [
-      | then-programmes-index+in_ok-push+in_ok-push-2 w ↦ record {
-        items = items_more g f xs c.args.items.now.items c.loop-place.items.items _ k
-            c.loop-place-test.true (eq-eqb kind t w.if-programmes-index.true)
+    let i = c.args.candidate in
+    let p = slice_index xs k in
+    let l = c.loop-place-test.true in
+    let lp = entry_fits m c.list-list.ensures.valid i k xs c.requires.candidate
+    c.list-list.ensures.list l in
+    let test = offered-is m t i p c.programme.result c.programme.ensures in
+    let f = is_offered m t i in
+    elim c.if-programme-kind.branch [
+      | then-programme-kind+in_ok-push+in_ok-push-2 w ↦ record {
+        items = items_more (local_of m) f xs c.args.items.now.items c.loop-place.items.items _ k l
+            (test ∙ eq-eqb c.programme.result.kind t w.if-programme-kind.true)
             c.loop-place.invariant.items
-            (ap (λ (v : Vec ℕ Global). v.items) w.items-is ∙ w.in_ok-push.ensures.items);
-        places = places_more f xs c.args.places.now.items c.loop-place.places.items _ k
-            c.loop-place-test.true (eq-eqb kind t w.if-programmes-index.true)
+            (ap (λ (v : Vec ℕ Global). v.items) w.items-is ∙ w.in_ok-push.ensures.items
+            ∙ ap (λ (x : ℕ). c.loop-place.items.items ++ x ∷ []) (c.requires.numbers.each p lp));
+        places = places_more f xs c.args.places.now.items c.loop-place.places.items _ k l
+            (test ∙ eq-eqb c.programme.result.kind t w.if-programme-kind.true)
             c.loop-place.invariant.places
             (ap (λ (v : Vec ℕ Global). v.items) w.places-is ∙ w.in_ok-push-2.ensures.items);
       }
-      | else-programmes-index w ↦ record {
+      | else-programme-kind w ↦ record {
         items =
             ap (λ (v : Vec ℕ Global). v.items) w.items-is
-            ∙ items_same g f xs c.args.items.now.items c.loop-place.items.items k
-            c.loop-place-test.true (ne_eqb kind t w.if-programmes-index.false)
+            ∙ items_same (local_of m) f xs c.args.items.now.items c.loop-place.items.items k l
+            (test ∙ ne_eqb c.programme.result.kind t w.if-programme-kind.false)
             c.loop-place.invariant.items;
         places =
             ap (λ (v : Vec ℕ Global). v.items) w.places-is
-            ∙ places_same f xs c.args.places.now.items c.loop-place.places.items k
-            c.loop-place-test.true (ne_eqb kind t w.if-programmes-index.false)
+            ∙ places_same f xs c.args.places.now.items c.loop-place.places.items k l
+            (test ∙ ne_eqb c.programme.result.kind t w.if-programme-kind.false)
             c.loop-place.invariant.places;
       }
     ]
+
+pub returns-clause-items : goal.returns-clause-items
+unfolding type_items
+returns-clause-items c =
+    let m = c.args.parts.now in
+    c.loop-place.invariant.items
+    ∙ ap (λ (xs : List ℕ). c.args.items.now.items
+    ++ map (local_of m) (filter (is_offered m c.args.kind c.args.candidate) xs))
+    (take_all c.loop-place.place c.list-list.result.now (omega arith) ∙ c.list-list.ensures.list)
+
+pub returns-clause-places : goal.returns-clause-places
+unfolding type_places
+returns-clause-places c =
+    let m = c.args.parts.now in
+    c.loop-place.invariant.places
+    ∙ ap (λ (xs : List ℕ). c.args.places.now.items
+    ++ places_from (is_offered m c.args.kind c.args.candidate) 0 xs)
+    (take_all c.loop-place.place c.list-list.result.now (omega arith) ∙ c.list-list.ensures.list)

@@ -2,7 +2,7 @@ use Rattle.std.proofs.Common.{ℕ, ◌+◌, ◌-◌, ◌∙◌, ◌++◌, ap, ta
 use Rattle.std.specs.Prelude.{slice_index}
 use Rattle.std.proofs.lemmas.Result.{IfOk-equal}
 use Rattle.market.specs.FlatLists.{between}
-use Rattle.market.specs.TypeLists.{kept}
+use Rattle.market.specs.TypeLists.{items_below}
 use Rattle.market.proofs.Between.{between_is}
 use Rattle.market.proofs.type_lists.add_turn.Goals as goal
 
@@ -18,8 +18,8 @@ returns c =
     let places =
     between_is f.places f.bounds c.places.result.now marks k c.places.ensures
     c.bounds-bounds.ensures in
-    IfOk-equal c.add_kept.result _ _ _ c.add_kept.ensures
+    IfOk-equal c.add_below.result _ _ _ c.add_below.ensures
     (ap (λ (xs : List ℕ). first
-    ++ kept c.args.cut xs (take (slice_index marks (k + 1) - slice_index marks k)
+    ++ items_below c.args.cut xs (take (slice_index marks (k + 1) - slice_index marks k)
     (drop (slice_index marks k) c.places.result.now))) items
-    ∙ ap (λ (xs : List ℕ). first ++ kept c.args.cut (between f.items f.bounds k) xs) places)
+    ∙ ap (λ (xs : List ℕ). first ++ items_below c.args.cut (between f.items f.bounds k) xs) places)

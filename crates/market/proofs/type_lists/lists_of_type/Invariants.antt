@@ -1,4 +1,5 @@
 use Rattle.std.proofs.Common.{◌*◌, ◌≤◌, length, take, map}
+use Rattle.market.specs.declared.limits.TheConstants.{MAX_ENTRIES}
 use Rattle.market.specs.FlatLists.{IsFlat}
 use Rattle.market.specs.TypeLists.{type_items, type_places}
 use Rattle.market.proofs.type_lists.lists_of_type.Given as goal
@@ -6,8 +7,8 @@ use Rattle.market.proofs.type_lists.lists_of_type.Given as goal
 abbrev pub invariant-loop-candidate : goal.invariant-loop-candidate
 invariant-loop-candidate l = record {
   items : IsFlat l.items.items l.bounds.items
-      (map (type_items l.programmes l.locals l.lists l.fn.kind) (take l.candidate-index l.order));
+      (map (type_items l.parts l.fn.kind) (take l.candidate-index l.order));
   places : IsFlat l.places.items l.bounds.items
-      (map (type_places l.programmes l.lists l.fn.kind) (take l.candidate-index l.order));
-  few : length l.items.items ≤ 48 * l.candidate-index;
+      (map (type_places l.parts l.fn.kind) (take l.candidate-index l.order));
+  few : length l.items.items ≤ MAX_ENTRIES * l.candidate-index;
 }

@@ -10,8 +10,9 @@ returns c = λ differ.
     let sorted = c.sort_unstable.new.self.items in
     let up : Rises sorted = λ i j le lt. IsNonDecreasingBy-from_sort
     (λ x. x) sorted c.sort_unstable.ensures.sorted i j 0 le lt in
-    let permutation = subst (λ short. IsPermutation short sorted) c.in_ok-short.ensures
+    let forms = c.in_ok-short.ensures {u = tt} in
+    let permutation = subst (λ short. IsPermutation short sorted) forms.1
     c.sort_unstable.ensures.permutation in
     let apart = subst (λ xs. NeighboursDiffer xs (length xs)) c.deref.ensures.value
     (c.neighbours_differ.ensures differ) in
-    short-distinct c.args.placed.now sorted permutation up apart
+    short-distinct forms.0 c.args.placed.now sorted permutation up apart

@@ -3,21 +3,22 @@ use Rattle.std.specs.Prelude.{slice_index, option_map}
 use Rattle.std.specs.List.{cons_option}
 use Rattle.std.proofs.lemmas.List.{take_more}
 use Rattle.std.proofs.lemmas.List.Elements.{filter_map-append}
+use Rattle.rank_lists.specs.declared.keys.TheConstants.{INDEXES, NUMBERS}
 use Rattle.rank_lists.specs.Turns.{known_key, known_keys}
 use Rattle.rank_lists.proofs.Gathering.{append-nothing}
 use Rattle.rank_lists.proofs.turns.known.Goals as goal
 
 -- one key more
 known-next : (numbers keys : List ℕ) (i : ℕ) (o : Option ℕ) → i < length keys
-    → position (nat_eq (slice_index keys i % 137438953472)) numbers ≡ o
+    → position (nat_eq (slice_index keys i % NUMBERS)) numbers ≡ o
     → known_keys numbers (take (i + 1) keys)
     ≡ known_keys numbers (take i keys) ++ cons_option
-    (option_map (λ index. slice_index keys i / 137438953472 * 4294967296 + index) o) []
+    (option_map (λ index. slice_index keys i / NUMBERS * INDEXES + index) o) []
 known-next numbers keys i o lt e =
     ap (known_keys numbers) (take_more keys i 0 lt)
     ∙ filter_map-append (known_key numbers) (take i keys) (slice_index keys i ∷ [])
     ∙ ap (λ found. known_keys numbers (take i keys) ++ cons_option
-    (option_map (λ index. slice_index keys i / 137438953472 * 4294967296 + index) found) []) e
+    (option_map (λ index. slice_index keys i / NUMBERS * INDEXES + index) found) []) e
 
 pub loop-key-preserved : goal.loop-key-preserved
 loop-key-preserved g c =
@@ -26,10 +27,10 @@ loop-key-preserved g c =
     c.loop-key-test.true (sym c.find.ensures ∙ c.in-Some.is) in
     c.in_ok-push.ensures.items
     ∙ ap (λ index. c.loop-key.known.items ++
-    (slice_index c.args.keys.now c.loop-key.key-index / 137438953472 * 4294967296 + index) ∷ [])
+    (slice_index c.args.keys.now c.loop-key.key-index / NUMBERS * INDEXES + index) ∷ [])
     c.from.ensures
     ∙ ap (λ known. known ++ (slice_index c.args.keys.now
-    c.loop-key.key-index / 137438953472 * 4294967296 + c.in-Some.index) ∷ [])
+    c.loop-key.key-index / NUMBERS * INDEXES + c.in-Some.index) ∷ [])
     c.loop-key.invariant
     ∙ sym next
 

@@ -9,7 +9,7 @@ pub overflow_cast-entries : goal.overflow_cast-entries
 overflow_cast-entries c =
     let v = c.candidate_count-candidate-end.ensures.valid in
     let h = v.list_lengths c.loop-candidate.candidate (omega arith) in
-    let e = ap (λ (xs : List ℕ). length xs) c.list-entries.ensures in
+    let e = ap (λ (xs : List ℕ). length xs) c.list-entries.ensures.list in
     omega arith
 
 pub loop-candidate-preserved : goal.loop-candidate-preserved
@@ -19,7 +19,7 @@ loop-candidate-preserved c =
     map_next (λ (list : List ℕ). length list) c.args.market.now.lists c.loop-candidate.candidate []
     (length c.list-entries.result.now) c.loop-candidate.lengths.items c.push.new.self.items
     (omega arith) c.loop-candidate.invariant
-    (ap (λ (xs : List ℕ). length xs) c.list-entries.ensures) c.in_ok-push.ensures.items
+    (ap (λ (xs : List ℕ). length xs) c.list-entries.ensures.list) c.in_ok-push.ensures.items
 
 pub returns-clause-cuts : goal.returns-clause-cuts
 unfolding whole_cuts

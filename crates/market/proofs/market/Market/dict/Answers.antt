@@ -1,6 +1,7 @@
 use Rattle.std.proofs.Common.{◌∙◌, sym, subst, arith}
-use Rattle.market.specs.LocalNumbers.{ChoosesAlike}
-use Rattle.market.proofs.Dicts.{dict_valid, dict-is}
+use Rattle.market.specs.Dictatorships.{dictatorship}
+use Rattle.market.specs.LocalNumbers.{local_dictatorship, ChoosesAlike}
+use Rattle.market.proofs.Dicts.{dict_valid}
 use Rattle.market.proofs.Locals.{local-choice}
 use Rattle.market.proofs.market.Market.dict.Goals as goal
 
@@ -12,12 +13,11 @@ from_flat-requires c =
     c.in_ok-fill.ensures.items c.in_ok-lists.ensures.lists
 
 pub returns-clause-dictatorship : goal.returns-clause-dictatorship
+unfolding local_dictatorship
 returns-clause-dictatorship c =
-    dict-is c.args.self.now c.args.kind c.args.cuts.now c.args.fill.now c.args.from_turn
-    c.from_flat.result
-    (c.from_flat.ensures.quota ∙ c.in_ok-quota.ensures)
-    (c.from_flat.ensures.fill ∙ c.in_ok-fill.ensures.items)
-    (c.from_flat.ensures.lists ∙ c.in_ok-lists.ensures.lists)
+    c.from_flat.ensures
+    ∙ (λ i. dictatorship (c.in_ok-quota.ensures i) (c.in_ok-fill.ensures.items i)
+    (c.in_ok-lists.ensures.lists i))
 
 pub returns-clause-alike : goal.returns-clause-alike
 returns-clause-alike c fills =

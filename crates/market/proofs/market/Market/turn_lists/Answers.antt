@@ -1,36 +1,28 @@
-use Rattle.std.proofs.Common.{◌+◌, ◌-◌, ◌∙◌, ap, subst, [], map, take, drop, length, arith}
+use Rattle.std.proofs.Common.{◌+◌, ◌-◌, ◌∙◌, ap, map, take, drop, length, arith}
 use Rattle.std.specs.Prelude.{slice_index}
-use Rattle.std.proofs.lemmas.List.{get_or_read, take_all, length-drop}
-use Rattle.market.specs.Problems.{Problem, order_of}
+use Rattle.std.proofs.lemmas.List.{take_all, length-drop}
+use Rattle.market.specs.Problems.{order_of}
 use Rattle.market.specs.LocalNumbers.{local_list}
-use Rattle.market.specs.TypeLists.{type_lists_at, HasParts}
 use Rattle.market.proofs.Dicts.{order-le}
 use Rattle.market.proofs.Between.{flat-self, flat-is}
-use Rattle.market.proofs.Kept.{flat_next}
-use Rattle.market.proofs.TurnLists.{rest_at, turn_kept, few_more}
+use Rattle.market.proofs.Below.{flat_next}
+use Rattle.market.proofs.TurnLists.{rest_at, turn_below, few_more}
 use Rattle.market.proofs.market.Market.turn_lists.Goals as goal
 
 pub overflow_cast-len : goal.overflow_cast-len
 overflow_cast-len c =
     let m = c.args.self.now in
     let t = c.args.kind in
-    let s = c.self.inside in
-    let parts = subst (λ (n : Problem). HasParts n s.tables.items s.members.items s.locals.items
-    s.type_lists.items) c.self.view_is c.self.invariant in
-    let v = parts.has_tables.valid in
+    let v = c.type_lists-type_lists.ensures.valid in
     let k = c.loop-index.index in
     let part = c.order-order.result.now in
     let at = rest_at (order_of m t) part c.args.from_turn k c.order-order.ensures.order
     c.loop-index-test.true in
     let inside = at.inside in
-    let count = parts.has_type_lists.count in
-    let f = get_or_read s.type_lists.items t c.index-type_lists.result.now (omega arith)
-    c.index-type_lists.ensures (record { items = []; places = []; bounds = [] }) in
     let i = slice_index (take (length part - c.args.from_turn) (drop c.args.from_turn part)) k in
-    let xs = turn_kept m s.locals.items c.args.cuts.now t (c.args.from_turn + k) i c.cut.result
-    (type_lists_at s.type_lists.items t) c.index-type_lists.result.now v
-    parts.has_tables.numbered c.requires.kind (parts.has_type_lists.each t c.requires.kind) f
-    inside at.same c.cut.ensures in
+    let xs = turn_below m c.args.cuts.now t (c.args.from_turn + k) i c.cut.result
+    c.type_lists-type_lists.result.now c.type_lists-type_lists.ensures.lists inside at.same
+    c.cut.ensures in
     let li = v.order_entries t (c.args.from_turn + k) c.requires.kind inside in
     let same = at.same in
     let few =
@@ -44,24 +36,17 @@ pub loop-index-preserved : goal.loop-index-preserved
 loop-index-preserved c =
     let m = c.args.self.now in
     let t = c.args.kind in
-    let s = c.self.inside in
-    let parts = subst (λ (n : Problem). HasParts n s.tables.items s.members.items s.locals.items
-    s.type_lists.items) c.self.view_is c.self.invariant in
-    let v = parts.has_tables.valid in
+    let v = c.type_lists-type_lists.ensures.valid in
     let k = c.loop-index.index in
     let part = c.order-order.result.now in
     let rest = take (length part - c.args.from_turn) (drop c.args.from_turn part) in
     let at = rest_at (order_of m t) part c.args.from_turn k c.order-order.ensures.order
     c.loop-index-test.true in
     let inside = at.inside in
-    let count = parts.has_type_lists.count in
-    let f = get_or_read s.type_lists.items t c.index-type_lists.result.now (omega arith)
-    c.index-type_lists.ensures (record { items = []; places = []; bounds = [] }) in
     let i = slice_index rest k in
-    let xs = turn_kept m s.locals.items c.args.cuts.now t (c.args.from_turn + k) i c.cut.result
-    (type_lists_at s.type_lists.items t) c.index-type_lists.result.now v
-    parts.has_tables.numbered c.requires.kind (parts.has_type_lists.each t c.requires.kind) f
-    inside at.same c.cut.ensures in
+    let xs = turn_below m c.args.cuts.now t (c.args.from_turn + k) i c.cut.result
+    c.type_lists-type_lists.result.now c.type_lists-type_lists.ensures.lists inside at.same
+    c.cut.ensures in
     let li = v.order_entries t (c.args.from_turn + k) c.requires.kind inside in
     let same = at.same in
     record {

@@ -1,10 +1,10 @@
 use Rattle.std.proofs.Common.{ℕ, ◌∙◌, ap, Option, None, map, replicate}
-use Rattle.market.specs.Choices.{no_choices, decode}
+use Rattle.market.specs.Choices.{empty_table, decode}
 use Rattle.market.proofs.Coded.{map-replicate}
 use Rattle.market.proofs.tentative.Tentative.none.Goals as goal
 
 pub returns-clause-none : goal.returns-clause-none
-unfolding no_choices
+unfolding empty_table
 returns-clause-none c =
     let types = c.type_count.result in
     let count = c.candidate_count.result in

@@ -14,7 +14,7 @@ use Rattle.programme_table.proofs.table.ProgrammeTable.add.Goals as goal
 abbrev before : goal.After-unwrap-2 → Programmes
 before c = record {
   rows = c.self.inside.rows.items;
-  lines = c.self.inside.lines.entries;
+  codes = c.self.inside.codes.entries;
   names =
       c.self.inside.names.keys;
 }
@@ -22,19 +22,17 @@ before c = record {
 abbrev after : goal.After-unwrap-2 → Programmes
 after c = record {
   rows = c.push.new.self.items;
-  lines = c.insert.new.self.entries;
+  codes = c.insert.new.self.entries;
   names =
       c.insert_full.new.self.keys;
 }
 
 free : (c : goal.After-unwrap-2)
-    → clash (before c) c.args.line c.args.fields.now.code c.args.fields.now.name ≡ None
-free c = ap (λ table. clash table c.args.line c.args.fields.now.code c.args.fields.now.name)
-    c.self.view_is ∙ c.requires.fits
+    → clash (before c) c.args.fields.now ≡ None
+free c = ap (λ table. clash table c.args.fields.now) c.self.view_is ∙ c.requires.fits
 
 added : (c : goal.After-unwrap-2)
-    → after c ≡ with_programme (before c) c.args.line c.args.fields.now.code c.args.fields.now.name
-    c.args.fields.now.quota
+    → after c ≡ with_programme (before c) c.args.fields.now
 added c =
     let t = before c in
     let name = c.args.fields.now.name in
@@ -48,14 +46,14 @@ added c =
     let code : c.from.result ≡ c.args.fields.now.code = c.from.ensures ∙ c.get.ensures.value in
     let absent : lookup (nat_eq c.from.result) c.reserve-2.new.self.entries ≡ None =
     ap (λ (entries : List (ℕ × ℕ)). lookup (nat_eq c.from.result) entries) c.reserve-2.ensures.entries
-    ∙ ap (λ (key : ℕ). lookup (nat_eq key) t.lines) code
-    ∙ clash-new t c.args.line c.args.fields.now.code name (free c) in
-    let lines : c.insert.new.self.entries ≡ t.lines ++ (c.args.fields.now.code, c.args.line) ∷ [] =
+    ∙ ap (λ (key : ℕ). lookup (nat_eq key) t.codes) code
+    ∙ clash-new t c.args.fields.now (free c) in
+    let codes : c.insert.new.self.entries ≡ t.codes ++ (c.args.fields.now.code, c.args.fields.now.line) ∷ [] =
     (rw c.unwrap.ensures at c.insert.ensures.entries)
-    ∙ insert_entry-new nat_eq c.reserve-2.new.self c.from.result c.args.line absent
-    ∙ ap (λ (entries : List (ℕ × ℕ)). entries ++ (c.from.result, c.args.line) ∷ [])
+    ∙ insert_entry-new nat_eq c.reserve-2.new.self c.from.result c.args.fields.now.line absent
+    ∙ ap (λ (entries : List (ℕ × ℕ)). entries ++ (c.from.result, c.args.fields.now.line) ∷ [])
     c.reserve-2.ensures.entries
-    ∙ ap (λ (key : ℕ). t.lines ++ (key, c.args.line) ∷ []) code in
+    ∙ ap (λ (key : ℕ). t.codes ++ (key, c.args.fields.now.line) ∷ []) code in
     let with_kind : ℕ → ProgrammeRow =
     λ kind. record { code = c.args.fields.now.code; kind = kind; quota = c.args.fields.now.quota }
     in
@@ -65,17 +63,14 @@ added c =
     ∙ ap (λ (rows : List ProgrammeRow). rows ++ with_kind c.unwrap-kind.result.0 ∷ [])
     c.reserve-3.ensures.items
     ∙ ap (λ (kind : ℕ). t.rows ++ with_kind kind ∷ []) kind in
-    λ j. record { rows = rows j; lines = lines j; names = names j }
+    λ j. record { rows = rows j; codes = codes j; names = names j }
 
 pub invariant_of-self-2 : goal.invariant_of-self-2
 invariant_of-self-2 c =
     subst IsTable (sym (added c))
-    (IsTable-with (before c) c.args.line c.args.fields.now.code c.args.fields.now.name
-    c.args.fields.now.quota c.self.invariant
+    (IsTable-with (before c) c.args.fields.now c.self.invariant
     (omega (arith, ap (λ (table : Programmes). length table.rows) c.self.view_is, c.requires.rows))
-    c.requires.quota (free c))
+    (free c))
 
 pub returns : goal.returns
-returns c = added c ∙ ap
-    (λ table. with_programme table c.args.line c.args.fields.now.code c.args.fields.now.name
-    c.args.fields.now.quota) c.self.view_is
+returns c = added c ∙ ap (λ table. with_programme table c.args.fields.now) c.self.view_is

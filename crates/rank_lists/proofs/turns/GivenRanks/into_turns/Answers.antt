@@ -1,5 +1,6 @@
 use Rattle.std.proofs.Common.{◌∙◌, ◌%◌, ◌/◌, ℕ, List, map, ap, subst, IsPermutation}
 use Rattle.std.proofs.lemmas.List.Sorted.{IsNonDecreasingBy-from_sort}
+use Rattle.rank_lists.specs.declared.keys.TheConstants.{INDEXES}
 use Rattle.rank_lists.specs.Turns.{known_keys}
 use Rattle.rank_lists.proofs.turns.GivenRanks.into_turns.Goals as goal
 
@@ -16,7 +17,7 @@ returns g c =
       rises = λ i j le lt. IsNonDecreasingBy-from_sort
           (λ x. x) sorted c.sort_unstable.ensures.sorted i j 0 le lt;
       order_is = c.from_vec-order.ensures ∙ c.in_ok-candidates_of.ensures
-          ∙ ap (map (λ key. key % 4294967296)) c.deref-2.ensures.value;
+          ∙ ap (map (λ key. key % INDEXES)) c.deref-2.ensures.value;
       ranks_are = c.from_vec-ranks.ensures ∙ c.in_ok-ranks_of.ensures
-          ∙ ap (map (λ key. key / 4294967296)) c.deref-3.ensures.value;
+          ∙ ap (map (λ key. key / INDEXES)) c.deref-3.ensures.value;
     }

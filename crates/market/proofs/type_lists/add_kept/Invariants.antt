@@ -1,8 +1,0 @@
-use Rattle.std.proofs.Common.{◌≡◌, ◌++◌, take}
-use Rattle.market.specs.TypeLists.{kept}
-use Rattle.market.proofs.type_lists.add_kept.Given as goal
-
-abbrev pub invariant-loop-index : goal.invariant-loop-index
-invariant-loop-index l =
-    l.found.items ≡ l.initial.found.items
-    ++ kept l.cut (take l.index l.items) (take l.index l.places)
