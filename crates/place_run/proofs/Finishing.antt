@@ -285,7 +285,7 @@ says-candidates three faultless = says-ok _ _ _ three.candidates faultless.candi
     faultless.candidates
 
 says-ranks : (three : ThreeFiles) → HasNoFault three
-    → ranks_said (tables_in three).programmes.names (numbers_of (tables_in three).candidates.lines)
+    → ranks_said (tables_in three).programmes.names (numbers_of (tables_in three).candidates.numbers)
     three.ranks ≡ Ok (tables_in three).ranks
 unfolding ranks_said tables_in numbers_in codes_in
 says-ranks three faultless = says-ok _ _ _ three.ranks faultless.ranks_few faultless.ranks

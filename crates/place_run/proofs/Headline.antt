@@ -11,12 +11,12 @@ use Rattle.command_words.specs.declared.words.Command.TheVariants.{Place}
 use Rattle.command_words.specs.declared.words.WordsFault.{WordsFault}
 use Rattle.market.specs.Mechanism.{mechanism_placement}
 use Rattle.place_edges.specs.Shelf.{Files, file_limit}
-use Rattle.programme_table.specs.Programmes.{programmes_fault}
+use Rattle.programme_table.specs.Rows.{programmes_fault}
 use Rattle.programme_table.specs.Table.{Programmes, codes_of, programmes_table}
 use Rattle.candidate_table.specs.Table.{Candidates, candidates_table, numbers_of}
-use Rattle.candidate_table.specs.Candidates.{candidates_fault}
-use Rattle.rank_lists.specs.RankRows.{ranks_fault}
-use Rattle.rank_lists.specs.RankTables.{RankTable, ranks_table}
+use Rattle.candidate_table.specs.Rows.{candidates_fault}
+use Rattle.rank_lists.specs.Rows.{ranks_fault}
+use Rattle.rank_lists.specs.Table.{RankTable, ranks_table}
 use Rattle.run_frame.specs.Files.{Reads}
 use Rattle.run_frame.specs.Stops.{too_long}
 use Rattle.run_frame.specs.declared.stop.FileStop.{FileStop}
@@ -110,19 +110,19 @@ unfolding tables_in codes_in numbers_in
 are-read reads tables e =
     let p = said-from (reads file.Programmes) programmes_said _ tables e in
     let c = said-from (reads file.Candidates) (candidates_said (codes_of p.2.rows)) _ tables p.4 in
-    let r = said-from (reads file.Ranks) (ranks_said p.2.names (numbers_of c.2.lines)) _ tables c.4 in
+    let r = said-from (reads file.Ranks) (ranks_said p.2.names (numbers_of c.2.numbers)) _ tables c.4 in
     let one = says-programmes p.0 p.2 p.3 in
     let two = says-candidates (codes_of p.2.rows) c.0 c.2 c.3 in
-    let three = says-ranks p.2.names (numbers_of c.2.lines) r.0 r.2 r.3 in
+    let three = says-ranks p.2.names (numbers_of c.2.numbers) r.0 r.2 r.3 in
     let none : candidates_fault (codes_of (programmes_table p.0).rows) c.0 ≡ None =
     subst (λ (v : Programmes). candidates_fault (codes_of v.rows) c.0 ≡ None) one.same two.none in
     let same : c.2 ≡ candidates_table (codes_of (programmes_table p.0).rows) c.0 =
     subst (λ (v : Programmes). c.2 ≡ candidates_table (codes_of v.rows) c.0) one.same two.same in
-    let same_names : r.2 ≡ ranks_table (programmes_table p.0).names (numbers_of c.2.lines) r.0 =
-    subst (λ (v : Programmes). r.2 ≡ ranks_table v.names (numbers_of c.2.lines) r.0)
+    let same_names : r.2 ≡ ranks_table (programmes_table p.0).names (numbers_of c.2.numbers) r.0 =
+    subst (λ (v : Programmes). r.2 ≡ ranks_table v.names (numbers_of c.2.numbers) r.0)
     one.same three.same in
     let same_ranks = subst (λ (v : Candidates). r.2 ≡ ranks_table (programmes_table p.0).names
-    (numbers_of v.lines) r.0) same same_names in
+    (numbers_of v.numbers) r.0) same same_names in
     let made : tables ≡ tables_with p.2 c.2 r.2 = cc r.4 in
     record {
       three = record { programmes = p.0; candidates = c.0; ranks = r.0 };

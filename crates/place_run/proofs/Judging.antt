@@ -5,7 +5,7 @@ use Rattle.std.proofs.lemmas.Bool.{cond-true, cond-false, le-ltb, lt-ltb}
 use Rattle.place_base.specs.declared.fault.FileFault.{FileFault}
 use Rattle.place_base.specs.declared.fault.FileKind.{FileKind}
 use Rattle.place_edges.specs.Shelf.{Files, HasBytes, file_limit, tally_with}
-use Rattle.record_files.specs.FirstFaults.{IsTableRead}
+use Rattle.record_files.specs.ReadTo.{IsTableRead}
 use Rattle.record_files.specs.declared.table_stop.TableStop.{TableStop}
 use Rattle.record_files.specs.declared.table_stop.TableStop.TheVariants as stopped
 use Rattle.run_frame.specs.Files.{HasCauses, IsJudged}

@@ -5,7 +5,7 @@ use Rattle.place_base.specs.declared.fault.FileKind.TheVariants as file
 use Rattle.place_edges.specs.Shelf.{Files, GaveMore, file_limit}
 use Rattle.programme_table.specs.Table.{Programmes, codes_of}
 use Rattle.candidate_table.specs.Table.{Candidates, numbers_of}
-use Rattle.rank_lists.specs.RankTables.{RankTable}
+use Rattle.rank_lists.specs.Table.{RankTable}
 use Rattle.run_frame.specs.Files.{AreHeld, AreTaken, HasBegun, HasCauses, IsHeld, IsJudged, IsTaken, Reads}
 use Rattle.run_frame.specs.Meetings.{Meets}
 use Rattle.run_frame.specs.Stops.{is_free, too_long}
@@ -238,7 +238,7 @@ record AreTwo (told : Option Files) (words : List (List ℕ)) (programmes : Prog
     (candidates : Candidates) (p c r : Option (List ℕ)) : Type 0 where
   said : tables_said (reads_of told words p c r)
       ≡ opened (reads_of told words p c r file.Ranks)
-      (ranks_said programmes.names (numbers_of candidates.lines))
+      (ranks_said programmes.names (numbers_of candidates.numbers))
       (λ ranks. Some (Ok (record { programmes = programmes; candidates = candidates; ranks = ranks })))
 
 are-two : (told : Option Files) (words : List (List ℕ)) (programmes : Programmes)
@@ -262,7 +262,7 @@ pub third-stops : (told : Option Files) (words : List (List ℕ)) (programmes : 
     → IsJudged told (named words file.Candidates) (candidates_said (codes_of programmes.rows))
     (Ok candidates) second before tally_second tally_before
     → IsJudged told (named words file.Ranks)
-    (ranks_said programmes.names (numbers_of candidates.lines)) (Err stop) before now
+    (ranks_said programmes.names (numbers_of candidates.numbers)) (Err stop) before now
     tally_before tally_now
     → IsReading told words (Some file.Programmes) tables_said tables_read (Err (File stop))
     first now tally_first tally_now
@@ -273,7 +273,7 @@ third-stops told words programmes candidates stop first second before now tally_
     let r = reads-ranks told words one.bytes two.bytes three.bytes three.held in
     let both = are-two told words programmes candidates one.bytes two.bytes three.bytes one.held
     two.held one.meets two.meets in
-    let says = ranks_said programmes.names (numbers_of candidates.lines) in
+    let says = ranks_said programmes.names (numbers_of candidates.numbers) in
     record {
       reads = reads_of told words one.bytes two.bytes three.bytes;
       held = are-held told words one.bytes two.bytes three.bytes;
@@ -302,7 +302,7 @@ pub three-read : (told : Option Files) (words : List (List ℕ)) (programmes : P
     → IsJudged told (named words file.Candidates) (candidates_said (codes_of programmes.rows))
     (Ok candidates) second before tally_second tally_before
     → IsJudged told (named words file.Ranks)
-    (ranks_said programmes.names (numbers_of candidates.lines)) (Ok ranks) before now
+    (ranks_said programmes.names (numbers_of candidates.numbers)) (Ok ranks) before now
     tally_before tally_now
     → IsReading told words (Some file.Programmes) tables_said tables_read
     (Ok (record { programmes = programmes; candidates = candidates; ranks = ranks }))
@@ -314,7 +314,7 @@ three-read told words programmes candidates ranks first second before now tally_
     let r = reads-ranks told words one.bytes two.bytes three.bytes three.held in
     let both = are-two told words programmes candidates one.bytes two.bytes three.bytes one.held
     two.held one.meets two.meets in
-    let says = ranks_said programmes.names (numbers_of candidates.lines) in
+    let says = ranks_said programmes.names (numbers_of candidates.numbers) in
     record {
       reads = reads_of told words one.bytes two.bytes three.bytes;
       held = are-held told words one.bytes two.bytes three.bytes;

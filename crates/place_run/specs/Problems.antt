@@ -9,5 +9,5 @@ pub record IsProblemOf (tables : Tables) (problem : Problem) : Type 0 where
   pub market : problem.market ≡ problem_of tables
   pub valid : IsValid problem.market
   pub programmes : problem.programmes ≡ tables.programmes
-  pub numbers : problem.numbers ≡ tables.candidates.lines
-  pub paired : length tables.candidates.lists ≡ length tables.candidates.lines
+  pub numbers : problem.numbers ≡ tables.candidates.numbers
+  pub paired : length tables.candidates.lists ≡ length tables.candidates.numbers

@@ -64,7 +64,7 @@ abbrev pub tables_said : Reads → Option (Result Tables Stop)
 tables_said reads =
     opened (reads Programmes) programmes_said (λ programmes.
     opened (reads Candidates) (candidates_said (codes_of programmes.rows)) (λ candidates.
-    opened (reads Ranks) (ranks_said programmes.names (numbers_of candidates.lines)) (λ ranks.
+    opened (reads Ranks) (ranks_said programmes.names (numbers_of candidates.numbers)) (λ ranks.
     Some (Ok (record { programmes = programmes; candidates = candidates; ranks = ranks })))))
 
 -- the files that are read for it
@@ -72,7 +72,7 @@ abbrev pub tables_read : Reads → List (List ℕ)
 tables_read reads =
     read_from (reads Programmes) programmes_said (λ programmes.
     read_from (reads Candidates) (candidates_said (codes_of programmes.rows)) (λ candidates.
-    read_from (reads Ranks) (ranks_said programmes.names (numbers_of candidates.lines)) (λ ranks.
+    read_from (reads Ranks) (ranks_said programmes.names (numbers_of candidates.numbers)) (λ ranks.
     [])))
 
 -- an answer that is made of what was read

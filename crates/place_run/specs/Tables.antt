@@ -3,14 +3,14 @@ use Rattle.std.specs.Prelude.{◌≡◌, ℕ, ◌≤◌, List, All, map, nat_lt,
 use Rattle.place_base.specs.declared.fault.FileFault.{FileFault}
 use Rattle.place_base.specs.declared.fault.FileKind.{FileKind}
 use Rattle.place_base.specs.declared.fault.FileKind.TheVariants as file
-use Rattle.market.specs.Problems.{Problem}
+use Rattle.market.specs.Problems.{Problem, problem}
 use Rattle.place_edges.specs.Shelf.{file_limit}
-use Rattle.programme_table.specs.Programmes.{programmes_fault}
+use Rattle.programme_table.specs.Rows.{programmes_fault}
 use Rattle.programme_table.specs.Table.{Programmes, codes_of, prog_of, programmes_table}
-use Rattle.candidate_table.specs.Candidates.{candidates_fault}
+use Rattle.candidate_table.specs.Rows.{candidates_fault}
 use Rattle.candidate_table.specs.Table.{Candidates, IsPreferenceList, candidates_table, numbers_of}
-use Rattle.rank_lists.specs.RankRows.{ranks_fault}
-use Rattle.rank_lists.specs.RankTables.{RankTable, ranks_table}
+use Rattle.rank_lists.specs.Rows.{ranks_fault}
+use Rattle.rank_lists.specs.Table.{RankTable, ranks_table}
 use Rattle.run_frame.specs.Stops.{too_long}
 use Rattle.run_frame.specs.declared.stop.FileStop.{FileStop}
 use Rattle.run_frame.specs.declared.stop.FileStop.TheVariants.{Fault}
@@ -26,18 +26,12 @@ pub record DoFit (tables : Tables) : Type 0 where
   pub lists : All (IsPreferenceList (length (codes_of tables.programmes.rows)))
       tables.candidates.lists
   pub types : length tables.ranks.orders ≡ length tables.programmes.names
-  pub candidates : tables.ranks.candidates ≡ length tables.candidates.lines
+  pub candidates : tables.ranks.candidates ≡ length tables.candidates.numbers
 
 -- the market of programmes, candidates' lists, and turn orders with ranks
 unfoldable pub problem_with : Programmes → List (List ℕ) → RankTable → Problem
 problem_with programmes lists ranks =
-    record {
-      types = length programmes.names;
-      programmes = map prog_of programmes.rows;
-      lists = lists;
-      orders = ranks.orders;
-      ranks = ranks.ranks;
-    }
+    problem (length programmes.names) (map prog_of programmes.rows) lists ranks.orders ranks.ranks
 
 -- the market of three tables
 abbrev pub problem_of : Tables → Problem
@@ -80,7 +74,7 @@ codes_in files = codes_of (programmes_table files.programmes).rows
 
 -- the numbers of the candidates, by index
 unfoldable pub numbers_in : ThreeFiles → List ℕ
-numbers_in files = numbers_of (candidates_table (codes_in files) files.candidates).lines
+numbers_in files = numbers_of (candidates_table (codes_in files) files.candidates).numbers
 
 -- the tables of three files
 unfoldable pub tables_in : ThreeFiles → Tables

@@ -83,7 +83,7 @@ impl Inputs {
         ensures lists { All (IsPreferenceList (length (codes_of self.programmes.rows)))
             self.candidates.lists }
         ensures types { length self.ranks.orders ≡ length self.programmes.names }
-        ensures numbers { self.ranks.candidates ≡ length self.candidates.lines }
+        ensures numbers { self.ranks.candidates ≡ length self.candidates.numbers }
     {
         (self.programmes, self.candidates, self.ranks)
     }
@@ -152,10 +152,10 @@ fn read_ranks<R: Threads, H: Shelf>(
     requires granted { IsTrue (H.grants shelf.old name.now) }
     requires pieces { (1 ≤ pieces) × (pieces ≤ 64) }
     ensures judged { IsJudged (H.files shelf.old) name.now
-        (ranks_said programmes.now.names (numbers_of candidates.now.lines)) result
+        (ranks_said programmes.now.names (numbers_of candidates.now.numbers)) result
         (H.faults shelf.old) (H.faults shelf.new) (H.tally shelf.old) (H.tally shelf.new) }
     ensures types { IfOk result (λ lists. length lists.orders ≡ length programmes.now.names) }
-    ensures candidates { IfOk result (λ lists. lists.candidates ≡ length candidates.now.lines) }
+    ensures candidates { IfOk result (λ lists. lists.candidates ≡ length candidates.now.numbers) }
     ensures files { H.files shelf.new ≡ H.files shelf.old }
     ensures grants { H.grants shelf.new ≡ H.grants shelf.old }
 {

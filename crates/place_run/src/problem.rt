@@ -1,6 +1,7 @@
 // The market of three tables.
 ghost use Rattle.std.specs.Prelude.{◌≡◌, ◌≤◌, All, IfOk, length};
 ghost use Rattle.market.specs.Problems.{IsValid};
+ghost use Rattle.place_base.specs.declared.limits.TheConstants.{MOST_CANDIDATES};
 ghost use Rattle.programme_table.specs.Table.{codes_of};
 ghost use Rattle.candidate_table.specs.Table.{IsPreferenceList};
 ghost use Rattle.place_run.specs.Problems.{IsProblemOf};
@@ -46,7 +47,7 @@ fn build_market(
     ranks: RankLists,
 ) -> Result<Market, AllocError>
     requires lists { All (IsPreferenceList (length (codes_of programmes.now.rows))) lists.items }
-    requires few { length lists.items ≤ 3500000 }
+    requires few { length lists.items ≤ MOST_CANDIDATES }
     requires types { length ranks.orders ≡ length programmes.now.names }
     requires candidates { ranks.candidates ≡ length lists.items }
     ensures market { IfOk result (λ market.

@@ -30,7 +30,7 @@ placement_text programmes candidates held =
 -- the text of the mechanism's placement in the market of three tables
 unfoldable pub placement_of : Tables → List ℕ
 placement_of tables =
-    placement_text (codes_of tables.programmes.rows) (numbers_of tables.candidates.lines)
+    placement_text (codes_of tables.programmes.rows) (numbers_of tables.candidates.numbers)
     (mechanism_placement (problem_of tables))
 
 -- that text, of a valid market in which the mechanism's placement is the worst of the stable ones

@@ -3,7 +3,7 @@ use Rattle.std.proofs.lemmas.List.{length-map}
 use Rattle.place_base.specs.declared.fault.FileKind.TheVariants as file
 use Rattle.place_edges.specs.Shelf.{HasBytes, file_limit, tally_with}
 use Rattle.candidate_table.specs.Table.{numbers_of}
-use Rattle.rank_lists.specs.RankTables.{RankTable, ranks_table}
+use Rattle.rank_lists.specs.Table.{RankTable, ranks_table}
 use Rattle.run_frame.specs.Files.{IsJudged}
 use Rattle.run_frame.proofs.Judging.{judged-unread}
 use Rattle.run_frame.proofs.Parts.{at-error}
@@ -17,7 +17,7 @@ pub returns-in_err-bytes-clause-judged : goal.returns-in_err-bytes-clause-judged
 unfolding ranks_said
 returns-in_err-bytes-clause-judged g c =
     at-error (λ r. IsJudged (g.H.Shelf.files c.args.shelf.now) c.args.name.now
-    (ranks_said c.args.programmes.now.names (numbers_of c.args.candidates.now.lines)) r
+    (ranks_said c.args.programmes.now.names (numbers_of c.args.candidates.now.numbers)) r
     (g.H.Shelf.faults c.args.shelf.now) (g.H.Shelf.faults c.read_file.new.shelf)
     (g.H.Shelf.tally c.args.shelf.now) (g.H.Shelf.tally c.read_file.new.shelf))
     c.from_residual.result c.in_err-bytes.field-0.0 c.from_residual.ensures.1
@@ -35,27 +35,27 @@ returns-clause-judged g c =
     (arith, c.in_ok-bytes.ensures.few, c.deref.ensures.len) in
     let given = c.in_ok-bytes.ensures.given
     ∙ ap (λ n. tally_with (g.H.Shelf.tally c.args.shelf.now) n) (sym c.deref.ensures.len) in
-    judged-table _ _ bytes file.Ranks _ (ranks_table c.args.programmes.now.names (numbers_of c.args.candidates.now.lines) bytes)
-    (ranks_said c.args.programmes.now.names (numbers_of c.args.candidates.now.lines))
+    judged-table _ _ bytes file.Ranks _ (ranks_table c.args.programmes.now.names (numbers_of c.args.candidates.now.numbers) bytes)
+    (ranks_said c.args.programmes.now.names (numbers_of c.args.candidates.now.numbers))
     c.read.result c.table_or_stop.result _ _ _ _ refl held few given
     c.in_ok-bytes.ensures.causes.faults c.in_ok-bytes.ensures.causes.tally
     (other-ranks bytes) c.read.ensures c.table_or_stop.ensures
 
 pub returns-clause-types : goal.returns-clause-types
 returns-clause-types g c =
-    let table = ranks_table c.args.programmes.now.names (numbers_of c.args.candidates.now.lines)
+    let table = ranks_table c.args.programmes.now.names (numbers_of c.args.candidates.now.numbers)
     c.deref.result.now in
     table-ok (λ (lists : RankTable). length lists.orders ≡ length c.args.programmes.now.names)
     c.read.result c.table_or_stop.result c.table_or_stop.ensures
     (table-read (λ (lists : RankTable). length lists.orders ≡ length c.args.programmes.now.names)
-    _ table c.read.result c.read.ensures (types-in-ranks c.args.programmes.now.names (numbers_of c.args.candidates.now.lines)
+    _ table c.read.result c.read.ensures (types-in-ranks c.args.programmes.now.names (numbers_of c.args.candidates.now.numbers)
     c.deref.result.now))
 
 pub returns-clause-candidates : goal.returns-clause-candidates
 returns-clause-candidates g c =
-    let table = ranks_table c.args.programmes.now.names (numbers_of c.args.candidates.now.lines)
+    let table = ranks_table c.args.programmes.now.names (numbers_of c.args.candidates.now.numbers)
     c.deref.result.now in
-    table-ok (λ (lists : RankTable). lists.candidates ≡ length c.args.candidates.now.lines)
+    table-ok (λ (lists : RankTable). lists.candidates ≡ length c.args.candidates.now.numbers)
     c.read.result c.table_or_stop.result c.table_or_stop.ensures
-    (table-read (λ (lists : RankTable). lists.candidates ≡ length c.args.candidates.now.lines)
-    _ table c.read.result c.read.ensures (length-map c.args.candidates.now.lines (λ line. line.0)))
+    (table-read (λ (lists : RankTable). lists.candidates ≡ length c.args.candidates.now.numbers)
+    _ table c.read.result c.read.ensures (length-map c.args.candidates.now.numbers (λ line. line.0)))

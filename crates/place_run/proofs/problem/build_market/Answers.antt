@@ -2,6 +2,7 @@ use Rattle.std.proofs.Common.{◌≡◌, ◌<◌, ◌≤◌, length, sym, subst,
 use Rattle.std.proofs.lemmas.List.{length-map}
 use Rattle.std.specs.Prelude.{All}
 use Rattle.market.specs.declared.programme.Prog.{Prog}
+use Rattle.place_base.specs.declared.limits.TheConstants.{MOST_PROGRAMMES, MOST_TYPES}
 use Rattle.programme_table.specs.Table.{codes_of, prog_of}
 use Rattle.candidate_table.specs.Table.{IsPreferenceList}
 use Rattle.place_run.proofs.Markets.{valid-market, built-market}
@@ -15,8 +16,8 @@ build-requires c =
     length-map rows prog_of in
     let coded : length (codes_of rows) ≡ length items = length-map rows (λ row. row.code) ∙ sym
     counted in
-    let few : length items ≤ 60000 = omega (arith, c.in_ok-programmes.ensures.few_programmes) in
-    let few_types : c.type_count-kinds.result ≤ 16 = omega
+    let few : length items ≤ MOST_PROGRAMMES = omega (arith, c.in_ok-programmes.ensures.few_programmes) in
+    let few_types : c.type_count-kinds.result ≤ MOST_TYPES = omega
     (arith, c.in_ok-programmes.ensures.few_types, c.type_count-kinds.ensures.length) in
     valid-market c.type_count-kinds.result items c.args.lists.items
     c.into_parts-orders.result.orders.items
@@ -35,5 +36,4 @@ returns-clause-market c =
     c.type_count-kinds.ensures.length
     c.in_ok-programmes.ensures.programmes c.into_parts-orders.ensures.orders
     c.into_parts-orders.ensures.ranks
-    c.build.ensures.types c.build.ensures.programmes c.build.ensures.lists c.build.ensures.orders
-    c.build.ensures.ranks
+    c.build.ensures

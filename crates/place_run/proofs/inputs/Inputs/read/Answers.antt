@@ -69,7 +69,7 @@ returns-in_err-ranks-clause-reading g c =
     c.in_ok-programmes.ensures.judged in
     let two = judged-as _ _ _ _ (candidates_said (codes_of programmes.rows)) (Ok candidates) _ _ _ _
     c.in_ok-programmes.ensures.files c.word-2.ensures c.in_ok-candidates.ensures.judged in
-    let three = judged-as _ _ _ _ (ranks_said programmes.names (numbers_of candidates.lines))
+    let three = judged-as _ _ _ _ (ranks_said programmes.names (numbers_of candidates.numbers))
     (Err stop) _ _ _ _ (c.in_ok-candidates.ensures.files ∙ c.in_ok-programmes.ensures.files)
     c.word-name.ensures c.in_err-ranks.ensures.judged in
     at-error (λ r. IsReading (g.H.Shelf.files c.args.shelf.now) (texts c.args.words.now)
@@ -88,7 +88,7 @@ returns-clause-reading g c =
     c.in_ok-programmes.ensures.judged in
     let two = judged-as _ _ _ _ (candidates_said (codes_of programmes.rows)) (Ok candidates) _ _ _ _
     c.in_ok-programmes.ensures.files c.word-2.ensures c.in_ok-candidates.ensures.judged in
-    let three = judged-as _ _ _ _ (ranks_said programmes.names (numbers_of candidates.lines))
+    let three = judged-as _ _ _ _ (ranks_said programmes.names (numbers_of candidates.numbers))
     (Ok ranks) _ _ _ _ (c.in_ok-candidates.ensures.files ∙ c.in_ok-programmes.ensures.files)
     c.word-name.ensures c.in_ok-ranks.ensures.judged in
     three-read _ (texts c.args.words.now) programmes candidates ranks _ _ _ _ _ _ _ _ one two three
