@@ -1,5 +1,5 @@
 -- What a run leaves of a sink, and what follows where no read and no write failed.
-use Rattle.std.proofs.Common.{◌≡◌, ◌⊎◌, ◌∙◌, ◌≤◌, ℕ, List, [], refl, sym, ap, subst, take, inl, inr, arith, Option, Some, None, Result, Ok, Err, ⊎_elim}
+use Rattle.std.proofs.Common.{◌≡◌, ◌⊎◌, ◌∙◌, ◌≤◌, ℕ, List, [], refl, sym, ap, subst, take, inl, inr, arith, Option, Some, None, Result, Ok, Err, IfOk, ⊎_elim}
 use Rattle.std.specs.Prelude.{length}
 use Rattle.place_base.specs.declared.fault.FileFault.{FileFault}
 use Rattle.place_base.specs.declared.fault.FileKind.{FileKind}
@@ -9,22 +9,22 @@ use Rattle.command_words.specs.declared.words.Command.{Command}
 use Rattle.command_words.specs.declared.words.Command.TheVariants.{Place}
 use Rattle.command_words.specs.declared.words.WordsFault.{WordsFault}
 use Rattle.place_edges.specs.Causes.{Rose}
-use Rattle.place_edges.specs.Shelf.{Files, GaveMore, file_limit}
+use Rattle.place_edges.specs.Shelf.{Files, file_limit}
 use Rattle.place_edges.specs.Sink.{Appended}
 use Rattle.programme_table.specs.Table.{codes_of}
 use Rattle.candidate_table.specs.Table.{numbers_of}
-use Rattle.run_frame.specs.Files.{AreHeld, Reads}
+use Rattle.run_frame.specs.Files.{Reads}
 use Rattle.run_frame.specs.Meetings.{Meets}
 use Rattle.run_frame.specs.Stops.{too_long}
 use Rattle.run_frame.specs.declared.stop.FileStop.{FileStop}
 use Rattle.run_frame.specs.declared.stop.FileStop.TheVariants.{Fault, ReadFault, Memory}
 use Rattle.run_frame.proofs.Parts.{appended-nothing}
-use Rattle.place_run.specs.Runs.{HasCause, IsAnswering, IsComplete, IsConstant, IsFinished, IsRun, IsWhole, LeavesSink, PlacesWhole, PrintsWorstStable, StaysInFront, Untouched, WordsCause, status_said, text_said}
-use Rattle.place_run.specs.Says.{Answer, KeepsPromise, and_then, answered, done, named, opened, says, tables_said}
+use Rattle.place_run.specs.Runs.{HasCause, IsAnswering, IsComplete, IsConstant, IsFinished, IsWhole, LeavesSink, PlacesWhole, PrintsWorstStable, StaysInFront, status_said, text_said}
+use Rattle.place_run.specs.Says.{Answer, KeepsPromise, and_then, answered, done, opened, says, tables_said}
 use Rattle.place_run.specs.Statuses.{ended, status_of}
 use Rattle.place_run.specs.Stops.{is_free}
 use Rattle.place_run.specs.Tables.{HasNoFault, ThreeFiles, candidates_said, codes_in, fault_or, judged, numbers_in, programmes_said, ranks_said, tables_in}
-use Rattle.place_run.specs.commands.Place.{AreThree, IsWorstStableText, placement_of}
+use Rattle.place_run.specs.commands.Place.{AreThree, placement_of}
 use Rattle.place_run.specs.declared.status.Ending.{Ending}
 use Rattle.place_run.specs.declared.status.Ending.TheVariants as ending
 use Rattle.place_run.specs.declared.status.Status.{Status}
@@ -34,37 +34,28 @@ use Rattle.place_run.specs.declared.status.Stop.TheVariants.{Words, File}
 use Rattle.place_run.proofs.Headline.{printed-in}
 use Rattle.place_run.proofs.Judging.{judged-short}
 
--- the status of an answer is none of the refusals, and no write fault
-ended-well : (end : Ending) (stop : Stop) → ended end ≡ status_of stop → ⊥
-ended-well ending.Done (Words refused) e = cc e
-ended-well ending.Done (File (Fault found)) e = cc e
-ended-well ending.Done (File ReadFault) e = cc e
-ended-well ending.Done (File Memory) e = cc e
+-- the stop of a status, if it is that of one
+abbrev stop_in : Status → Option Stop
+stop_in ends.Done = None
+stop_in (ends.Words refused) = Some (Words refused)
+stop_in (ends.FileFault found) = Some (File (Fault found))
+stop_in ends.ReadFault = Some (File ReadFault)
+stop_in ends.WriteFault = None
+stop_in ends.Memory = Some (File Memory)
 
-not-a-write : (stop : Stop) → ends.WriteFault ≡ status_of stop → ⊥
-not-a-write (Words refused) e = cc e
-not-a-write (File (Fault found)) e = cc e
-not-a-write (File ReadFault) e = cc e
-not-a-write (File Memory) e = cc e
+stop-in : (stop : Stop) → stop_in (status_of stop) ≡ Some stop
+stop-in (Words refused) = refl
+stop-in (File (Fault found)) = refl
+stop-in (File ReadFault) = refl
+stop-in (File Memory) = refl
 
--- two stops with one status are one
-same-stop : (one other : Stop) → status_of one ≡ status_of other → one ≡ other
-same-stop (Words refused) (Words r) e = ap (λ v. Words v) (cc e)
-same-stop (Words refused) (File (Fault f)) e = cc e
-same-stop (Words refused) (File ReadFault) e = cc e
-same-stop (Words refused) (File Memory) e = cc e
-same-stop (File (Fault found)) (Words r) e = cc e
-same-stop (File (Fault found)) (File (Fault f)) e = ap (λ v. File (Fault v)) (cc e)
-same-stop (File (Fault found)) (File ReadFault) e = cc e
-same-stop (File (Fault found)) (File Memory) e = cc e
-same-stop (File ReadFault) (Words r) e = cc e
-same-stop (File ReadFault) (File (Fault f)) e = cc e
-same-stop (File ReadFault) (File ReadFault) e = refl
-same-stop (File ReadFault) (File Memory) e = cc e
-same-stop (File Memory) (Words r) e = cc e
-same-stop (File Memory) (File (Fault f)) e = cc e
-same-stop (File Memory) (File ReadFault) e = cc e
-same-stop (File Memory) (File Memory) e = refl
+-- an answer that is written whole ends in no stop, and in no write fault
+ended-well : (end : Ending) → (stop_in (ended end) ≡ None) × (ended end ≡ ends.WriteFault → ⊥)
+ended-well ending.Done = (refl, λ e. cc e)
+
+no-stop : (status : Status) (stop : Stop) → stop_in status ≡ None → status ≡ status_of stop → ⊥
+no-stop status stop none same =
+    let e : None ≡ Some stop = sym none ∙ ap stop_in same ∙ stop-in stop in cc e
 
 -- a status that is a stop's is that of the answer
 stopped : {K : Type 0} (written : K → Option (List ℕ)) (faults : K → ℕ)
@@ -72,17 +63,12 @@ stopped : {K : Type 0} (written : K → Option (List ℕ)) (faults : K → ℕ)
     → IsFinished written faults answer status old new → status ≡ status_of stop
     → (answer ≡ Err stop) × (new ≡ old)
 stopped written faults (Ok answer) status old new stop (inl (well, wrote)) same =
-    absurd (ended-well answer.ending stop (sym well ∙ same))
+    absurd (no-stop status stop (ap stop_in well ∙ (ended-well answer.ending).0) same)
 stopped written faults (Ok answer) status old new stop (inr (fault, wrote, rose)) same =
-    absurd (not-a-write stop (sym fault ∙ same))
+    absurd (no-stop status stop (ap stop_in fault) same)
 stopped written faults (Err other) status old new stop (is, same_sink) same =
-    (ap (λ v. Err v) (same-stop other stop (sym is ∙ same)), same_sink)
-
-untouched-finished : {K : Type 0} (written : K → Option (List ℕ)) (faults : K → ℕ)
-    (answer : Result Answer Stop) (status : Status) (old new : K)
-    → IsFinished written faults answer status old new → Untouched status old new
-untouched-finished written faults answer status old new finished =
-    λ stop same. (stopped written faults answer status old new stop finished same).1
+    let e : Some other ≡ Some stop = sym (stop-in other) ∙ ap stop_in (sym is ∙ same) ∙ stop-in stop in
+    (ap (λ v. Err v) (cc e), same_sink)
 
 front-finished : {K : Type 0} (written : K → Option (List ℕ)) (faults : K → ℕ)
     (answer : Result Answer Stop) (status : Status) (old new : K)
@@ -92,6 +78,16 @@ front-finished written faults (Ok answer) status old new (inr (fault, (k, few, w
     (take k answer.text, wrote)
 front-finished written faults (Err stop) status old new (is, same) =
     ([], appended-nothing (written old) (written new) (ap written same))
+
+write-cause : {K : Type 0} (written : K → Option (List ℕ)) (faults : K → ℕ)
+    (answer : Result Answer Stop) (status : Status) (old new : K)
+    → IsFinished written faults answer status old new → status ≡ ends.WriteFault
+    → Rose (faults old) (faults new)
+write-cause written faults (Ok answer) status old new (inl (well, wrote)) same =
+    absurd ((ended-well answer.ending).1 (sym well ∙ same))
+write-cause written faults (Ok answer) status old new (inr (fault, wrote, rose)) same = rose
+write-cause written faults (Err stop) status old new (is, same_sink) same =
+    absurd (no-stop status stop (ap stop_in same) is)
 
 -- files say no refusal of words
 behind-no-words : {T U : Type 0} (said : Result T FileStop) (next : T → Option (Result U Stop))
@@ -131,133 +127,40 @@ said-words : (said : Option (Result Answer Stop)) (refused : WordsFault)
 said-words said refused (inl free) = cc free
 said-words said refused (inr e) = e
 
--- a run is an answer and how it was written
-abbrev pub run-of : {K : Type 0} (written : K → Option (List ℕ)) (faults : K → ℕ)
-    (told : Option Files) (words : List (List ℕ)) (answer : Result Answer Stop) (status : Status)
-    (old new : K) (before now tally_before tally_now : ℕ)
-    → IsAnswering told words (command_of words) answer before now tally_before tally_now
-    → IsFinished written faults answer status old new
-    → IsRun written faults told words status old new before now tally_before tally_now
-run-of written faults told words answer status old new before now tally_before tally_now answers
-    finished = record { answer = answer; answers = answers; finished = finished }
-
-words-cause : {K : Type 0} (written : K → Option (List ℕ)) (faults : K → ℕ)
-    (told : Option Files) (words : List (List ℕ)) (status : Status) (old new : K)
-    (before now tally_before tally_now : ℕ)
-    (run : IsRun written faults told words status old new before now tally_before tally_now)
-    → ((refused : WordsFault) → command_of words ≡ Err refused → run.answer ≡ Err (Words refused))
-    → WordsCause (command_of words) status
-words-cause written faults told words status old new before now tally_before tally_now run exact =
-    record {
-      only = λ refused same.
-          let both = stopped written faults run.answer status old new (Words refused) run.finished
-          same in
-          says-refused (command_of words) run.answers.reading.reads refused
-          (said-words _ refused (subst (λ v. Meets is_free
-          (says (command_of words) run.answers.reading.reads) v) both.0 run.answers.reading.meets));
-      always = λ refused none.
-          (subst (λ v. IsFinished written faults v status old new) (exact refused none)
-          run.finished).0;
-    }
-
-read-cause : {K : Type 0} (written : K → Option (List ℕ)) (faults : K → ℕ)
-    (told : Option Files) (words : List (List ℕ)) (status : Status) (old new : K)
-    (before now tally_before tally_now : ℕ)
-    → IsRun written faults told words status old new before now tally_before tally_now
-    → status ≡ ends.ReadFault → Rose before now
-read-cause written faults told words status old new before now tally_before tally_now run same =
-    run.answers.reading.causes.read
-    (stopped written faults run.answer status old new (File ReadFault) run.finished same).0
-
-long-cause : {K : Type 0} (written : K → Option (List ℕ)) (faults : K → ℕ)
-    (told : Option Files) (words : List (List ℕ)) (status : Status) (old new : K)
-    (before now tally_before tally_now : ℕ) (kind : FileKind)
-    → IsRun written faults told words status old new before now tally_before tally_now
-    → status ≡ ends.FileFault (too_long kind) → GaveMore tally_before tally_now file_limit
-long-cause written faults told words status old new before now tally_before tally_now kind run same =
-    run.answers.reading.causes.long kind
-    (stopped written faults run.answer status old new (File (Fault (too_long kind))) run.finished
-    same).0
-
-ended-no-fault : (end : Ending) → ended end ≡ ends.WriteFault → ⊥
-ended-no-fault ending.Done e = cc e
-
-write-cause : {K : Type 0} (written : K → Option (List ℕ)) (faults : K → ℕ)
+-- where it is done, an answer was appended whole
+done-finished : {K : Type 0} (written : K → Option (List ℕ)) (faults : K → ℕ)
     (answer : Result Answer Stop) (status : Status) (old new : K)
-    → IsFinished written faults answer status old new → status ≡ ends.WriteFault
-    → Rose (faults old) (faults new)
-write-cause written faults (Ok answer) status old new (inl (well, wrote)) same =
-    absurd (ended-no-fault answer.ending (sym well ∙ same))
-write-cause written faults (Ok answer) status old new (inr (fault, wrote, rose)) same = rose
-write-cause written faults (Err stop) status old new (is, same_sink) same =
-    absurd (not-a-write stop (sym same ∙ is))
+    → IsFinished written faults answer status old new → status ≡ ends.Done
+    → (ready : Answer) × (answer ≡ Ok ready) × Appended (written old) (written new) ready.text
+done-finished written faults (Ok answer) status old new (inl (is, wrote)) well =
+    (answer, refl, wrote)
+done-finished written faults (Ok answer) status old new (inr (fault, wrote, rose)) well =
+    cc (sym fault ∙ well)
+done-finished written faults (Err stop) status old new (is, same) well =
+    absurd (no-stop status stop (ap stop_in well) is)
 
--- where `place` is done, its promise is kept by what was appended
-pub worst-done : {K : Type 0} (written : K → Option (List ℕ)) (faults : K → ℕ)
-    (told : Option Files) (words : List (List ℕ)) (status : Status) (old new : K)
-    (before now tally_before tally_now : ℕ)
-    → IsRun written faults told words status old new before now tally_before tally_now
-    → PrintsWorstStable told words status (written old) (written new)
-worst-done written faults told words status old new before now tally_before tally_now run =
-    λ workers accepted well. by_answer run.answer run.answers run.finished workers accepted well
-  where
-    by_answer : (answer : Result Answer Stop)
-        → IsAnswering told words (command_of words) answer before now tally_before tally_now
-        → IsFinished written faults answer status old new → (workers : ℕ)
-        → command_of words ≡ Ok (Place workers) → status ≡ ends.Done
-        → (reads : Reads) × AreHeld told (named words) reads
-        × (text : List ℕ) × IsWorstStableText reads text × Appended (written old) (written new) text
-    by_answer (Ok answer) answers (inl (is, wrote)) workers accepted well = (
-      answers.reading.reads,
-      answers.reading.held,
-      answer.text,
-      subst (λ v. KeepsPromise v answers.reading.reads answer.text) accepted answers.promise,
-      wrote,
-    )
-    by_answer (Ok answer) answers (inr (fault, wrote, rose)) workers accepted well =
-        cc (sym fault ∙ well)
-    by_answer (Err stop) answers (is, same) workers accepted well =
-        absurd (ended-well ending.Done stop (sym well ∙ is))
-
--- where no read and no write failed, all that is said was done, or memory was refused
-whole-run : {K : Type 0} (written : K → Option (List ℕ)) (faults : K → ℕ)
-    (told : Option Files) (words : List (List ℕ)) (status : Status) (old new : K)
-    (before now tally_before tally_now : ℕ)
-    → IsRun written faults told words status old new before now tally_before tally_now
-    → (Rose before now → ⊥) → (Rose (faults old) (faults new) → ⊥)
-    → IsWhole told words status (written old) (written new)
-whole-run written faults told words status old new before now tally_before tally_now run no_read
-    no_write = (
-      run.answers.reading.reads,
-      run.answers.reading.held,
-      by_answer run.answer run.answers run.finished,
-    )
-  where
-    by_answer : (answer : Result Answer Stop)
-        → (answers : IsAnswering told words (command_of words) answer before now tally_before tally_now)
-        → IsFinished written faults answer status old new
-        → (status ≡ ends.Memory)
-        ⊎ ((said : Result Answer Stop)
-        × (says (command_of words) answers.reading.reads ≡ Some said)
-        × (status ≡ status_said said) × Appended (written old) (written new) (text_said said))
-    by_answer (Ok answer) answers (inl (well, wrote)) =
-        inr (Ok answer, answers.reading.meets, well, wrote)
-    by_answer (Ok answer) answers (inr (fault, wrote, rose)) = absurd (no_write rose)
-    by_answer (Err (Words refused)) answers (is, same) = inr (
-      Err (Words refused),
-      said-words _ refused answers.reading.meets,
-      is,
-      appended-nothing (written old) (written new) (ap written same),
-    )
-    by_answer (Err (File (Fault found))) answers (is, same) = inr (
-      Err (File (Fault found)),
-      ⊎_elim (λ free. cc free) (λ said. said) answers.reading.meets,
-      is,
-      appended-nothing (written old) (written new) (ap written same),
-    )
-    by_answer (Err (File ReadFault)) answers finished =
-        absurd (no_read (answers.reading.causes.read refl))
-    by_answer (Err (File Memory)) answers (is, same) = inl is
+-- where no write failed, what is said was done, or memory was refused
+said-finished : {K : Type 0} (written : K → Option (List ℕ)) (faults : K → ℕ)
+    (said : Option (Result Answer Stop)) (answer : Result Answer Stop) (status : Status) (old new : K)
+    → Meets is_free said answer → IsFinished written faults answer status old new
+    → (answer ≡ Err (File ReadFault) → ⊥) → (Rose (faults old) (faults new) → ⊥)
+    → (status ≡ ends.Memory)
+    ⊎ ((all : Result Answer Stop) × (said ≡ Some all)
+    × (status ≡ status_said all) × Appended (written old) (written new) (text_said all))
+said-finished written faults said (Ok answer) status old new meets (inl (well, wrote)) read write =
+    inr (Ok answer, meets, well, wrote)
+said-finished written faults said (Ok answer) status old new meets (inr (fault, wrote, rose)) read
+    write = absurd (write rose)
+said-finished written faults said (Err stop) status old new (inr e) (is, same) read write =
+    inr (Err stop, e, is, appended-nothing (written old) (written new) (ap written same))
+said-finished written faults said (Err (Words refused)) status old new (inl free) finished read
+    write = cc free
+said-finished written faults said (Err (File (Fault found))) status old new (inl free) finished read
+    write = cc free
+said-finished written faults said (Err (File ReadFault)) status old new (inl free) finished read
+    write = absurd (read refl)
+said-finished written faults said (Err (File Memory)) status old new (inl free) (is, same) read
+    write = inl is
 
 -- a count that is constant does not rise
 pub constant-count : {S : Type 0} (count : S → ℕ) (old new : S) → IsConstant count
@@ -321,43 +224,64 @@ places-whole (Some files) words status old new (reads, held, whole) =
     ))
     whole
 
-pub complete-run : {K : Type 0} (written : K → Option (List ℕ)) (faults : K → ℕ)
-    (told : Option Files) (words : List (List ℕ)) (status : Status) (old new : K)
+-- the clauses of a run, from its answer and how it was written
+module _ {K : Type 0} (written : K → Option (List ℕ)) (faults : K → ℕ) (told : Option Files)
+    (words : List (List ℕ)) (answer : Result Answer Stop) (status : Status) (old new : K)
     (before now tally_before tally_now : ℕ)
-    → IsRun written faults told words status old new before now tally_before tally_now
-    → (Rose before now → ⊥) → (Rose (faults old) (faults new) → ⊥)
-    → IsComplete told words status (written old) (written new)
-complete-run written faults told words status old new before now tally_before tally_now run no_read
-    no_write =
-    let whole = whole-run written faults told words status old new before now tally_before tally_now
-    run no_read no_write in
-    record {
-      whole = whole;
-      places = places-whole told words status (written old) (written new) whole;
-    }
+    (answers : IsAnswering told words (command_of words) answer before now tally_before tally_now)
+    (finished : IsFinished written faults answer status old new) where
 
-pub causes-run : {K : Type 0} (written : K → Option (List ℕ)) (faults : K → ℕ)
-    (told : Option Files) (words : List (List ℕ)) (status : Status) (old new : K)
-    (before now tally_before tally_now : ℕ)
-    (run : IsRun written faults told words status old new before now tally_before tally_now)
-    → ((refused : WordsFault) → command_of words ≡ Err refused → run.answer ≡ Err (Words refused))
-    → HasCause (command_of words) status before now tally_before tally_now (faults old) (faults new)
-causes-run written faults told words status old new before now tally_before tally_now run exact =
-    record {
-      words = words-cause written faults told words status old new before now tally_before tally_now
-          run exact;
-      read = read-cause written faults told words status old new before now tally_before tally_now run;
-      long = λ kind. long-cause written faults told words status old new before now tally_before
-          tally_now kind run;
-      write = write-cause written faults run.answer status old new run.finished;
-    }
+  pub worst-done : PrintsWorstStable told words status (written old) (written new)
+  worst-done = λ workers accepted well.
+      let ready = done-finished written faults answer status old new finished well in
+      (
+        answers.reading.reads,
+        answers.reading.held,
+        ready.0.text,
+        subst (λ v. KeepsPromise v answers.reading.reads ready.0.text) accepted
+            (subst (λ v. IfOk v (λ r. KeepsPromise (command_of words) answers.reading.reads r.text))
+            ready.1 answers.promise),
+        ready.2,
+      )
 
-pub leaves-sink : {K : Type 0} (written : K → Option (List ℕ)) (faults : K → ℕ)
-    (answer : Result Answer Stop) (status : Status) (old new : K)
-    → IsFinished written faults answer status old new → faults old ≤ faults new
-    → LeavesSink written faults status old new
-leaves-sink written faults answer status old new finished later = record {
-  kept = front-finished written faults answer status old new finished;
-  untouched = untouched-finished written faults answer status old new finished;
-  later = later;
-}
+  pub complete-run : (Rose before now → ⊥) → (Rose (faults old) (faults new) → ⊥)
+      → IsComplete told words status (written old) (written new)
+  complete-run no_read no_write =
+      let whole : IsWhole told words status (written old) (written new) = (
+        answers.reading.reads,
+        answers.reading.held,
+        said-finished written faults _ answer status old new answers.reading.meets finished
+            (λ unread. no_read (answers.reading.causes.read unread)) no_write,
+      ) in
+      record {
+        whole = whole;
+        places = places-whole told words status (written old) (written new) whole;
+      }
+
+  pub causes-run : ((refused : WordsFault) → command_of words ≡ Err refused
+      → answer ≡ Err (Words refused))
+      → HasCause (command_of words) status before now tally_before tally_now (faults old) (faults new)
+  causes-run exact =
+      let at = stopped written faults answer status old new in
+      record {
+        words = record {
+          only = λ refused same. says-refused (command_of words) answers.reading.reads refused
+              (said-words _ refused (subst (λ v. Meets is_free
+              (says (command_of words) answers.reading.reads) v) (at (Words refused) finished same).0
+              answers.reading.meets));
+          always = λ refused none.
+              (subst (λ v. IsFinished written faults v status old new) (exact refused none)
+              finished).0;
+        };
+        read = λ same. answers.reading.causes.read (at (File ReadFault) finished same).0;
+        long = λ kind same. answers.reading.causes.long kind
+            (at (File (Fault (too_long kind))) finished same).0;
+        write = write-cause written faults answer status old new finished;
+      }
+
+  pub leaves-sink : faults old ≤ faults new → LeavesSink written faults status old new
+  leaves-sink later = record {
+    kept = front-finished written faults answer status old new finished;
+    untouched = λ stop same. (stopped written faults answer status old new stop finished same).1;
+    later = later;
+  }
