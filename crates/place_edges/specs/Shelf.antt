@@ -1,5 +1,5 @@
 -- What a shelf holds, and what its calls do.
-use Rattle.std.specs.Prelude.{◌≡◌, ℕ, ◌+◌, ◌-◌, ◌^◌, ◌<◌, ◌≤◌, ◌⊎◌, min, max, List, [], ◌++◌, length, take, Option, Some, None, Result, Ok, Err, IsSome, ⊤}
+use Rattle.std.specs.Prelude.{◌≡◌, ℕ, ◌+◌, ◌-◌, ◌^◌, ◌<◌, ◌≤◌, ◌⊎◌, min, max, List, [], ◌++◌, length, take, Option, Some, None, Result, Ok, Err, IfSome, IsSome, ⊤}
 
 -- the most bytes that a file may have
 abbrev pub file_limit : ℕ
@@ -56,13 +56,12 @@ TakenOf (Some files) name bytes (Some rest) = files name ≡ Some (bytes ++ rest
 
 -- the named file has these bytes, where that is told
 abbrev pub HasBytes : Option Files → List ℕ → List ℕ → Type 0
-HasBytes None name bytes = ⊤
-HasBytes (Some files) name bytes = files name ≡ Some bytes
+HasBytes told name bytes = IfSome told (λ files. files name ≡ Some bytes)
 
 -- the named file has more than this many bytes, where that is told
 abbrev pub HasMore : Option Files → List ℕ → ℕ → Type 0
-HasMore None name n = ⊤
-HasMore (Some files) name n = (bytes : List ℕ) × (files name ≡ Some bytes) × (n < length bytes)
+HasMore told name n =
+    IfSome told (λ files. (bytes : List ℕ) × (files name ≡ Some bytes) × (n < length bytes))
 
 -- the tally rose by more than n, or stands at its last value
 abbrev pub GaveMore : ℕ → ℕ → ℕ → Type 0

@@ -230,11 +230,9 @@ module _ {K : Type 0} (written : K → Option (List ℕ)) (faults : K → ℕ) (
     (before now tally_before tally_now : ℕ)
     (answers : IsAnswering told words (command_of words) answer before now tally_before tally_now)
     (finished : IsFinished written faults answer status old new) where
-
   pub worst-done : PrintsWorstStable told words status (written old) (written new)
   worst-done = λ workers accepted well.
-      let ready = done-finished written faults answer status old new finished well in
-      (
+      let ready = done-finished written faults answer status old new finished well in (
         answers.reading.reads,
         answers.reading.held,
         ready.0.text,

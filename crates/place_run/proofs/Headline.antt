@@ -28,7 +28,7 @@ use Rattle.place_run.specs.commands.Place.{AreThree, IsPlaced, IsWorstStableText
 use Rattle.place_run.specs.declared.status.Stop.{Stop}
 use Rattle.place_run.specs.declared.status.Stop.TheVariants.{File, Words}
 use Rattle.place_run.proofs.Judging.{judged-short, judged-long}
-use Rattle.place_run.proofs.Readings.{are-held, reads_of}
+use Rattle.place_run.proofs.Readings.{are-held, causes-ok, reads_of}
 
 -- a file that says its table is short and has no fault
 record SaysTable {T : Type 0} (fault : Option FileFault) (table said : T) (bytes : List ℕ) : Type 0
@@ -180,12 +180,8 @@ place-answers told words tables text workers before now tally_before tally_now r
             ∙ ap (λ v. Some (Ok (done v))) (sym placed.printed);
         taken = λ _. reading.taken tt;
         begun = λ _. reading.begun (λ e. cc e);
-        causes = record {
-          faults = reading.causes.faults;
-          tally = reading.causes.tally;
-          read = λ e. cc e;
-          long = λ kind e. cc e;
-        };
+        causes = causes-ok _ before now tally_before tally_now reading.causes.faults
+            reading.causes.tally;
       };
       promise = worst-text reading.reads tables text reading.meets placed;
     }

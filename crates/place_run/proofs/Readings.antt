@@ -1,6 +1,6 @@
 -- Files that are read and judged one after the other come to what is said of all of them.
 use Rattle.std.proofs.Common.{◌≡◌, ℕ, ◌≤◌, List, Option, Some, None, Result, Ok, Err, refl, sym, ap, subst, ◌∙◌, inl, inr, arith, ⊎_elim}
-use Rattle.std.specs.Prelude.{Bool, IsTrue, IsFalse, option_map}
+use Rattle.std.specs.Prelude.{Bool, IsErrAnd, IsTrue, IsFalse, option_map}
 use Rattle.place_base.specs.declared.fault.FileKind.TheVariants as file
 use Rattle.place_edges.specs.Shelf.{Files, GaveMore, file_limit}
 use Rattle.programme_table.specs.Table.{Programmes, codes_of}
@@ -11,10 +11,11 @@ use Rattle.run_frame.specs.Meetings.{Meets}
 use Rattle.run_frame.specs.Stops.{is_free, too_long}
 use Rattle.run_frame.specs.declared.stop.FileStop.{FileStop}
 use Rattle.run_frame.specs.declared.stop.FileStop.TheVariants.{Fault, ReadFault}
+use Rattle.run_frame.proofs.Parts.{at-error}
 use Rattle.place_run.specs.Runs.{IsReading}
 use Rattle.place_run.specs.Says.{MayOpenTables, named, opened, read_from, tables_read, tables_said}
 use Rattle.place_run.specs.Stops as stops
-use Rattle.place_run.specs.Tables.{candidates_said, programmes_said, ranks_said}
+use Rattle.place_run.specs.Tables.{Tables, candidates_said, programmes_said, ranks_said}
 use Rattle.place_run.specs.declared.status.Stop.{Stop}
 use Rattle.place_run.specs.declared.status.Stop.TheVariants.{File}
 
@@ -181,6 +182,18 @@ may-open-ranks told grants words programmes candidates first before now tally_fi
     may.ranks said.0 says.0 programmes candidates
     (subst (IsHeld told (named words file.Programmes)) said.1 one.held) said.2
     (subst (IsHeld told (named words file.Candidates)) says.1 two.held) says.2
+
+-- what reading came to that ended in a stop, of a result that is this stop
+pub stopped-as : (told : Option Files) (words : List (List ℕ)) (stop : FileStop)
+    (result : Result Tables Stop) (before now tally_before tally_now : ℕ)
+    → IsErrAnd result (λ found. found ≡ File stop)
+    → IsReading told words (Some file.Programmes) tables_said tables_read (Err (File stop))
+    before now tally_before tally_now
+    → IsReading told words (Some file.Programmes) tables_said tables_read result
+    before now tally_before tally_now
+stopped-as told words stop result before now tally_before tally_now is reading =
+    at-error (λ r. IsReading told words (Some file.Programmes) tables_said tables_read r
+    before now tally_before tally_now) result (File stop) is reading
 
 -- the first file has a stop
 pub first-stops : (told : Option Files) (words : List (List ℕ)) (stop : FileStop)

@@ -1,5 +1,5 @@
 -- What may be said of a run: the promise of the top call.
-use Rattle.std.specs.Prelude.{◌≡◌, ◌≤◌, ◌<◌, ◌⊎◌, ℕ, ◌-◌, ◌^◌, List, [], IfOk, IsErrOf, Option, Some, None, Result, Ok, Err, ⊤}
+use Rattle.std.specs.Prelude.{◌≡◌, ◌≤◌, ◌<◌, ◌⊎◌, ℕ, ◌-◌, ◌^◌, List, [], IfOk, IfSome, IsErrOf, Option, Some, None, Result, Ok, Err, ⊤}
 use Rattle.place_base.specs.declared.fault.FileKind.{FileKind}
 use Rattle.command_words.specs.Words.{command_of}
 use Rattle.command_words.specs.declared.words.Command.{Command}
@@ -110,14 +110,13 @@ IsWhole told words status old new =
 -- whole, or memory was refused
 abbrev pub PlacesWhole : Option Files → List (List ℕ) → Status
     → Option (List ℕ) → Option (List ℕ) → Type 0
-PlacesWhole None words status old new = ⊤
-PlacesWhole (Some files) words status old new =
+PlacesWhole told words status old new = IfSome told (λ files.
     (three : ThreeFiles) (workers : ℕ) → command_of words ≡ Ok (Place workers)
     → AreThree (λ kind. files (named words kind)) three → HasNoFault three
     → (status ≡ ends.Memory)
     ⊎ ((status ≡ ends.Done)
     × Appended old new (placement_text (codes_in three) (numbers_in three)
-    (mechanism_placement (problem_of (tables_in three)))))
+    (mechanism_placement (problem_of (tables_in three))))))
 
 -- both: all that is said is done, and files without a fault are placed
 pub record IsComplete (told : Option Files) (words : List (List ℕ)) (status : Status)

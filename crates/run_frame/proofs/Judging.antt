@@ -1,6 +1,6 @@
 -- A file that was read whole is judged by its bytes; one that was not has its cause.
 use Rattle.std.proofs.Common.{◌≡◌, ℕ, ◌+◌, ◌<◌, ◌≤◌, List, [], ◌∷◌, Option, Some, None, Result, Err, refl, sym, ap, subst, ◌∙◌, inl, inr, arith}
-use Rattle.std.specs.Prelude.{length, replicate, IsErrOf}
+use Rattle.std.specs.Prelude.{length, replicate, IsErrAnd, IsErrOf}
 use Rattle.std.proofs.lemmas.List.{length-replicate}
 use Rattle.place_base.specs.declared.fault.FileKind.{FileKind}
 use Rattle.place_edges.specs.Shelf.{Files, HasBytes, HasMore, file_limit, tally_with}
@@ -9,6 +9,7 @@ use Rattle.run_frame.specs.Meetings.{Meets}
 use Rattle.run_frame.specs.Stops.{is_free, too_long}
 use Rattle.run_frame.specs.declared.stop.FileStop.{FileStop}
 use Rattle.run_frame.specs.declared.stop.FileStop.TheVariants.{Fault, ReadFault, Memory}
+use Rattle.run_frame.proofs.Parts.{at-error}
 
 -- a file that has more than so many bytes: one that is held, where that is told, and else some
 long-file : (told : Option Files) (name : List ℕ) (n : ℕ) → HasMore told name n
@@ -42,16 +43,16 @@ pub judged-bytes : {T : Type 0} (told : Option Files) (name bytes : List ℕ)
     → IsJudged told name judge result before now tally_before tally_now
 judged-bytes told name bytes judge result before now tally_before tally_now held few given meets
     causes = record {
-  bytes = Some bytes;
-  held = held-bytes told name bytes held;
-  meets = meets;
-  taken = λ file same decided.
-      let e : file ≡ bytes = cc same in
-      subst (λ v. IsTaken v tally_before tally_now) (sym e)
-      (record { short = λ _. given; long = λ many. absurd (omega (arith, few, many)) });
-  begun = λ unread. begun-bytes bytes tally_before tally_now given;
-  causes = causes;
-}
+      bytes = Some bytes;
+      held = held-bytes told name bytes held;
+      meets = meets;
+      taken = λ file same decided.
+          let e : file ≡ bytes = cc same in
+          subst (λ v. IsTaken v tally_before tally_now) (sym e)
+          (record { short = λ _. given; long = λ many. absurd (omega (arith, few, many)) });
+      begun = λ unread. begun-bytes bytes tally_before tally_now given;
+      causes = causes;
+    }
 
 -- the causes of a stop are the same whatever there would be without it
 same-causes : {T S : Type 0} (stop : FileStop) (before now tally_before tally_now : ℕ)
@@ -66,7 +67,7 @@ same-causes stop before now tally_before tally_now causes = record {
 }
 
 -- a file that was not read whole is judged so
-pub judged-unread : {T S : Type 0} (told : Option Files) (name : List ℕ) (kind : FileKind)
+judged-unread : {T S : Type 0} (told : Option Files) (name : List ℕ) (kind : FileKind)
     (judge : List ℕ → Result T FileStop) (stop : FileStop)
     (before now tally_before tally_now : ℕ)
     → ((bytes : List ℕ) → file_limit < length bytes → judge bytes ≡ Err (Fault (too_long kind)))
@@ -108,3 +109,17 @@ judged-unread told name kind judge Memory before now tally_before tally_now long
       begun = λ unread. inr (begun refl);
       causes = same-causes _ before now tally_before tally_now causes;
     }
+
+-- the same of a result that is its stop
+pub judged-stop : {T S : Type 0} (told : Option Files) (name : List ℕ) (kind : FileKind)
+    (judge : List ℕ → Result T FileStop) (stop : FileStop) (result : Result T FileStop)
+    (before now tally_before tally_now : ℕ) → IsErrAnd result (λ found. found ≡ stop)
+    → ((bytes : List ℕ) → file_limit < length bytes → judge bytes ≡ Err (Fault (too_long kind)))
+    → IsUnread told name kind stop
+    → (IsErrOf {T = S} (Err stop) Memory → tally_with tally_before 1 ≤ tally_now)
+    → HasCauses {T = S} (λ stop. stop) (Err stop) before now tally_before tally_now
+    → IsJudged told name judge result before now tally_before tally_now
+judged-stop told name kind judge stop result before now tally_before tally_now is long unread begun
+    causes =
+    at-error (λ r. IsJudged told name judge r before now tally_before tally_now) result stop is
+    (judged-unread told name kind judge stop before now tally_before tally_now long unread begun causes)

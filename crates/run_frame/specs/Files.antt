@@ -1,5 +1,5 @@
 -- What reading files came to.
-use Rattle.std.specs.Prelude.{◌≡◌, ◌≤◌, ◌<◌, ◌⊎◌, ℕ, List, [], ◌∷◌, length, Option, Some, None, Result, IsErrOf, option_map, ⊤}
+use Rattle.std.specs.Prelude.{◌≡◌, ◌≤◌, ◌<◌, ◌⊎◌, ℕ, List, [], ◌∷◌, length, Option, Some, None, Result, IsErrOf, IfSome, option_map, ⊤}
 use Rattle.place_base.specs.declared.fault.FileKind.{FileKind}
 use Rattle.place_edges.specs.Causes.{Rose}
 use Rattle.place_edges.specs.Shelf.{Files, GaveMore, HasMore, file_limit, tally_with}
@@ -26,8 +26,7 @@ pub record HasCauses {T S : Type 0} (stopped : FileStop → S) (result : Result 
 
 -- the bytes held under a name, none where there is no such file, if that is told
 abbrev pub IsHeld : Option Files → List ℕ → Option (List ℕ) → Type 0
-IsHeld None name held = ⊤
-IsHeld (Some files) name held = files name ≡ held
+IsHeld told name held = IfSome told (λ files. files name ≡ held)
 
 -- the tally rose by the bytes of a file, or by more than 2^30 where it has more
 pub record IsTaken (bytes : List ℕ) (before now : ℕ) : Type 0 where
@@ -63,5 +62,5 @@ Reads = FileKind → Option (List ℕ)
 
 -- they are those held under the files' names, if that is told
 abbrev pub AreHeld : Option Files → (FileKind → List ℕ) → Reads → Type 0
-AreHeld None names reads = ⊤
-AreHeld (Some files) names reads = (kind : FileKind) → files (names kind) ≡ reads kind
+AreHeld told names reads =
+    IfSome told (λ files. (kind : FileKind) → files (names kind) ≡ reads kind)

@@ -2,9 +2,7 @@ use Rattle.std.proofs.Common.{◌≤◌, length, refl, sym, ap, subst, ◌∙◌
 use Rattle.place_base.specs.declared.fault.FileKind.TheVariants as file
 use Rattle.place_edges.specs.Shelf.{HasBytes, file_limit, tally_with}
 use Rattle.programme_table.specs.Table.{programmes_table}
-use Rattle.run_frame.specs.Files.{IsJudged}
-use Rattle.run_frame.proofs.Judging.{judged-unread}
-use Rattle.run_frame.proofs.Parts.{at-error}
+use Rattle.run_frame.proofs.Judging.{judged-stop}
 use Rattle.place_run.specs.Tables.{programmes_said}
 use Rattle.place_run.proofs.Judging.{judged-long, judged-table}
 use Rattle.place_run.proofs.TableFaults.{other-programmes}
@@ -13,13 +11,9 @@ use Rattle.place_run.proofs.inputs.read_programmes.Goals as goal
 pub returns-in_err-bytes-clause-judged : goal.returns-in_err-bytes-clause-judged
 unfolding programmes_said
 returns-in_err-bytes-clause-judged g c =
-    at-error (λ r. IsJudged (g.H.Shelf.files c.args.shelf.now) c.args.name.now programmes_said r
-    (g.H.Shelf.faults c.args.shelf.now) (g.H.Shelf.faults c.read_file.new.shelf)
-    (g.H.Shelf.tally c.args.shelf.now) (g.H.Shelf.tally c.read_file.new.shelf))
-    c.from_residual.result c.in_err-bytes.field-0.0 c.from_residual.ensures.1
-    (judged-unread _ _ file.Programmes _ _ _ _ _ _
-    (λ bytes many. judged-long file.Programmes _ _ bytes many)
-    c.in_err-bytes.ensures.told c.in_err-bytes.ensures.memory c.in_err-bytes.ensures.causes)
+    judged-stop _ _ file.Programmes _ _ _ _ _ _ _ c.from_residual.ensures.1
+    (λ bytes many. judged-long file.Programmes _ _ bytes many) c.in_err-bytes.ensures.told
+    c.in_err-bytes.ensures.memory c.in_err-bytes.ensures.causes
 
 pub returns-clause-judged : goal.returns-clause-judged
 unfolding programmes_said

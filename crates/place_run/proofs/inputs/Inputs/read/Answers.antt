@@ -1,14 +1,9 @@
-use Rattle.std.proofs.Common.{◌∙◌, Some, Ok, Err, refl}
+use Rattle.std.proofs.Common.{◌∙◌, Ok, Err, refl}
 use Rattle.command_words.specs.Words.{texts}
-use Rattle.place_base.specs.declared.fault.FileKind.TheVariants as file
 use Rattle.programme_table.specs.Table.{codes_of}
 use Rattle.candidate_table.specs.Table.{numbers_of}
-use Rattle.run_frame.proofs.Parts.{at-error}
-use Rattle.place_run.specs.Runs.{IsReading}
-use Rattle.place_run.specs.Says.{tables_read, tables_said}
 use Rattle.place_run.specs.Tables.{candidates_said, programmes_said, ranks_said}
-use Rattle.place_run.specs.declared.status.Stop.TheVariants.{File}
-use Rattle.place_run.proofs.Readings.{first-stops, granted-as, judged-as, may-open-candidates, may-open-ranks, second-stops, third-stops, three-read}
+use Rattle.place_run.proofs.Readings.{first-stops, granted-as, judged-as, may-open-candidates, may-open-ranks, second-stops, stopped-as, third-stops, three-read}
 use Rattle.place_run.proofs.inputs.Inputs.read.Goals as goal
 
 pub returns-in_err-programmes-clause-reading : goal.returns-in_err-programmes-clause-reading
@@ -16,11 +11,7 @@ returns-in_err-programmes-clause-reading g c =
     let stop = c.in_err-programmes.field-0.0 in
     let one = judged-as _ _ _ _ programmes_said (Err stop) _ _ _ _ refl c.word.ensures
     c.in_err-programmes.ensures.judged in
-    at-error (λ r. IsReading (g.H.Shelf.files c.args.shelf.now) (texts c.args.words.now)
-    (Some file.Programmes) tables_said tables_read r
-    (g.H.Shelf.faults c.args.shelf.now) (g.H.Shelf.faults c.read_programmes.new.shelf)
-    (g.H.Shelf.tally c.args.shelf.now) (g.H.Shelf.tally c.read_programmes.new.shelf))
-    c.from_residual.result (File stop) c.from_residual.ensures.1
+    stopped-as _ _ _ c.from_residual.result _ _ _ _ c.from_residual.ensures.1
     (first-stops _ (texts c.args.words.now) stop _ _ _ _ one)
 
 pub read_candidates-requires-clause-granted : goal.read_candidates-requires-clause-granted
@@ -39,11 +30,7 @@ returns-in_err-candidates-clause-reading g c =
     c.in_ok-programmes.ensures.judged in
     let two = judged-as _ _ _ _ (candidates_said (codes_of programmes.rows)) (Err stop) _ _ _ _
     c.in_ok-programmes.ensures.files c.word-2.ensures c.in_err-candidates.ensures.judged in
-    at-error (λ r. IsReading (g.H.Shelf.files c.args.shelf.now) (texts c.args.words.now)
-    (Some file.Programmes) tables_said tables_read r
-    (g.H.Shelf.faults c.args.shelf.now) (g.H.Shelf.faults c.read_candidates.new.shelf)
-    (g.H.Shelf.tally c.args.shelf.now) (g.H.Shelf.tally c.read_candidates.new.shelf))
-    c.from_residual-in_err-candidates.result (File stop)
+    stopped-as _ _ _ c.from_residual-in_err-candidates.result _ _ _ _
     c.from_residual-in_err-candidates.ensures.1
     (second-stops _ (texts c.args.words.now) programmes stop _ _ _ _ _ _ one two)
 
@@ -72,11 +59,7 @@ returns-in_err-ranks-clause-reading g c =
     let three = judged-as _ _ _ _ (ranks_said programmes.names (numbers_of candidates.numbers))
     (Err stop) _ _ _ _ (c.in_ok-candidates.ensures.files ∙ c.in_ok-programmes.ensures.files)
     c.word-name.ensures c.in_err-ranks.ensures.judged in
-    at-error (λ r. IsReading (g.H.Shelf.files c.args.shelf.now) (texts c.args.words.now)
-    (Some file.Programmes) tables_said tables_read r
-    (g.H.Shelf.faults c.args.shelf.now) (g.H.Shelf.faults c.read_ranks.new.shelf)
-    (g.H.Shelf.tally c.args.shelf.now) (g.H.Shelf.tally c.read_ranks.new.shelf))
-    c.from_residual-in_err-ranks.result (File stop) c.from_residual-in_err-ranks.ensures.1
+    stopped-as _ _ _ c.from_residual-in_err-ranks.result _ _ _ _ c.from_residual-in_err-ranks.ensures.1
     (third-stops _ (texts c.args.words.now) programmes candidates stop _ _ _ _ _ _ _ _ one two three)
 
 pub returns-clause-reading : goal.returns-clause-reading
