@@ -3,5 +3,5 @@ use Rattle.command_words.specs.Words.{CommandForm}
 use Rattle.command_words.specs.declared.words.Form.{Form}
 
 -- the line of the grammar that a line of the table stands for
-abbrev pub line_of : Form → CommandForm
-line_of form = record { word = form.word.now; further = form.further; command = form.command }
+abbrev pub grammar_line : Form → CommandForm
+grammar_line form = record { word = form.word.now; further = form.further; command = form.command }

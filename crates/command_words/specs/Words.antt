@@ -24,7 +24,8 @@ grammar = record { word = codes "place"; further = 3; command = Place 4 } ∷ []
 abbrev pub form_of : List ℕ → Option CommandForm
 form_of word = find (λ form. bytes_eq form.word word) grammar
 
--- what so many words behind a command's own mean, or the first place at which one is missing or one too many stands
+-- what so many words behind a command's own mean, or the first place at which one is missing or one
+-- too many stands
 abbrev pub command_with : ℕ → Option CommandForm → Result Command WordsFault
 command_with count None = Err (UnknownCommand 1)
 command_with count (Some form) =

@@ -1,7 +1,7 @@
 // The table of commands, and the reading of a list of words against it.
 ghost use Rattle.std.specs.Prelude.{◌≡◌};
 ghost use Rattle.std.specs.Option.{option_map};
-ghost use Rattle.command_words.specs.Forms.{line_of};
+ghost use Rattle.command_words.specs.Forms.{grammar_line};
 ghost use Rattle.command_words.specs.Words.{command_of, form_of, texts};
 
 // The number of workers where the words give none.
@@ -68,7 +68,7 @@ pub fn read_words(words: &[String]) -> Result<Command, WordsFault>
 
 // The line of the grammar with this word.
 fn find_form(word: &[u8]) -> Option<Form>
-    ensures { option_map line_of result ≡ form_of word.now }
+    ensures { option_map grammar_line result ≡ form_of word.now }
 {
     FORMS.iter().copied().find(|form| form.word == word)
 }

@@ -13,7 +13,8 @@ piece_size = 2 ^ 16
 abbrev pub Files : Type 0
 Files = List ℕ → Option (List ℕ)
 
--- an open makes the named file current from its start; a shelf that tells its files opens only what it holds
+-- an open makes the named file current from its start; a shelf that tells its files opens only what
+-- it holds
 abbrev pub Opens : {T E : Type 0} → Option Files → List ℕ → Result T E → Option (List ℕ) → Type 0
 Opens None name result rest = ⊤
 Opens (Some files) name (Ok _) rest = (files name ≡ rest) × IsSome rest

@@ -13,7 +13,8 @@ use std::rt::Files;
 
 /// The files of the system, by their paths. It tells no bytes and grants every name.
 ///
-/// A file that is missing or may not be read fails to open. A directory opens, and its first read fails.
+/// A file that is missing or may not be read fails to open. A directory opens, and its first read
+/// fails.
 #[derive(Drop)]
 pub struct RealShelf<R: Files + Drop> {
     rt: R,
@@ -115,8 +116,8 @@ pub(crate) fn take_from<R: Read>(
 
 /// A stream of the system, which tells nothing of what it got.
 ///
-/// A put flushes the stream before it answers. Where the flush fails the put fails, though the stream may have got
-/// some of its bytes.
+/// A put flushes the stream before it answers. Where the flush fails the put fails, though the
+/// stream may have got some of its bytes.
 #[derive(Drop)]
 pub struct RealSink<W: Write> {
     inner: W,

@@ -115,8 +115,8 @@ fn a_directory_and_a_missing_file_are_not_read(rt: HostRuntime) -> Result<(), Fa
     Ok(())
 }
 
-// A stream whose calls answer in turn: the first write and the first flush are interrupted, the next take two bytes,
-// and from then on writes take nothing.
+// A stream whose calls answer in turn: the first write and the first flush are interrupted, the
+// next take two bytes, and from then on writes take nothing.
 #[derive(Drop)]
 struct Stream {
     writes: u8,

@@ -67,7 +67,8 @@ stopped written faults (Ok answer) status old new stop (inl (well, wrote)) same 
 stopped written faults (Ok answer) status old new stop (inr (fault, wrote, rose)) same =
     absurd (no-stop status stop (ap stop_in fault) same)
 stopped written faults (Err other) status old new stop (is, same_sink) same =
-    let e : Some other ≡ Some stop = sym (stop-in other) ∙ ap stop_in (sym is ∙ same) ∙ stop-in stop in
+    let e : Some other ≡ Some stop = sym (stop-in other) ∙ ap stop_in (sym is ∙ same)
+    ∙ stop-in stop in
     (ap (λ v. Err v) (cc e), same_sink)
 
 front-finished : {K : Type 0} (written : K → Option (List ℕ)) (faults : K → ℕ)
@@ -141,7 +142,8 @@ done-finished written faults (Err stop) status old new (is, same) well =
 
 -- where no write failed, what is said was done, or memory was refused
 said-finished : {K : Type 0} (written : K → Option (List ℕ)) (faults : K → ℕ)
-    (said : Option (Result Answer Stop)) (answer : Result Answer Stop) (status : Status) (old new : K)
+    (said : Option (Result Answer Stop)) (answer : Result Answer Stop) (status : Status) (old new :
+    K)
     → Meets is_free said answer → IsFinished written faults answer status old new
     → (answer ≡ Err (File ReadFault) → ⊥) → (Rose (faults old) (faults new) → ⊥)
     → (status ≡ ends.Memory)
@@ -188,7 +190,8 @@ says-candidates three faultless = says-ok _ _ _ three.candidates faultless.candi
     faultless.candidates
 
 says-ranks : (three : ThreeFiles) → HasNoFault three
-    → ranks_said (tables_in three).programmes.names (numbers_of (tables_in three).candidates.numbers)
+    → ranks_said (tables_in three).programmes.names (numbers_of (tables_in
+    three).candidates.numbers)
     three.ranks ≡ Ok (tables_in three).ranks
 unfolding ranks_said tables_in numbers_in codes_in
 says-ranks three faultless = says-ok _ _ _ three.ranks faultless.ranks_few faultless.ranks
@@ -217,7 +220,8 @@ places-whole (Some files) words status old new (reads, held, whole) =
     ∙ ap (λ v. answered (λ tables. done (placement_of tables)) v)
     (three-said reads three seen faultless) in
     ⊎_elim (λ refused. inl refused)
-    (λ other. let same : other.0 ≡ Ok (done (placement_of (tables_in three))) = cc (other.1, said) in
+    (λ other. let same : other.0 ≡ Ok (done (placement_of (tables_in three))) = cc (other.1, said)
+    in
     inr (
       other.2 ∙ ap status_said same,
       subst (λ v. Appended old new v) (ap text_said same ∙ printed-in three) other.3,
@@ -258,14 +262,16 @@ module _ {K : Type 0} (written : K → Option (List ℕ)) (faults : K → ℕ) (
 
   pub causes-run : ((refused : WordsFault) → command_of words ≡ Err refused
       → answer ≡ Err (Words refused))
-      → HasCause (command_of words) status before now tally_before tally_now (faults old) (faults new)
+      → HasCause (command_of words) status before now tally_before tally_now (faults old) (faults
+      new)
   causes-run exact =
       let at = stopped written faults answer status old new in
       record {
         words = record {
           only = λ refused same. says-refused (command_of words) answers.reading.reads refused
               (said-words _ refused (subst (λ v. Meets is_free
-              (says (command_of words) answers.reading.reads) v) (at (Words refused) finished same).0
+              (says (command_of words) answers.reading.reads) v) (at (Words refused) finished
+              same).0
               answers.reading.meets));
           always = λ refused none.
               (subst (λ v. IsFinished written faults v status old new) (exact refused none)

@@ -71,7 +71,8 @@ says-ranks : (names : List (List ℕ)) (numbers bytes : List ℕ) (said : RankTa
 unfolding ranks_said
 says-ranks names numbers bytes said e = says-table file.Ranks _ _ said bytes e
 
-said-behind : {T U : Type 0} (said : Result T FileStop) (next : T → Option (Result U Stop)) (end : U)
+said-behind : {T U : Type 0} (said : Result T FileStop) (next : T
+    → Option (Result U Stop)) (end : U)
     → and_then said next ≡ Some (Ok end)
     → (table : T) × (said ≡ Ok table) × (next table ≡ Some (Ok end))
 said-behind (Err stop) next end e = cc e
@@ -110,7 +111,8 @@ unfolding tables_in codes_in numbers_in
 are-read reads tables e =
     let p = said-from (reads file.Programmes) programmes_said _ tables e in
     let c = said-from (reads file.Candidates) (candidates_said (codes_of p.2.rows)) _ tables p.4 in
-    let r = said-from (reads file.Ranks) (ranks_said p.2.names (numbers_of c.2.numbers)) _ tables c.4 in
+    let r = said-from (reads file.Ranks) (ranks_said p.2.names (numbers_of c.2.numbers)) _ tables
+    c.4 in
     let one = says-programmes p.0 p.2 p.3 in
     let two = says-candidates (codes_of p.2.rows) c.0 c.2 c.3 in
     let three = says-ranks p.2.names (numbers_of c.2.numbers) r.0 r.2 r.3 in

@@ -44,9 +44,11 @@ valid-parts types programmes lists table few_types few_programmes few_lists kind
       candidates = omega (arith, few_lists);
       orders = orders;
       ranks = sound.types ∙ orders;
-      kinds = λ p h. All-get_or (λ (one : Prog). one.kind < types) programmes p no_programme h kinds;
+      kinds = λ p h. All-get_or (λ (one : Prog). one.kind < types) programmes p no_programme h
+          kinds;
       quotas = λ p h.
-          let few = All-get_or (λ (one : Prog). one.quota ≤ LARGEST_QUOTA) programmes p no_programme h
+          let few = All-get_or (λ (one : Prog). one.quota ≤ LARGEST_QUOTA) programmes p no_programme
+          h
           quotas in omega (arith, few);
       list_lengths = λ i h. let few = (wish i h).few in omega (arith, few);
       list_entries = λ i k h within. All-get_or (λ p. p < length programmes) (get_or lists i []) k
@@ -149,7 +151,8 @@ placed-text tables m text held programmes numbers same valid worst places coded 
       market = subst IsValid same valid;
       worst = subst (λ (v : Problem). IsWorstStable v (mechanism_placement v)) same worst;
       printed = written
-          ∙ ap (λ (v : Programmes). placement_text (codes_of v.rows) (numbers_of numbers) held) coded
+          ∙ ap (λ (v : Programmes). placement_text (codes_of v.rows) (numbers_of numbers) held)
+          coded
           ∙ ap (λ v. placement_text (codes_of tables.programmes.rows) (numbers_of v) held) numbered
           ∙ ap (λ v. placement_text (codes_of tables.programmes.rows)
           (numbers_of tables.candidates.numbers) v) (places ∙ ap mechanism_placement same);

@@ -26,7 +26,8 @@ pub text-more : (programmes candidates : List ℕ) (held : List (Option ℕ)) (n
     → old ≡ text_to programmes candidates held n
     → new ≡ old ++ candidate_row programmes (number, holds)
     → new ≡ text_to programmes candidates held (n + 1)
-text-more programmes candidates held n number holds old new sizes within numbers holding before after =
+text-more programmes candidates held n number holds old new sizes within numbers holding before
+    after =
     let pairs = zip candidates held in
     let row = candidate_row programmes in
     let few : n < length candidates = omega arith in
@@ -49,4 +50,5 @@ pub text-all : (programmes candidates : List ℕ) (held : List (Option ℕ)) (n 
 unfolding placement_text
 text-all programmes candidates held n sizes all =
     let many : length (zip candidates held) ≤ n = omega (arith, length-zip candidates held) in
-    ap (λ v. header ++ flat_map (candidate_row programmes) v) (take_all n (zip candidates held) many)
+    ap (λ v. header ++ flat_map (candidate_row programmes) v) (take_all n (zip candidates held)
+    many)

@@ -72,7 +72,8 @@ more-later first before now later more =
     ⊎_elim (λ many. inl (omega (arith, later, many))) (λ last. inr last) more
 
 -- the causes of a file's stop, counted from before the files before it
-causes-behind : {T U : Type 0} (stop : FileStop) (first before now tally_first tally_before tally_now : ℕ)
+causes-behind : {T U : Type 0} (stop : FileStop) (first before now tally_first tally_before
+    tally_now : ℕ)
     → first ≤ before → tally_first ≤ tally_before
     → HasCauses {T = T} (λ v. v) (Err stop) before now tally_before tally_now
     → HasCauses {T = U} File (Err (File stop)) first now tally_first tally_now
@@ -178,7 +179,8 @@ pub may-open-ranks : (told : Option Files) (grants : List ℕ → Bool) (words :
 may-open-ranks told grants words programmes candidates first before now tally_first tally_before
     tally_now may one two =
     let said = said-ok programmes_said one.bytes programmes one.meets in
-    let says = said-ok (candidates_said (codes_of programmes.rows)) two.bytes candidates two.meets in
+    let says = said-ok (candidates_said (codes_of programmes.rows)) two.bytes candidates two.meets
+    in
     may.ranks said.0 says.0 programmes candidates
     (subst (IsHeld told (named words file.Programmes)) said.1 one.held) said.2
     (subst (IsHeld told (named words file.Candidates)) says.1 two.held) says.2
@@ -226,7 +228,8 @@ pub second-stops : (told : Option Files) (words : List (List ℕ)) (programmes :
     (Err stop) before now tally_before tally_now
     → IsReading told words (Some file.Programmes) tables_said tables_read (Err (File stop))
     first now tally_first tally_now
-second-stops told words programmes stop first before now tally_first tally_before tally_now one two =
+second-stops told words programmes stop first before now tally_first tally_before tally_now one two
+    =
     let p = reads-programmes told words one.bytes two.bytes None one.held in
     let c = reads-candidates told words one.bytes two.bytes None two.held in
     let says = candidates_said (codes_of programmes.rows) in
@@ -252,7 +255,11 @@ record AreTwo (told : Option Files) (words : List (List ℕ)) (programmes : Prog
   said : tables_said (reads_of told words p c r)
       ≡ opened (reads_of told words p c r file.Ranks)
       (ranks_said programmes.names (numbers_of candidates.numbers))
-      (λ ranks. Some (Ok (record { programmes = programmes; candidates = candidates; ranks = ranks })))
+      (λ ranks. Some (Ok (record {
+        programmes = programmes;
+        candidates = candidates;
+        ranks = ranks;
+      })))
 
 are-two : (told : Option Files) (words : List (List ℕ)) (programmes : Programmes)
     (candidates : Candidates) (p c r : Option (List ℕ))
@@ -261,7 +268,8 @@ are-two : (told : Option Files) (words : List (List ℕ)) (programmes : Programm
     → Meets is_free (option_map (candidates_said (codes_of programmes.rows)) c) (Ok candidates)
     → AreTwo told words programmes candidates p c r
 are-two told words programmes candidates p c r held_p held_c meets_p meets_c = record {
-  said = opened-ok programmes_said _ _ p programmes (reads-programmes told words p c r held_p) meets_p
+  said = opened-ok programmes_said _ _ p programmes (reads-programmes told words p c r held_p)
+      meets_p
       ∙ opened-ok (candidates_said (codes_of programmes.rows)) _ _ c candidates
       (reads-candidates told words p c r held_c) meets_c;
 }

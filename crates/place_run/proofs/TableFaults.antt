@@ -85,7 +85,8 @@ other-shape : (form : Form) (fields index : ℕ) (row : Row)
     → IsOther (shape_fault form fields index row)
 other-shape form fields index row =
     other-first (long_fault form row) _ (other-long form row)
-    (other-first _ _ (other-if (nat_le form.most_rows index) _ (λ e. cc e)) (other-if _ _ (λ e. cc e)))
+    (other-first _ _ (other-if (nat_le form.most_rows index) _ (λ e. cc e)) (other-if _ _ (λ e. cc
+    e)))
 
 -- no reading of a row by these rules, and no meaning of one, is that the file is too long
 record AreOther (rules : FileRules) : Type 0 where
@@ -110,7 +111,8 @@ other-row rules bytes others index =
 other-file : (rules : FileRules) (bytes : List ℕ) → AreOther rules
     → IsOther (first_fault rules bytes)
 other-file rules bytes others =
-    other-first (first_row_fault rules.form (rows bytes)) _ (other-first_row rules.form (rows bytes))
+    other-first (first_row_fault rules.form (rows bytes)) _ (other-first_row rules.form (rows
+    bytes))
     (other-least (row_fault rules bytes) (other-row rules bytes others) (length (data_rows bytes)))
 
 pub other-programmes : (bytes : List ℕ) → IsOther (programmes.programmes_fault bytes)

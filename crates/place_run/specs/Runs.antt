@@ -155,7 +155,8 @@ pub record HasCause (command : Result Command WordsFault) (status : Status)
       → GaveMore tally_before tally_now file_limit
   pub write : status ≡ ends.WriteFault → Rose out_before out_now
 
--- What was written before stays in front, and after a refusal the sink is as it was. No count falls.
+-- What was written before stays in front, and after a refusal the sink is as it was. No count
+-- falls.
 pub record LeavesSink {K : Type 0} (written : K → Option (List ℕ)) (faults : K → ℕ)
     (status : Status) (old new : K) : Type 0 where
   pub kept : StaysInFront (written old) (written new)

@@ -90,7 +90,8 @@ done text = record { ending = Done; text = text }
 -- is refused
 abbrev pub says : Result Command WordsFault → Reads → Option (Result Answer Stop)
 says (Err refused) reads = Some (Err (Words refused))
-says (Ok (Place workers)) reads = answered (λ tables. done (placement_of tables)) (tables_said reads)
+says (Ok (Place workers)) reads = answered (λ tables. done (placement_of tables)) (tables_said
+    reads)
 
 -- the files that are read for it
 abbrev pub files_read : Result Command WordsFault → Reads → List (List ℕ)

@@ -47,7 +47,8 @@ impl Model for Inputs {
 }
 
 impl Inputs {
-    // Reads the files that the words 2 to 4 name: each is read and judged before the next is opened.
+    // Reads the files that the words 2 to 4 name: each is read and judged before the next is
+    // opened.
     pub(crate) fn read<R: Threads, H: Shelf>(
         rt: &R,
         alloc: Global,

@@ -21,8 +21,8 @@ use std::thread::Threads;
 /// The words are refused first, before a file is opened. Then the files are opened, read whole and
 /// judged one after the other: a read fault of a file comes first, then that it has more than 2^30
 /// bytes, then its first fault. All memory is taken before the first byte is written to `out`. So
-/// after each refusal `out` is as it was; only a write fault leaves a part of the text there. A fault
-/// of `notes` changes neither the status nor `out`.
+/// after each refusal `out` is as it was; only a write fault leaves a part of the text there. A
+/// fault of `notes` changes neither the status nor `out`.
 pub fn run_words<R: Threads, H: Shelf, K: Sink, N: Sink>(
     rt: &R,
     alloc: Global,
@@ -41,9 +41,9 @@ pub fn run_words<R: Threads, H: Shelf, K: Sink, N: Sink>(
         out.old out.new (H.faults shelf.old) (H.faults shelf.new)
         (H.tally shelf.old) (H.tally shelf.new) }
 
-    // Where the words are `place` and the run is done, the text is that of the mechanism's placement
-    // in the market of the three files. It is stable there, and in every stable placement there each
-    // candidate holds the printed programme or one listed higher.
+    // Where the words are `place` and the run is done, the text is that of the mechanism's
+    // placement in the market of the three files. It is stable there, and in every stable placement
+    // there each candidate holds the printed programme or one listed higher.
     ensures worst { PrintsWorstStable (H.files shelf.old) (texts words.now) result
         (K.written out.old) (K.written out.new) }
 

@@ -77,8 +77,8 @@ fn run(
     })
 }
 
-// Runs these words over this shelf, and compares the number of the status, both texts, how often the
-// shelf failed, and how often it was called: a file of one piece has an open and two takes.
+// Runs these words over this shelf, and compares the number of the status, both texts, how often
+// the shelf failed, and how often it was called: a file of one piece has an open and two takes.
 fn ends(
     rt: &(impl Threads + Abort),
     alloc: Global,
@@ -310,9 +310,8 @@ fn words_that_are_no_command_are_refused_before_a_file_is_opened(
     are_refused(&rt, rt.alloc(), &REFUSED)
 }
 
-// Shelves that lack a file: the number of the status, its line, and how often the shelf failed and was
-// called. Where
-// a file has a fault, the next is not opened, so that it may be missing.
+// Shelves that lack a file: the number of the status, its line, and how often the shelf failed and
+// was called. Where a file has a fault, the next is not opened, so that it may be missing.
 const LACKING: [(&[(&str, &[u8])], u8, &[u8], u64, u64); 4] = [
     (
         &[("p", PROGRAMMES), ("c", BAD_CANDIDATES)],

@@ -91,7 +91,8 @@ judged-unread told name kind judge (Fault found) before now tally_before tally_n
           inr (omega (arith, causes.tally, causes.long kind (ap (λ v. Err (Fault v)) is)));
       causes = same-causes _ before now tally_before tally_now causes;
     }
-judged-unread told name kind judge ReadFault before now tally_before tally_now long unread begun causes =
+judged-unread told name kind judge ReadFault before now tally_before tally_now long unread begun
+    causes =
     let file = held-some told name in record {
       bytes = file.0;
       held = file.1;
@@ -100,7 +101,8 @@ judged-unread told name kind judge ReadFault before now tally_before tally_now l
       begun = λ unread. absurd (unread refl);
       causes = same-causes _ before now tally_before tally_now causes;
     }
-judged-unread told name kind judge Memory before now tally_before tally_now long unread begun causes =
+judged-unread told name kind judge Memory before now tally_before tally_now long unread begun causes
+    =
     let file = held-some told name in record {
       bytes = file.0;
       held = file.1;
@@ -122,4 +124,5 @@ pub judged-stop : {T S : Type 0} (told : Option Files) (name : List ℕ) (kind :
 judged-stop told name kind judge stop result before now tally_before tally_now is long unread begun
     causes =
     at-error (λ r. IsJudged told name judge r before now tally_before tally_now) result stop is
-    (judged-unread told name kind judge stop before now tally_before tally_now long unread begun causes)
+    (judged-unread told name kind judge stop before now tally_before tally_now long unread begun
+    causes)

@@ -22,10 +22,12 @@ pub fault-line : (found : FileFault) (file name : List ℕ) (line field tens one
     → earlier ≡ found.earlier
     → codes "fault " ++ (file ++ (codes " line " ++
     (decimal line ++ (codes " field " ++ (decimal field ++ (codes " F"
-    ++ (decimal tens ++ (decimal ones ++ (codes " " ++ (name ++ (codes " earlier " ++ (decimal earlier
+    ++ (decimal tens ++ (decimal ones ++ (codes " " ++ (name ++ (codes " earlier " ++ (decimal
+    earlier
     ++ (codes "\n" ++ []))))))))))))) ≡ fault_line found
 unfolding fault_line
-fault-line found file name line field tens ones earlier files names lines fields tenths units earliers =
+fault-line found file name line field tens ones earlier files names lines fields tenths units
+    earliers =
     rw files (rw names (rw lines (rw fields (rw tenths (rw units (rw earliers
     (fault-parts (file_name found.file) (decimal found.line) (decimal found.field)
     (decimal (fault_number found.kind / 10))

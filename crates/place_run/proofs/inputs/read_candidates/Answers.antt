@@ -27,13 +27,16 @@ returns-clause-judged g c =
     (arith, c.in_ok-bytes.ensures.few, c.deref.ensures.len) in
     let given = c.in_ok-bytes.ensures.given
     ∙ ap (λ n. tally_with (g.H.Shelf.tally c.args.shelf.now) n) (sym c.deref.ensures.len) in
-    judged-table _ _ bytes file.Candidates _ (candidates_table (codes_of c.args.programmes.now.rows) bytes)
+    judged-table _ _ bytes file.Candidates _ (candidates_table (codes_of c.args.programmes.now.rows)
+    bytes)
     (candidates_said (codes_of c.args.programmes.now.rows))
     c.read.result c.table_or_stop.result _ _ _ _ refl held few given
     c.in_ok-bytes.ensures.causes.faults c.in_ok-bytes.ensures.causes.tally
-    (other-candidates (codes_of c.args.programmes.now.rows) bytes) c.read.ensures.read c.table_or_stop.ensures
+    (other-candidates (codes_of c.args.programmes.now.rows) bytes) c.read.ensures.read
+    c.table_or_stop.ensures
 
 pub returns-clause-lists : goal.returns-clause-lists
 returns-clause-lists g c =
-    table-ok (λ table. All (IsPreferenceList (length (codes_of c.args.programmes.now.rows))) table.lists)
+    table-ok (λ table. All (IsPreferenceList (length (codes_of c.args.programmes.now.rows)))
+    table.lists)
     c.read.result c.table_or_stop.result c.table_or_stop.ensures c.read.ensures.lists

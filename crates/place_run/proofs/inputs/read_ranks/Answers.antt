@@ -28,7 +28,8 @@ returns-clause-judged g c =
     (arith, c.in_ok-bytes.ensures.few, c.deref.ensures.len) in
     let given = c.in_ok-bytes.ensures.given
     ∙ ap (λ n. tally_with (g.H.Shelf.tally c.args.shelf.now) n) (sym c.deref.ensures.len) in
-    judged-table _ _ bytes file.Ranks _ (ranks_table c.args.programmes.now.names (numbers_of c.args.candidates.now.numbers) bytes)
+    judged-table _ _ bytes file.Ranks _ (ranks_table c.args.programmes.now.names (numbers_of
+    c.args.candidates.now.numbers) bytes)
     (ranks_said c.args.programmes.now.names (numbers_of c.args.candidates.now.numbers))
     c.read.result c.table_or_stop.result _ _ _ _ refl held few given
     c.in_ok-bytes.ensures.causes.faults c.in_ok-bytes.ensures.causes.tally
@@ -41,7 +42,8 @@ returns-clause-types g c =
     table-ok (λ (lists : RankTable). length lists.orders ≡ length c.args.programmes.now.names)
     c.read.result c.table_or_stop.result c.table_or_stop.ensures
     (table-read (λ (lists : RankTable). length lists.orders ≡ length c.args.programmes.now.names)
-    _ table c.read.result c.read.ensures (types-in-ranks c.args.programmes.now.names (numbers_of c.args.candidates.now.numbers)
+    _ table c.read.result c.read.ensures (types-in-ranks c.args.programmes.now.names (numbers_of
+    c.args.candidates.now.numbers)
     c.deref.result.now))
 
 pub returns-clause-candidates : goal.returns-clause-candidates
@@ -51,4 +53,5 @@ returns-clause-candidates g c =
     table-ok (λ (lists : RankTable). lists.candidates ≡ length c.args.candidates.now.numbers)
     c.read.result c.table_or_stop.result c.table_or_stop.ensures
     (table-read (λ (lists : RankTable). lists.candidates ≡ length c.args.candidates.now.numbers)
-    _ table c.read.result c.read.ensures (length-map c.args.candidates.now.numbers (λ line. line.0)))
+    _ table c.read.result c.read.ensures (length-map c.args.candidates.now.numbers (λ line.
+    line.0)))

@@ -16,7 +16,10 @@ build-requires c =
     length-map rows prog_of in
     let coded : length (codes_of rows) ≡ length items = length-map rows (λ row. row.code) ∙ sym
     counted in
-    let few : length items ≤ MOST_PROGRAMMES = omega (arith, c.in_ok-programmes.ensures.few_programmes) in
+    let few : length items ≤ MOST_PROGRAMMES = omega (
+      arith,
+      c.in_ok-programmes.ensures.few_programmes,
+    ) in
     let few_types : c.type_count-kinds.result ≤ MOST_TYPES = omega
     (arith, c.in_ok-programmes.ensures.few_types, c.type_count-kinds.ensures.length) in
     valid-market c.type_count-kinds.result items c.args.lists.items

@@ -59,8 +59,10 @@ returns-in_err-ranks-clause-reading g c =
     let three = judged-as _ _ _ _ (ranks_said programmes.names (numbers_of candidates.numbers))
     (Err stop) _ _ _ _ (c.in_ok-candidates.ensures.files ∙ c.in_ok-programmes.ensures.files)
     c.word-name.ensures c.in_err-ranks.ensures.judged in
-    stopped-as _ _ _ c.from_residual-in_err-ranks.result _ _ _ _ c.from_residual-in_err-ranks.ensures.1
-    (third-stops _ (texts c.args.words.now) programmes candidates stop _ _ _ _ _ _ _ _ one two three)
+    stopped-as _ _ _ c.from_residual-in_err-ranks.result _ _ _ _
+    c.from_residual-in_err-ranks.ensures.1
+    (third-stops _ (texts c.args.words.now) programmes candidates stop _ _ _ _ _ _ _ _ one two
+    three)
 
 pub returns-clause-reading : goal.returns-clause-reading
 returns-clause-reading g c =
