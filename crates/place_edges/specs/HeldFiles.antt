@@ -17,7 +17,8 @@ pub record Held : Type 0 where
 -- the bytes held under each name are those of the newest entry with this name
 abbrev pub files_of : Entries → Files
 files_of [] name = None
-files_of (entry ∷ entries) name = if bytes_eq entry.0 name then Some entry.1 else files_of entries name
+files_of (entry ∷ entries) name = if bytes_eq entry.0 name then Some entry.1 else files_of entries
+    name
 
 -- the same, with the empty file under every name that was not added
 abbrev pub files_or_empty : Entries → Files

@@ -2,8 +2,8 @@
 use Rattle.std.specs.Prelude.{ℕ, ◌⊎◌, List, Option, IsNone, Contains}
 use Rattle.place_edges.specs.HeldFiles.{Entries, files_of}
 
--- the files, what is left of the current one and how many bytes were given; the numbers of the calls that are to fail,
--- and how many calls and faults there were
+-- the files, what is left of the current one and how many bytes were given; the numbers of the
+-- calls that are to fail, and how many calls and faults there were
 pub record MemoryShelf : Type 0 where
   pub entries : Entries
   pub rest : Option (List ℕ)

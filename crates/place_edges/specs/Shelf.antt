@@ -1,11 +1,20 @@
 -- What a shelf holds, and what its calls do.
-use Rattle.std.specs.Prelude.{◌≡◌, ℕ, ◌+◌, ◌-◌, ◌^◌, ◌<◌, ◌≤◌, ◌⊎◌, min, max, List, [], ◌++◌, length, take, Option, Some, None, Result, Ok, Err, IsSome, ⊤}
+use Rattle.std.specs.Prelude.{◌≡◌, ℕ, ◌+◌, ◌-◌, ◌^◌, ◌<◌, ◌≤◌, ◌⊎◌, min, max, List, [], ◌++◌, length, take, Option, Some, None, Result, Ok, Err, IfSome, IsSome, ⊤}
+
+-- the most bytes that a file may have
+abbrev pub file_limit : ℕ
+file_limit = 2 ^ 30
+
+-- how many bytes of a file are taken at once
+abbrev pub piece_size : ℕ
+piece_size = 2 ^ 16
 
 -- the bytes held under each name
 abbrev pub Files : Type 0
 Files = List ℕ → Option (List ℕ)
 
--- an open makes the named file current from its start; a shelf that tells its files opens only what it holds
+-- an open makes the named file current from its start; a shelf that tells its files opens only what
+-- it holds
 abbrev pub Opens : {T E : Type 0} → Option Files → List ℕ → Result T E → Option (List ℕ) → Type 0
 Opens None name result rest = ⊤
 Opens (Some files) name (Ok _) rest = (files name ≡ rest) × IsSome rest
@@ -31,9 +40,13 @@ abbrev pub Takes : {E : Type 0} → Option (List ℕ) → Option (List ℕ) → 
 Takes old new (Ok n) into = TakesCount old new n into
 Takes old new (Err _) into = new ≡ None
 
+-- the tally after n more bytes, which stands still at its last value
+abbrev pub tally_with : ℕ → ℕ → ℕ
+tally_with tally n = max tally (min (tally + n) (2 ^ 64 - 1))
+
 -- the tally after an answer
 abbrev pub tally_after : {E : Type 0} → ℕ → Result ℕ E → ℕ
-tally_after tally (Ok n) = max tally (min (tally + n) (2 ^ 64 - 1))
+tally_after tally (Ok n) = tally_with tally n
 tally_after tally (Err _) = tally
 
 -- these bytes were taken of the named file, and this is the rest
@@ -44,13 +57,12 @@ TakenOf (Some files) name bytes (Some rest) = files name ≡ Some (bytes ++ rest
 
 -- the named file has these bytes, where that is told
 abbrev pub HasBytes : Option Files → List ℕ → List ℕ → Type 0
-HasBytes None name bytes = ⊤
-HasBytes (Some files) name bytes = files name ≡ Some bytes
+HasBytes told name bytes = IfSome told (λ files. files name ≡ Some bytes)
 
 -- the named file has more than this many bytes, where that is told
 abbrev pub HasMore : Option Files → List ℕ → ℕ → Type 0
-HasMore None name n = ⊤
-HasMore (Some files) name n = (bytes : List ℕ) × (files name ≡ Some bytes) × (n < length bytes)
+HasMore told name n =
+    IfSome told (λ files. (bytes : List ℕ) × (files name ≡ Some bytes) × (n < length bytes))
 
 -- the tally rose by more than n, or stands at its last value
 abbrev pub GaveMore : ℕ → ℕ → ℕ → Type 0

@@ -23,7 +23,8 @@ impl Model for Entry {
     ghost view = { λ e. (string_bytes e.name, e.bytes.items) };
 }
 
-// Where the reading stands: in no file, at a place that is not told, or in this entry behind so many bytes.
+// Where the reading stands: in no file, at a place that is not told, or in this entry behind so
+// many bytes.
 #[derive(Clone, Copy, Drop)]
 pub(crate) enum Place {
     Closed,
@@ -31,8 +32,8 @@ pub(crate) enum Place {
     Inside(usize, usize),
 }
 
-// Files under their names, the newest entry in front. An older entry of the same name stays, since it may be the one
-// that is being read.
+// Files under their names, the newest entry in front. An older entry of the same name stays, since
+// it may be the one that is being read.
 #[derive(Drop)]
 pub(crate) struct HeldFiles {
     entries: Vec<Entry>,
@@ -60,7 +61,8 @@ impl HeldFiles {
         }
     }
 
-    // Holds the bytes under the name, in place of older ones. The file that is being read stays as it is.
+    // Holds the bytes under the name, in place of older ones. The file that is being read stays as
+    // it is.
     pub(crate) fn add(&mut self, name: String, bytes: Vec<u8>) -> Result<(), AllocError>
         ensures held { OnOk result (self.new ≡ record self.old {
           entries = (string_bytes name, bytes.items) ∷ self.old.entries;
@@ -72,7 +74,8 @@ impl HeldFiles {
         Ok(())
     }
 
-    // Makes the named file current from its start, and says whether it is held. Else nothing is left to be read.
+    // Makes the named file current from its start, and says whether it is held. Else nothing is
+    // left to be read.
     pub(crate) fn open(&mut self, name: &str) -> bool
         ensures entries { self.new.entries ≡ self.old.entries }
         ensures rest { self.new.rest ≡ Some (unwrap_or (files_of self.old.entries name.now) []) }

@@ -1,4 +1,5 @@
-//! What the program meets of the outside: shelves, from which files are read, and sinks, to which texts are written.
+//! What the program meets of the outside: shelves, from which files are read, and sinks, to which
+//! texts are written.
 #![tactic(auto)]
 
 // Which calls are told to fail.

@@ -13,7 +13,8 @@ use crate::{Failed, Shelf};
 use std::alloc::{AllocError, Global};
 use std::marker::Model;
 
-/// Files held in memory. A call fails exactly where it is told to, and an open also where the name is not held.
+/// Files held in memory. A call fails exactly where it is told to, and an open also where the name
+/// is not held.
 #[derive(Drop)]
 pub struct MemShelf {
     held: HeldFiles,
@@ -55,7 +56,8 @@ impl MemShelf {
         }
     }
 
-    /// Holds the bytes under the name, in place of older ones. What is left of the current file stays as it is.
+    /// Holds the bytes under the name, in place of older ones. What is left of the current file
+    /// stays as it is.
     pub fn add(&mut self, name: String, bytes: Vec<u8>) -> Result<(), AllocError>
         ensures held { OnOk result (self.new ≡ record self.old {
           entries = (string_bytes name, bytes.items) ∷ self.old.entries;

@@ -10,8 +10,8 @@ use crate::{Failed, Sink};
 use std::alloc::{AllocError, Global};
 use std::marker::Model;
 
-/// Bytes written to memory that is taken at the start. A put fails exactly where it is told to, and where there are
-/// bytes and no room is left.
+/// Bytes written to memory that is taken at the start. A put fails exactly where it is told to, and
+/// where there are bytes and no room is left.
 #[derive(Drop)]
 pub struct MemSink {
     bytes: Vec<u8>,

@@ -13,7 +13,8 @@ use std::rt::Files;
 
 /// The files of the system, by their paths. It tells no bytes and grants every name.
 ///
-/// A file that is missing or may not be read fails to open. A directory opens, and its first read fails.
+/// A file that is missing or may not be read fails to open. A directory opens, and its first read
+/// fails.
 #[derive(Drop)]
 pub struct RealShelf<R: Files + Drop> {
     rt: R,
@@ -85,23 +86,38 @@ impl<R: Files + Drop> Shelf for RealShelf<R> {
         let Some(file) = &mut self.file else {
             return Ok(0);
         };
-        match read_once(file, into) {
-            Ok(count) => {
-                self.tally = self.tally.saturating_add(count as u64);
-                Ok(count)
-            }
-            Err(_) => {
-                self.faults = self.faults.saturating_add(1);
-                Err(Failed)
-            }
+        take_from(file, into, &mut self.faults, &mut self.tally)
+    }
+}
+
+// Reads once, and counts what was read, or the fault.
+pub(crate) fn take_from<R: Read>(
+    reader: &mut R,
+    into: &mut [u8],
+    faults: &mut u64,
+    tally: &mut u64,
+) -> Result<usize, Failed>
+    ensures bound { ReadsAtMost result into.new }
+    ensures cause { HasCause faults.old faults.new result }
+    ensures faults { faults.new ≡ faults_after faults.old result }
+    ensures tally { tally.new ≡ tally_after tally.old result }
+{
+    match read_once(reader, into) {
+        Ok(count) => {
+            *tally = tally.saturating_add(count as u64);
+            Ok(count)
+        }
+        Err(_) => {
+            *faults = faults.saturating_add(1);
+            Err(Failed)
         }
     }
 }
 
 /// A stream of the system, which tells nothing of what it got.
 ///
-/// A put flushes the stream before it answers. Where the flush fails the put fails, though the stream may have got
-/// some of its bytes.
+/// A put flushes the stream before it answers. Where the flush fails the put fails, though the
+/// stream may have got some of its bytes.
 #[derive(Drop)]
 pub struct RealSink<W: Write> {
     inner: W,
@@ -149,7 +165,7 @@ impl<W: Write> Sink for RealSink<W> {
 }
 
 // Reads once, and again where the system interrupted the read.
-pub(crate) fn read_once<R: Read>(reader: &mut R, into: &mut [u8]) -> io::Result<usize>
+fn read_once<R: Read>(reader: &mut R, into: &mut [u8]) -> io::Result<usize>
     ensures { ReadsAtMost result into.new }
 {
     for _ in 0..u64::MAX {

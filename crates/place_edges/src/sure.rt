@@ -34,7 +34,8 @@ impl SureShelf {
         }
     }
 
-    /// Holds the bytes under the name, in place of older ones. What is left of the current file stays as it is.
+    /// Holds the bytes under the name, in place of older ones. What is left of the current file
+    /// stays as it is.
     pub fn add(&mut self, name: String, bytes: Vec<u8>) -> Result<(), AllocError>
         ensures held { OnOk result (self.new ≡ record self.old {
           entries = (string_bytes name, bytes.items) ∷ self.old.entries;

@@ -1,10 +1,11 @@
 // What the edges do at each call, in tables.
-use crate::real::read_once;
+use crate::real::take_from;
 use crate::{
     Failed, MemShelf, MemSink, ReadStop, RealShelf, RealSink, Shelf, Sink, SureShelf, SureSink,
     read_whole, write_whole,
 };
 use std::alloc::Global;
+use std::fs;
 use std::io::{self, ErrorKind, Read, Write};
 use std::test::Fail;
 
@@ -114,8 +115,8 @@ fn a_directory_and_a_missing_file_are_not_read(rt: HostRuntime) -> Result<(), Fa
     Ok(())
 }
 
-// A stream whose calls answer in turn: the first write and the first flush are interrupted, the next take two bytes,
-// and from then on writes take nothing.
+// A stream whose calls answer in turn: the first write and the first flush are interrupted, the
+// next take two bytes, and from then on writes take nothing.
 #[derive(Drop)]
 struct Stream {
     writes: u8,
@@ -183,14 +184,28 @@ impl Read for Source {
 }
 
 #[test]
-fn an_interrupted_read_is_no_fault(rt: HostRuntime) {
+fn a_read_that_fails_after_some_bytes_is_a_fault(rt: HostRuntime) {
     let mut source = Source { reads: 0 };
     let mut into = [0u8; 2];
-    let count = read_once(&mut source, &mut into).ok();
-    assert_eq!(rt; count, Some(1), "after one interrupted read");
-    assert_eq!(rt; into[0], b'a');
-    assert!(rt;
-        read_once(&mut source, &mut into).is_err(),
-        "the read fails"
-    );
+    let (mut faults, mut tally) = (0, 0);
+    let first = take_from(&mut source, &mut into, &mut faults, &mut tally);
+    assert_eq!(rt; first, Ok(1), "after one interrupted read");
+    assert_eq!(rt; (into[0], faults, tally), (b'a', 0, 1));
+    let second = take_from(&mut source, &mut into, &mut faults, &mut tally);
+    assert_eq!(rt; second, Err(Failed), "the read fails");
+    assert_eq!(rt; (faults, tally), (1, 1));
+}
+
+#[test]
+fn a_file_of_the_system_is_read_past_its_first_piece(rt: HostRuntime) -> Result<(), Fail> {
+    let alloc = rt.alloc();
+    let mut bytes = vec![in alloc; 7u8; 150_000]?;
+    bytes.push(8)?;
+    let name = "file_of_three_pieces.tmp";
+    fs::write(&rt, name, &bytes)?;
+    let read = read_whole(alloc, &mut RealShelf::new(rt), name).ok();
+    fs::remove_file(&rt, name)?;
+    let read = read.ok_or("not read")?;
+    assert!(rt; read.as_slice() == bytes.as_slice());
+    Ok(())
 }

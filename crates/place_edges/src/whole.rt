@@ -1,8 +1,9 @@
 // A file read whole, and a text written whole.
-ghost use Rattle.std.specs.Prelude.{◌≡◌, ◌+◌, ◌^◌, ◌≤◌, IfOk, OnOk, OnErr, IsTrue, IsErrOf, vec_len};
+ghost use Rattle.std.specs.Prelude.{◌≡◌, ◌≤◌, IfOk, IsTrue, IsErrOf, vec_len};
 ghost use Rattle.place_edges.specs.Causes.{Rose};
-ghost use Rattle.place_edges.specs.Shelf.{HasBytes, HasMore, GaveMore};
-ghost use Rattle.place_edges.specs.Sink.{Appended, AppendedPrefix};
+ghost use Rattle.place_edges.specs.Shelf.{HasBytes, HasMore, file_limit, tally_with};
+ghost use Rattle.place_edges.specs.Sink.{IsWritten};
+ghost use Rattle.place_edges.specs.Whole.{HasTally};
 
 use crate::{Failed, Shelf, Sink};
 use std::alloc::{AllocError, Global};
@@ -50,17 +51,14 @@ pub fn read_whole<H: Shelf>(alloc: Global, shelf: &mut H, name: &str) -> Result<
 
     // What is given is the file, and has at most 2^30 bytes.
     ensures bytes { IfOk result (λ bytes. HasBytes (H.files shelf.old) name.now bytes.items) }
-    ensures few { IfOk result (λ bytes. vec_len bytes ≤ 2 ^ 30) }
+    ensures few { IfOk result (λ bytes. vec_len bytes ≤ file_limit) }
 
-    // A file is too long only where more than 2^30 bytes were given, and no more were given where
-    // it is read or the shelf fails. Where memory is refused no clause bounds them.
-    ensures long { IsErrOf result ReadStop.TooLong → HasMore (H.files shelf.old) name.now (2 ^ 30) }
-    ensures long_cause { IsErrOf result ReadStop.TooLong
-        → GaveMore (H.tally shelf.old) (H.tally shelf.new) (2 ^ 30) }
-    ensures tally { H.tally shelf.old ≤ H.tally shelf.new }
-    ensures short { OnOk result (H.tally shelf.new ≤ H.tally shelf.old + 2 ^ 30) }
-    ensures short_failed { IsErrOf result ReadStop.Failed
-        → H.tally shelf.new ≤ H.tally shelf.old + 2 ^ 30 }
+    // The tally rises by what is given, and says where the file is too long.
+    ensures given { IfOk result (λ bytes.
+        H.tally shelf.new ≡ tally_with (H.tally shelf.old) (vec_len bytes)) }
+    ensures tally { HasTally result (H.tally shelf.old) (H.tally shelf.new) }
+    ensures long { IsErrOf result ReadStop.TooLong
+        → HasMore (H.files shelf.old) name.now file_limit }
 
     // A read fails only where the shelf failed.
     ensures failed { IsErrOf result ReadStop.Failed
@@ -88,11 +86,8 @@ pub fn read_whole<H: Shelf>(alloc: Global, shelf: &mut H, name: &str) -> Result<
 
 /// Appends all the bytes. Where a put fails, those before it stay appended.
 pub fn write_whole<K: Sink>(sink: &mut K, bytes: &[u8]) -> Result<(), Failed>
-    ensures whole { OnOk result (Appended (K.written sink.old) (K.written sink.new) bytes.now) }
-    ensures prefix { OnErr result
-        (AppendedPrefix (K.written sink.old) (K.written sink.new) bytes.now) }
-    ensures failed { OnErr result (Rose (K.faults sink.old) (K.faults sink.new)) }
-    ensures later { K.faults sink.old ≤ K.faults sink.new }
+    ensures { IsWritten bytes.now result (K.written sink.old) (K.written sink.new)
+        (K.faults sink.old) (K.faults sink.new) }
 {
     let mut at = 0;
     'puts: while at < bytes.len() {

@@ -1,86 +1,91 @@
--- A file that was read whole says what its table was read as; one that is too long says so.
-use Rattle.std.proofs.Common.{◌≡◌, ℕ, ◌^◌, ◌<◌, ◌≤◌, List, Option, Some, None, Result, Ok, Err, sym, ap, subst, ◌∙◌}
-use Rattle.std.specs.Prelude.{length, IsErrAnd}
+-- A file that was read whole says what its table was read as, and one that is too long says so.
+use Rattle.std.proofs.Common.{◌≡◌, ℕ, ◌<◌, ◌≤◌, List, Option, Some, Result, Ok, Err, IfOk, sym, ap, subst, ◌∙◌, inl, inr, refl}
+use Rattle.std.specs.Prelude.{length}
 use Rattle.std.proofs.lemmas.Bool.{cond-true, cond-false, le-ltb, lt-ltb}
 use Rattle.place_base.specs.declared.fault.FileFault.{FileFault}
 use Rattle.place_base.specs.declared.fault.FileKind.{FileKind}
-use Rattle.place_edges.specs.Shelf.{Files, HasBytes}
-use Rattle.record_files.specs.FirstFaults.{IsTableRead}
+use Rattle.place_edges.specs.Shelf.{Files, HasBytes, file_limit, tally_with}
+use Rattle.record_files.specs.ReadTo.{IsTableRead}
 use Rattle.record_files.specs.declared.table_stop.TableStop.{TableStop}
 use Rattle.record_files.specs.declared.table_stop.TableStop.TheVariants as stopped
-use Rattle.place_run.specs.Judged.{judged, fault_or, too_long}
-use Rattle.place_run.specs.Steps.{FileRead, HasCauses, IsReadStop, stop_of}
-use Rattle.place_run.specs.declared.status.Stop.{Stop}
-use Rattle.place_run.specs.declared.status.Stop.TheVariants.{Fault, ReadFault, Memory}
+use Rattle.run_frame.specs.Files.{HasCauses, IsJudged}
+use Rattle.run_frame.specs.Meetings.{Meets}
+use Rattle.run_frame.specs.Stops.{is_free, table_said, too_long}
+use Rattle.run_frame.specs.declared.stop.FileStop.{FileStop}
+use Rattle.run_frame.specs.declared.stop.FileStop.TheVariants.{Fault}
+use Rattle.run_frame.proofs.Judging.{judged-bytes}
+use Rattle.place_run.specs.Tables.{judged, fault_or}
 use Rattle.place_run.proofs.TableFaults.{IsOther}
-
--- what is said of a refusal holds of a result that is this refusal
-pub at-refusal : {T : Type 0} (P : Result T Stop → Type 0) (result : Result T Stop) (stop : Stop)
-    → IsErrAnd result (λ found. found ≡ stop) → P (Err stop) → P result
-at-refusal P (Ok x) stop never p = absurd never
-at-refusal P (Err found) stop is p = subst (λ v. P (Err v)) (sym is) p
 
 pub judged-short : {T : Type 0} (kind : FileKind) (fault : Option FileFault) (table : T)
     (bytes : List ℕ)
-    → length bytes ≤ 2 ^ 30 → judged kind fault table bytes ≡ fault_or fault table
-judged-short kind fault table bytes few = cond-false _ _ _ (le-ltb (2 ^ 30) (length bytes) few)
+    → length bytes ≤ file_limit → judged kind fault table bytes ≡ fault_or fault table
+judged-short kind fault table bytes few = cond-false _ _ _ (le-ltb file_limit (length bytes) few)
 
 pub judged-long : {T : Type 0} (kind : FileKind) (fault : Option FileFault) (table : T)
     (bytes : List ℕ)
-    → 2 ^ 30 < length bytes → judged kind fault table bytes ≡ Err (too_long kind)
-judged-long kind fault table bytes many = cond-true _ _ _ (lt-ltb (2 ^ 30) (length bytes) many)
+    → file_limit < length bytes → judged kind fault table bytes ≡ Err (Fault (too_long kind))
+judged-long kind fault table bytes many = cond-true _ _ _ (lt-ltb file_limit (length bytes) many)
 
--- a table that was read is what the file says
-pub read-table : {T : Type 0} (files : Option Files) (name bytes : List ℕ) (kind : FileKind)
-    (fault : Option FileFault) (table : T)
-    (said : List ℕ → Result T FileFault) (read : T) → said bytes ≡ judged kind fault table bytes
-    → HasBytes files name bytes → length bytes ≤ 2 ^ 30 → IsTableRead fault table (Ok read)
-    → FileRead files name said (Ok read)
-read-table None name bytes kind fault table said read is held few found = tt
-read-table (Some files) name bytes kind fault table said read is held few (none, same) = (
-  bytes,
-  held,
-  is ∙ judged-short kind fault table bytes few ∙ ap (λ v. fault_or v table) none ∙
-      ap (λ v. Ok v) (sym same),
-)
-
--- and so is the fault that was found
-pub read-fault : {T : Type 0} (files : Option Files) (name bytes : List ℕ) (kind : FileKind)
-    (fault : Option FileFault) (table : T)
-    (said : List ℕ → Result T FileFault) (stop : TableStop)
-    → said bytes ≡ judged kind fault table bytes
-    → HasBytes files name bytes → length bytes ≤ 2 ^ 30 → IsTableRead fault table (Err stop)
-    → FileRead files name said (Err (stop_of stop))
-read-fault None name bytes kind fault table said stop is held few found = tt
-read-fault (Some files) name bytes kind fault table said (stopped.Fault f) is held few found =
-    (bytes, held, is ∙ judged-short kind fault table bytes few ∙ ap (λ v. fault_or v table) found)
-read-fault (Some files) name bytes kind fault table said stopped.Memory is held few found = tt
-
--- a file that is too long says so
-pub read-stop : {T : Type 0} (files : Option Files) (name : List ℕ) (kind : FileKind)
-    (said : List ℕ → Result T FileFault) (stop : Stop)
-    → ((bytes : List ℕ) → 2 ^ 30 < length bytes → said bytes ≡ Err (too_long kind))
-    → IsReadStop files name kind stop → FileRead files name said (Err stop)
-read-stop None name kind said stop long p = tt
-read-stop (Some files) name kind said (Fault found) long (is, (bytes, held, many)) =
-    (bytes, held, long bytes many ∙ ap (λ v. Err v) (sym is))
-read-stop (Some files) name kind said ReadFault long p = tt
-read-stop (Some files) name kind said Memory long p = tt
+-- what was read of a table is what the file says
+table-meets : {T : Type 0} (kind : FileKind) (fault : Option FileFault) (table : T)
+    (bytes : List ℕ) (said : List ℕ → Result T FileStop) (read : Result T TableStop)
+    → said bytes ≡ judged kind fault table bytes → length bytes ≤ file_limit
+    → IsTableRead fault table read → Meets is_free (Some (said bytes)) (table_said read)
+table-meets kind fault table bytes said (Ok read) is few (none, same) =
+    ap (λ v. Some v) (is ∙ judged-short kind fault table bytes few
+    ∙ ap (λ v. fault_or v table) none ∙ ap (λ v. Ok v) (sym same))
+table-meets kind fault table bytes said (Err (stopped.Fault f)) is few found =
+    inr (ap (λ v. Some v) (is ∙ judged-short kind fault table bytes few
+    ∙ ap (λ v. fault_or v table) found))
+table-meets kind fault table bytes said (Err stopped.Memory) is few found = inl refl
 
 fault-other : (f : FileFault) → IsOther (Some f) → (kind : FileKind) → f ≡ too_long kind → ⊥
 fault-other f other kind e = other (ap (λ v. v.kind) e)
 
 -- a table has no cause of its own in the counts
-pub table-causes : {T S : Type 0} (before now tally_before tally_now : ℕ)
-    (fault : Option FileFault) (table : S) (stop : TableStop)
-    → before ≤ now → tally_before ≤ tally_now → IsOther fault → IsTableRead fault table (Err stop)
-    → HasCauses {T = T} before now tally_before tally_now (Err (stop_of stop))
-table-causes before now tally_before tally_now fault table (stopped.Fault f) later tally other found =
+table-causes : {T : Type 0} (before now tally_before tally_now : ℕ)
+    (fault : Option FileFault) (table : T) (read : Result T TableStop)
+    → before ≤ now → tally_before ≤ tally_now → IsOther fault → IsTableRead fault table read
+    → HasCauses (λ stop. stop) (table_said read) before now tally_before tally_now
+table-causes before now tally_before tally_now fault table (Ok read) later tally other found =
+    record { faults = later; tally = tally; read = λ e. cc e; long = λ kind e. cc e }
+table-causes before now tally_before tally_now fault table (Err (stopped.Fault f)) later tally other
+    found =
     record {
       faults = later;
       tally = tally;
       read = λ e. cc e;
       long = λ kind e. absurd (fault-other f (subst IsOther found other) kind (cc e));
     }
-table-causes before now tally_before tally_now fault table stopped.Memory later tally other found =
-    record { faults = later; tally = tally; read = λ e. cc e; long = λ kind e. cc e }
+table-causes before now tally_before tally_now fault table (Err stopped.Memory) later tally other
+    found = record { faults = later; tally = tally; read = λ e. cc e; long = λ kind e. cc e }
+
+-- a file whose table was read, or its first fault, is judged so
+pub judged-table : {T : Type 0} (told : Option Files) (name bytes : List ℕ) (kind : FileKind)
+    (fault : Option FileFault) (table : T) (said : List ℕ → Result T FileStop)
+    (read : Result T TableStop) (result : Result T FileStop)
+    (before now tally_before tally_now : ℕ) → said bytes ≡ judged kind fault table bytes
+    → HasBytes told name bytes → length bytes ≤ file_limit
+    → tally_now ≡ tally_with tally_before (length bytes) → before ≤ now
+    → tally_before ≤ tally_now → IsOther fault → IsTableRead fault table read
+    → result ≡ table_said read
+    → IsJudged told name said result before now tally_before tally_now
+judged-table told name bytes kind fault table said read result before now tally_before tally_now is
+    held few given later tally other found same =
+    subst (λ v. IsJudged told name said v before now tally_before tally_now) (sym same)
+    (judged-bytes told name bytes said (table_said read) before now tally_before tally_now held few
+    given (table-meets kind fault table bytes said read is few found)
+    (table-causes before now tally_before tally_now fault table read later tally other found))
+
+-- what holds of a table that was read holds of what it is among the causes of a file
+pub table-ok : {T : Type 0} (P : T → Type 0) (read : Result T TableStop)
+    (result : Result T FileStop) → result ≡ table_said read → IfOk read P → IfOk result P
+table-ok P (Ok read) result same p = subst (λ v. IfOk v P) (sym same) p
+table-ok P (Err stop) result same p = subst (λ v. IfOk v P) (sym same) tt
+
+-- what holds of the table of a file holds of the table that was read
+pub table-read : {T : Type 0} (P : T → Type 0) (fault : Option FileFault) (table : T)
+    (read : Result T TableStop) → IsTableRead fault table read → P table → IfOk read P
+table-read P fault table (Ok read) (none, same) p = subst P (sym same) p
+table-read P fault table (Err stop) found p = tt

@@ -1,10 +1,8 @@
-pub mod Completeness
-pub mod Endings
+pub mod Finishing
 pub mod Headline
 pub mod Judging
 pub mod LineTexts
 pub mod Markets
-pub mod Parts
 pub mod PlacementTexts
-pub mod Preparing
+pub mod Readings
 pub mod TableFaults

@@ -1,11 +1,9 @@
 -- The parts of a line as they are written, with their spaces, are the line.
-use Rattle.std.proofs.Common.{◌≡◌, ℕ, ◌/◌, ◌%◌, List, [], ◌∷◌, ◌++◌, append_assoc}
+use Rattle.std.proofs.Common.{◌≡◌, ℕ, List, [], ◌∷◌, ◌++◌, append_assoc}
 use Rattle.std.specs.Prelude.{codes, decimal}
-use Rattle.place_base.specs.FaultKind.{fault_number, fault_name}
-use Rattle.place_base.specs.FileKind.{file_name}
-use Rattle.place_base.specs.declared.fault.FileFault.{FileFault}
 use Rattle.command_words.specs.declared.words.WordsFault.{WordsFault}
-use Rattle.place_run.specs.Lines.{line_text, words_line, fault_line, refusal_name, refusal_place}
+use Rattle.run_frame.specs.Lines.{line_text}
+use Rattle.place_run.specs.Statuses.{words_line, refusal_name, refusal_place}
 
 words-parts : (name place : List ℕ)
     → codes "words " ++ (name ++ (codes " " ++ (place ++ (codes "\n" ++ []))))
@@ -19,28 +17,3 @@ pub words-line : (refused : WordsFault) (name : List ℕ) (place : ℕ) → name
 unfolding words_line
 words-line refused name place names places =
     rw names (rw places (words-parts (refusal_name refused) (decimal (refusal_place refused))))
-
-fault-parts : (file line field tens ones name earlier : List ℕ)
-    → codes "fault " ++ (file ++ (codes " line " ++
-    (line ++ (codes " field " ++ (field ++ (codes " F" ++ (tens ++ (ones
-    ++ (codes " " ++ (name ++ (codes " earlier " ++ (earlier ++ (codes "\n" ++ [])))))))))))))
-    ≡ line_text (codes "fault" ∷ file ∷ codes "line" ∷ line ∷ codes "field" ∷ field ∷
-    (codes "F" ++ tens ++ ones) ∷ name
-    ∷ codes "earlier" ∷ earlier ∷ [])
-fault-parts file line field tens ones name earlier = simp append_assoc
-
-pub fault-line : (found : FileFault) (file name : List ℕ) (line field tens ones earlier : ℕ)
-    → file ≡ file_name found.file → name ≡ fault_name found.kind → line ≡ found.line
-    → field ≡ found.field
-    → tens ≡ fault_number found.kind / 10 → ones ≡ fault_number found.kind % 10
-    → earlier ≡ found.earlier
-    → codes "fault " ++ (file ++ (codes " line " ++
-    (decimal line ++ (codes " field " ++ (decimal field ++ (codes " F"
-    ++ (decimal tens ++ (decimal ones ++ (codes " " ++ (name ++ (codes " earlier " ++ (decimal earlier
-    ++ (codes "\n" ++ []))))))))))))) ≡ fault_line found
-unfolding fault_line
-fault-line found file name line field tens ones earlier files names lines fields tenths units earliers =
-    rw files (rw names (rw lines (rw fields (rw tenths (rw units (rw earliers
-    (fault-parts (file_name found.file) (decimal found.line) (decimal found.field)
-    (decimal (fault_number found.kind / 10))
-    (decimal (fault_number found.kind % 10)) (fault_name found.kind) (decimal found.earlier))))))))

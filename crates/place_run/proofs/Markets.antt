@@ -9,56 +9,48 @@ use Rattle.std.proofs.lemmas.List.Elements.{All-get_or}
 use Rattle.std.proofs.lemmas.List.FromFn.{length-map-range_with_len}
 use Rattle.market.specs.Comparisons.{IsWorstStable}
 use Rattle.market.specs.Mechanism.{mechanism, mechanism_placement}
-use Rattle.market.specs.Problems.{Problem, IsValid, kind_of, quota_of, list_of, order_of, ranks_of, place_of}
+use Rattle.market.specs.Problems.{Problem, IsValid, no_programme, problem, kind_of, quota_of, list_of, order_of, ranks_of, place_of}
 use Rattle.market.specs.Stability.{held_by, IsPlacement}
 use Rattle.market.specs.declared.placement.Outcome.{Outcome}
 use Rattle.market.specs.declared.programme.Prog.{Prog}
 use Rattle.market.proofs.Firsts.{place_get}
+use Rattle.place_base.specs.declared.limits.TheConstants.{LARGEST_QUOTA, MOST_CANDIDATES, MOST_PROGRAMMES, MOST_TYPES}
 use Rattle.programme_table.specs.Table.{Programmes, codes_of, prog_of}
-use Rattle.candidate_table.specs.Table.{Candidates, IsPreferenceList, numbers_of}
-use Rattle.rank_lists.specs.RankTables.{RankTable, ranks_table}
-use Rattle.rank_lists.specs.Soundness.{IsSound}
-use Rattle.place_run.specs.Steps.{IsPlaced}
-use Rattle.place_run.specs.ThreeFiles.{market_of, placement_of, placement_text}
+use Rattle.candidate_table.specs.Table.{IsPreferenceList, numbers_of}
+use Rattle.rank_lists.specs.Table.{RankTable, ranks_table}
+use Rattle.rank_lists.specs.Table.{IsSound}
+use Rattle.place_run.specs.Tables.{Tables, problem_of, problem_with}
+use Rattle.place_run.specs.commands.Place.{IsPlaced, placement_of, placement_text}
 
 -- a ranks file gives an order to each type
 pub types-in-ranks : (names : List (List ℕ)) (numbers bytes : List ℕ)
     → length (ranks_table names numbers bytes).orders ≡ length names
 types-in-ranks names numbers bytes = length-map-range_with_len _ 0 (length names)
 
--- the market of these parts
-abbrev parts : ℕ → List Prog → List (List ℕ) → RankTable → Problem
-parts types programmes lists table =
-    record {
-      types = types;
-      programmes = programmes;
-      lists = lists;
-      orders = table.orders;
-      ranks =
-          table.ranks;
-    }
-
-pub valid-parts : (types : ℕ) (programmes : List Prog) (lists : List (List ℕ)) (table : RankTable)
-    → types ≤ 16 → length programmes ≤ 60000 → length lists ≤ 3500000
+-- the parts of three tables meet what a market asks
+valid-parts : (types : ℕ) (programmes : List Prog) (lists : List (List ℕ)) (table : RankTable)
+    → types ≤ MOST_TYPES → length programmes ≤ MOST_PROGRAMMES → length lists ≤ MOST_CANDIDATES
     → All (λ (one : Prog). one.kind < types) programmes
-    → All (λ (one : Prog). one.quota ≤ 100000) programmes
+    → All (λ (one : Prog). one.quota ≤ LARGEST_QUOTA) programmes
     → All (IsPreferenceList (length programmes)) lists
     → length table.orders ≡ types → table.candidates ≡ length lists → IsSound table
-    → IsValid (parts types programmes lists table)
+    → IsValid (problem types programmes lists table.orders table.ranks)
 unfolding kind_of quota_of list_of order_of ranks_of
 valid-parts types programmes lists table few_types few_programmes few_lists kinds quotas wishes
     orders candidates sound =
     record {
-      types = omega arith;
-      programmes = omega arith;
-      candidates = few_lists;
+      types = omega (arith, few_types);
+      programmes = omega (arith, few_programmes);
+      candidates = omega (arith, few_lists);
       orders = orders;
       ranks = sound.types ∙ orders;
-      kinds = λ p h. All-get_or (λ (one : Prog). one.kind < types) programmes p
-          (record { kind = 0; quota = 0 }) h kinds;
-      quotas = λ p h. All-get_or (λ (one : Prog). one.quota ≤ 100000) programmes p
-          (record { kind = 0; quota = 0 }) h quotas;
-      list_lengths = λ i h. let few = (wish i h).few in omega arith;
+      kinds = λ p h. All-get_or (λ (one : Prog). one.kind < types) programmes p no_programme h
+          kinds;
+      quotas = λ p h.
+          let few = All-get_or (λ (one : Prog). one.quota ≤ LARGEST_QUOTA) programmes p no_programme
+          h
+          quotas in omega (arith, few);
+      list_lengths = λ i h. let few = (wish i h).few in omega (arith, few);
       list_entries = λ i k h within. All-get_or (λ p. p < length programmes) (get_or lists i []) k
           0 within (wish i h).within;
       list_distinct = λ i h. (wish i h).distinct;
@@ -76,53 +68,22 @@ valid-parts types programmes lists table few_types few_programmes few_lists kind
     known : (t : ℕ) → t < types → t < length table.orders
     known t h = subst (λ n. t < n) (sym orders) h
 
--- the same of parts that were given away one by one
+-- the same of orders and ranks that were given away one by one
 pub valid-market : (types : ℕ) (programmes : List Prog) (lists orders ranks : List (List ℕ))
     (table : RankTable)
-    → types ≤ 16 → length programmes ≤ 60000 → length lists ≤ 3500000
+    → types ≤ MOST_TYPES → length programmes ≤ MOST_PROGRAMMES → length lists ≤ MOST_CANDIDATES
     → All (λ (one : Prog). one.kind < types) programmes
-    → All (λ (one : Prog). one.quota ≤ 100000) programmes
+    → All (λ (one : Prog). one.quota ≤ LARGEST_QUOTA) programmes
     → All (IsPreferenceList (length programmes)) lists
     → length table.orders ≡ types → table.candidates ≡ length lists → IsSound table
     → orders ≡ table.orders → ranks ≡ table.ranks
-    → IsValid (record {
-      types = types;
-      programmes = programmes;
-      lists = lists;
-      orders = orders;
-      ranks = ranks;
-    })
+    → IsValid (problem types programmes lists orders ranks)
 valid-market types programmes lists orders ranks table few_types few_programmes few_lists kinds
     quotas wishes counted candidates sound same_orders same_ranks =
-    let at_orders : List (List ℕ) → Type 0 = λ v. IsValid
-    (record {
-      types = types;
-      programmes = programmes;
-      lists = lists;
-      orders = v;
-      ranks = ranks;
-    }) in
-    let at_ranks : List (List ℕ) → Type 0 = λ v. IsValid
-    (record {
-      types = types;
-      programmes = programmes;
-      lists = lists;
-      orders = table.orders;
-      ranks = v;
-    }) in
-    subst at_orders (sym same_orders) (subst at_ranks (sym same_ranks)
+    subst (λ v. IsValid (problem types programmes lists v ranks)) (sym same_orders)
+    (subst (λ v. IsValid (problem types programmes lists table.orders v)) (sym same_ranks)
     (valid-parts types programmes lists table few_types few_programmes few_lists kinds quotas
     wishes counted candidates sound))
-
-same-parts : (m n : Problem) → m.types ≡ n.types → m.programmes ≡ n.programmes → m.lists ≡ n.lists
-    → m.orders ≡ n.orders
-    → m.ranks ≡ n.ranks → m ≡ n
-same-parts m n a b c d e =
-    ap (λ v. record m { types = v }) a
-    ∙ ap (λ v. record m { types = n.types; programmes = v }) b
-    ∙ ap (λ v. record m { types = n.types; programmes = n.programmes; lists = v }) c
-    ∙ ap (λ v. record m { types = n.types; programmes = n.programmes; lists = n.lists; orders = v }) d
-    ∙ ap (λ v. record n { ranks = v }) e
 
 -- a market that was built of the parts is theirs
 pub built-market : {E : Type 0} (result : Result Problem E) (programmes : Programmes)
@@ -130,25 +91,27 @@ pub built-market : {E : Type 0} (result : Result Problem E) (programmes : Progra
     (rows : List Prog) (lists orders ranks : List (List ℕ)) → types ≡ length programmes.names
     → rows ≡ map prog_of programmes.rows
     → orders ≡ table.orders → ranks ≡ table.ranks
-    → IfOk result (λ m. m.types ≡ types) → IfOk result (λ m. m.programmes ≡ rows)
-    → IfOk result (λ m. m.lists ≡ lists)
-    → IfOk result (λ m. m.orders ≡ orders) → IfOk result (λ m. m.ranks ≡ ranks)
-    → IfOk result (λ m. m ≡ market_of programmes lists table)
-unfolding market_of
-built-market (Ok m) programmes table types rows lists orders ranks ts ps os rs a b c d e =
-    same-parts m (market_of programmes lists table) (a ∙ ts) (b ∙ ps) c (d ∙ os) (e ∙ rs)
-built-market (Err x) programmes table types rows lists orders ranks ts ps os rs a b c d e = tt
+    → IfOk result (λ m. m ≡ problem types rows lists orders ranks)
+    → IfOk result (λ m. m ≡ problem_with programmes lists table)
+unfolding problem_with
+built-market (Ok m) programmes table types rows lists orders ranks ts ps os rs same =
+    same ∙ ap (λ v. problem v rows lists orders ranks) ts
+    ∙ ap (λ v. problem (length programmes.names) v lists orders ranks) ps
+    ∙ ap (λ v. problem (length programmes.names) (map prog_of programmes.rows) lists v ranks) os
+    ∙ ap (λ v. problem (length programmes.names) (map prog_of programmes.rows) lists table.orders v)
+    rs
+built-market (Err x) programmes table types rows lists orders ranks ts ps os rs same = tt
 
 -- the lists of a market of three tables
 pub lists-of_market : (programmes : Programmes) (lists : List (List ℕ)) (table : RankTable)
-    → (market_of programmes lists table).lists ≡ lists
-unfolding market_of
+    → (problem_with programmes lists table).lists ≡ lists
+unfolding problem_with
 lists-of_market programmes lists table = refl
 
 -- how many programmes it has
 pub programmes-of_market : (programmes : Programmes) (lists : List (List ℕ)) (table : RankTable)
-    → length (market_of programmes lists table).programmes ≡ length (codes_of programmes.rows)
-unfolding market_of
+    → length (problem_with programmes lists table).programmes ≡ length (codes_of programmes.rows)
+unfolding problem_with
 programmes-of_market programmes lists table = length-map programmes.rows prog_of ∙ sym
     (length-map programmes.rows (λ row. row.code))
 
@@ -175,21 +138,22 @@ held-within m held valid placement i p holds =
     (cases_lt i (length m.lists))
 
 -- the text of the placement, with what the laws say of it
-pub placed-text : (programmes : Programmes) (candidates : Candidates) (table : RankTable)
-    (m : Problem) (text : List ℕ)
-    (held : List (Option ℕ)) (numbers : List (ℕ × ℕ))
-    → m ≡ market_of programmes candidates.lists table
-    → IsValid m → IsWorstStable m (mechanism_placement m) → held ≡ mechanism_placement m
-    → numbers ≡ candidates.lines
+pub placed-text : (tables : Tables) (m : Problem) (text : List ℕ) (held : List (Option ℕ))
+    (programmes : Programmes) (numbers : List (ℕ × ℕ))
+    → m ≡ problem_of tables → IsValid m → IsWorstStable m (mechanism_placement m)
+    → held ≡ mechanism_placement m → programmes ≡ tables.programmes
+    → numbers ≡ tables.candidates.numbers
     → text ≡ placement_text (codes_of programmes.rows) (numbers_of numbers) held
-    → IsPlaced programmes candidates table text
+    → IsPlaced tables text
 unfolding placement_of
-placed-text programmes candidates table m text held numbers same valid worst places numbered written =
-    let codes = codes_of programmes.rows in
+placed-text tables m text held programmes numbers same valid worst places coded numbered written =
     record {
       market = subst IsValid same valid;
       worst = subst (λ (v : Problem). IsWorstStable v (mechanism_placement v)) same worst;
-      printed = written ∙ ap (λ v. placement_text codes (numbers_of v) held) numbered
-          ∙ ap (λ v. placement_text codes (numbers_of candidates.lines) v)
-          (places ∙ ap mechanism_placement same);
+      printed = written
+          ∙ ap (λ (v : Programmes). placement_text (codes_of v.rows) (numbers_of numbers) held)
+          coded
+          ∙ ap (λ v. placement_text (codes_of tables.programmes.rows) (numbers_of v) held) numbered
+          ∙ ap (λ v. placement_text (codes_of tables.programmes.rows)
+          (numbers_of tables.candidates.numbers) v) (places ∙ ap mechanism_placement same);
     }

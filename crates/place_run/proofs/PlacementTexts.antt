@@ -7,7 +7,7 @@ use Rattle.std.proofs.lemmas.List.{flat_map_more, take_more, take_all}
 use Rattle.std.proofs.lemmas.Option.{slice_get-get_or}
 use Rattle.std.proofs.lemmas.Slice.Zip.{length-zip, get_or-zip}
 use Rattle.record_files.specs.Texts.{row_text}
-use Rattle.place_run.specs.ThreeFiles.{candidate_row, placement_text}
+use Rattle.place_run.specs.commands.Place.{candidate_row, placement_text}
 
 -- the header of a placement
 abbrev pub header : List ℕ
@@ -26,7 +26,8 @@ pub text-more : (programmes candidates : List ℕ) (held : List (Option ℕ)) (n
     → old ≡ text_to programmes candidates held n
     → new ≡ old ++ candidate_row programmes (number, holds)
     → new ≡ text_to programmes candidates held (n + 1)
-text-more programmes candidates held n number holds old new sizes within numbers holding before after =
+text-more programmes candidates held n number holds old new sizes within numbers holding before
+    after =
     let pairs = zip candidates held in
     let row = candidate_row programmes in
     let few : n < length candidates = omega arith in
@@ -49,4 +50,5 @@ pub text-all : (programmes candidates : List ℕ) (held : List (Option ℕ)) (n 
 unfolding placement_text
 text-all programmes candidates held n sizes all =
     let many : length (zip candidates held) ≤ n = omega (arith, length-zip candidates held) in
-    ap (λ v. header ++ flat_map (candidate_row programmes) v) (take_all n (zip candidates held) many)
+    ap (λ v. header ++ flat_map (candidate_row programmes) v) (take_all n (zip candidates held)
+    many)

@@ -11,14 +11,15 @@ use Rattle.place_base.specs.declared.fault.FaultKind.TheVariants.{OutOfRange, Ba
 use Rattle.place_base.specs.declared.fault.FileFault.{FileFault}
 use Rattle.place_base.specs.declared.fault.FileKind.{FileKind}
 use Rattle.place_base.specs.declared.fault.FileKind.TheVariants as file
-use Rattle.record_files.specs.FirstFaults.{fault_at, duplicate_at, fault_if, first_of, reading_fault, long_fault, first_row_fault, shape_fault, fault_behind, row_fault, least_fault, data_rows, first_fault}
-use Rattle.record_files.specs.Form.{Form}
-use Rattle.record_files.specs.Numbers.{is_number, number_of, value}
-use Rattle.record_files.specs.Rows.{Row, rows, field_at}
-use Rattle.record_files.specs.TypeNames.{type_name_of}
-use Rattle.programme_table.specs.Programmes as programmes
-use Rattle.candidate_table.specs.Candidates as candidates
-use Rattle.rank_lists.specs.RankRows as ranks
+use Rattle.place_base.specs.declared.limits.TheConstants.{LARGEST_CODE, LARGEST_NUMBER, LARGEST_QUOTA, LARGEST_RANK, LONGEST_LINE, MOST_ENTRIES}
+use Rattle.record_files.specs.FirstFaults.{FileRules, duplicate_at, fault_at, fault_behind, fault_if, first_fault, first_of, first_row_fault, header_fault, least_fault, long_fault, reading_fault, row_fault, shape_fault}
+use Rattle.record_files.specs.Form.{Form, header_in}
+use Rattle.record_files.specs.Numbers.{is_number, number_of, type_name_of, value}
+use Rattle.record_files.specs.Rows.{Row, data_rows, field_at, rows}
+use Rattle.record_files.specs.declared.form.Header.{Header}
+use Rattle.programme_table.specs.Rows as programmes
+use Rattle.candidate_table.specs.Rows as candidates
+use Rattle.rank_lists.specs.Rows as ranks
 
 -- a fault that may be there is of another kind
 abbrev pub IsOther : Option FileFault → Type 0
@@ -70,54 +71,59 @@ other-least fault each (suc n) = other-first (least_fault fault n) (fault n)
     (other-least fault each n) (each n)
 
 other-long : (form : Form) (row : Row) → IsOther (long_fault form row)
-other-long form row = other-if (nat_lt 1024 (length row.1)) _ (λ e. cc e)
+other-long form row = other-if (nat_lt LONGEST_LINE (length row.1)) _ (λ e. cc e)
+
+other-header : (form : Form) (row : Row) → IsOther (header_fault form row)
+other-header form row =
+    other-first (long_fault form row) _ (other-long form row) (other-if _ _ (λ e. cc e))
 
 other-first_row : (form : Form) (lines : List Row) → IsOther (first_row_fault form lines)
 other-first_row form [] = λ e. cc e
-other-first_row form (row ∷ behind) = other-first (long_fault form row) _ (other-long form row)
-    (other-if _ _ (λ e. cc e))
+other-first_row form (row ∷ behind) = other-header form row
 
-other-shape : (form : Form) (index : ℕ) (row : Row) → IsOther (shape_fault form index row)
-other-shape form index row =
+other-shape : (form : Form) (fields index : ℕ) (row : Row)
+    → IsOther (shape_fault form fields index row)
+other-shape form fields index row =
     other-first (long_fault form row) _ (other-long form row)
-    (other-first _ _ (other-if (nat_le form.most_rows index) _ (λ e. cc e)) (other-if _ _ (λ e. cc e)))
+    (other-first _ _ (other-if (nat_le form.most_rows index) _ (λ e. cc e)) (other-if _ _ (λ e. cc
+    e)))
 
-other-behind : (form : Form) (reading : Row → Option FileFault)
-    (meaning : List Row → Row → Option FileFault) (earlier : List Row)
-    → ((row : Row) → IsOther (reading row))
-    → ((earlier : List Row) (row : Row) → IsOther (meaning earlier row))
-    → (found : Option Row)
-    → IsOther (option_and_then (fault_behind form reading meaning earlier) found)
-other-behind form reading meaning earlier read meant None = tt
-other-behind form reading meaning earlier read meant (Some row) =
-    other-first (shape_fault form (length earlier) row) _ (other-shape form (length earlier) row)
-    (other-first (reading row) (meaning earlier row) (read row) (meant earlier row))
+-- no reading of a row by these rules, and no meaning of one, is that the file is too long
+record AreOther (rules : FileRules) : Type 0 where
+  reading : (version : ℕ) (row : Row) → IsOther (rules.reading version row)
+  meaning : (earlier : List Row) (row : Row) → IsOther (rules.meaning earlier row)
 
-other-row : (form : Form) (reading : Row → Option FileFault)
-    (meaning : List Row → Row → Option FileFault) (lines : List Row)
-    → ((row : Row) → IsOther (reading row))
-    → ((earlier : List Row) (row : Row) → IsOther (meaning earlier row))
-    → (index : ℕ) → IsOther (row_fault form reading meaning lines index)
-other-row form reading meaning lines read meant index =
-    other-behind form reading meaning (take index lines) read meant (slice_get lines index)
+other-behind : (rules : FileRules) (header : Header) (earlier : List Row) → AreOther rules
+    → (found : Option Row) → IsOther (option_and_then (fault_behind rules header earlier) found)
+other-behind rules header earlier others None = tt
+other-behind rules header earlier others (Some row) =
+    other-first (shape_fault rules.form header.fields (length earlier) row) _
+    (other-shape rules.form header.fields (length earlier) row)
+    (other-first (rules.reading header.version row) (rules.meaning earlier row)
+    (others.reading header.version row) (others.meaning earlier row))
 
-other-file : (form : Form) (reading : Row → Option FileFault)
-    (meaning : List Row → Row → Option FileFault) (bytes : List ℕ)
-    → ((row : Row) → IsOther (reading row))
-    → ((earlier : List Row) (row : Row) → IsOther (meaning earlier row))
-    → IsOther (first_fault form reading meaning bytes)
-other-file form reading meaning bytes read meant =
-    other-first (first_row_fault form (rows bytes)) _ (other-first_row form (rows bytes))
-    (other-least _ (other-row form reading meaning (data_rows bytes) read meant)
-    (length (data_rows bytes)))
+other-row : (rules : FileRules) (bytes : List ℕ) → AreOther rules
+    → (index : ℕ) → IsOther (row_fault rules bytes index)
+other-row rules bytes others index =
+    other-behind rules (header_in rules.form (rows bytes)) (take index (data_rows bytes)) others
+    (slice_get (data_rows bytes) index)
+
+other-file : (rules : FileRules) (bytes : List ℕ) → AreOther rules
+    → IsOther (first_fault rules bytes)
+other-file rules bytes others =
+    other-first (first_row_fault rules.form (rows bytes)) _ (other-first_row rules.form (rows
+    bytes))
+    (other-least (row_fault rules bytes) (other-row rules bytes others) (length (data_rows bytes)))
 
 pub other-programmes : (bytes : List ℕ) → IsOther (programmes.programmes_fault bytes)
-other-programmes bytes =
-    other-file programmes.form programmes.reading programmes.meaning bytes
-    (λ row. other-first _ _ (other-reading _ _ 1 _ (other-number (field_at row 0) 1 999999999))
-    (other-first _ _ (other-reading _ _ 2 _ (other-type_name (field_at row 1)))
-    (other-reading _ _ 3 _ (other-number (field_at row 2) 0 100000))))
-    (λ earlier row. other-first _ _ (other-found _ _ 1 (find _ earlier)) (other-if _ _ (λ e. cc e)))
+other-programmes bytes = other-file programmes.programmes_rules bytes (record {
+  reading = λ version row.
+      other-first _ _ (other-reading _ _ 1 _ (other-number (field_at row 0) 1 LARGEST_CODE))
+      (other-first _ _ (other-reading _ _ 2 _ (other-type_name (field_at row 1)))
+      (other-reading _ _ 3 _ (other-number (field_at row 2) 0 LARGEST_QUOTA)));
+  meaning = λ earlier row.
+      other-first _ _ (other-found _ _ 1 (find _ earlier)) (other-if _ _ (λ e. cc e));
+})
 
 other-with : (first : Result ℕ FaultKind) (others : Result (List ℕ) FaultKind)
     → IsOtherReading first → IsOtherReading others
@@ -126,15 +132,15 @@ other-with (Err kind) others p q = p
 other-with (Ok code) (Err kind) p q = q
 other-with (Ok code) (Ok others) p q = tt
 
-other-codes : (entries : List (List ℕ)) → IsOtherReading (candidates.codes_of entries)
+other-codes : (entries : List (List ℕ)) → IsOtherReading (candidates.codes_read entries)
 other-codes [] = tt
-other-codes (entry ∷ entries) = other-with (number_of entry 1 999999999)
-    (candidates.codes_of entries) (other-number entry 1 999999999) (other-codes entries)
+other-codes (entry ∷ entries) = other-with (number_of entry 1 LARGEST_CODE)
+    (candidates.codes_read entries) (other-number entry 1 LARGEST_CODE) (other-codes entries)
 
 other-list : (field : List ℕ) → IsOtherReading (candidates.list_of field)
 other-list field =
-    cond_both (nat_lt 24 (length (candidates.entries_of field))) (Err ListTooLong)
-    (candidates.codes_of (candidates.entries_of field))
+    cond_both (nat_lt MOST_ENTRIES (length (candidates.entries_of field))) (Err ListTooLong)
+    (candidates.codes_read (candidates.entries_of field))
     IsOtherReading (λ _. λ e. cc e) (λ _. other-codes (candidates.entries_of field))
 
 other-entry : (codes : List ℕ) (line : ℕ) (list : List ℕ) (index : ℕ)
@@ -149,19 +155,22 @@ other-entry codes line list index =
     (other-if unknown no_programme (λ e. cc e)) (other-if repeated repeat (λ e. cc e))
 
 pub other-candidates : (codes bytes : List ℕ) → IsOther (candidates.candidates_fault codes bytes)
-other-candidates codes bytes =
-    other-file candidates.form candidates.reading (candidates.meaning codes) bytes
-    (λ row. other-first _ _ (other-reading _ _ 1 _ (other-number (field_at row 0) 1 99999999999))
-    (other-reading _ _ 2 _ (other-list (field_at row 1))))
-    (λ earlier row. other-first _ _ (other-found _ _ 1 (find _ earlier))
-    (other-least (candidates.entry_fault codes row.0 (candidates.codes_in row))
-    (other-entry codes row.0 (candidates.codes_in row)) (length (candidates.codes_in row))))
+other-candidates codes bytes = other-file (candidates.candidates_rules codes) bytes (record {
+  reading = λ version row.
+      other-first _ _ (other-reading _ _ 1 _ (other-number (field_at row 0) 1 LARGEST_NUMBER))
+      (other-reading _ _ 2 _ (other-list (field_at row 1)));
+  meaning = λ earlier row.
+      other-first _ _ (other-found _ _ 1 (find _ earlier))
+      (other-least (candidates.entry_fault codes row.0 (candidates.codes_in row))
+      (other-entry codes row.0 (candidates.codes_in row)) (length (candidates.codes_in row)));
+})
 
 pub other-ranks : (bytes : List ℕ) → IsOther (ranks.ranks_fault bytes)
-other-ranks bytes =
-    other-file ranks.ranks_form ranks.reading ranks.meaning bytes
-    (λ row. other-first _ _ (other-reading _ _ 1 _ (other-number (field_at row 0) 1 99999999999))
-    (other-first _ _ (other-reading _ _ 2 _ (other-type_name (field_at row 1)))
-    (other-reading _ _ 3 _ (other-number (field_at row 2) 1 99999999))))
-    (λ earlier row. other-first _ _ (other-found _ _ 2 (find _ earlier))
-    (other-found _ _ 3 (find _ earlier)))
+other-ranks bytes = other-file ranks.ranks_rules bytes (record {
+  reading = λ version row.
+      other-first _ _ (other-reading _ _ 1 _ (other-number (field_at row 0) 1 LARGEST_NUMBER))
+      (other-first _ _ (other-reading _ _ 2 _ (other-type_name (field_at row 1)))
+      (other-reading _ _ 3 _ (other-number (field_at row 2) 1 LARGEST_RANK)));
+  meaning = λ earlier row.
+      other-first _ _ (other-found _ _ 2 (find _ earlier)) (other-found _ _ 3 (find _ earlier));
+})

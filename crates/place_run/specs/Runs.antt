@@ -1,40 +1,132 @@
--- What may be said of a run, by its outcome and by its causes.
-use Rattle.std.specs.Prelude.{◌≡◌, ◌⊎◌, ℕ, List, Bool, IsTrue, Option, Some, None, Result, Ok, Err, ⊤}
+-- What may be said of a run: the promise of the top call.
+use Rattle.std.specs.Prelude.{◌≡◌, ◌≤◌, ◌<◌, ◌⊎◌, ℕ, ◌-◌, ◌^◌, List, [], IfOk, IfSome, IsErrOf, Option, Some, None, Result, Ok, Err, ⊤}
+use Rattle.place_base.specs.declared.fault.FileKind.{FileKind}
+use Rattle.command_words.specs.Words.{command_of}
 use Rattle.command_words.specs.declared.words.Command.{Command}
 use Rattle.command_words.specs.declared.words.Command.TheVariants.{Place}
 use Rattle.command_words.specs.declared.words.WordsFault.{WordsFault}
+use Rattle.market.specs.Mechanism.{mechanism_placement}
 use Rattle.place_edges.specs.Causes.{Rose}
-use Rattle.place_edges.specs.Shelf.{Files}
+use Rattle.place_edges.specs.Shelf.{Files, GaveMore, file_limit}
 use Rattle.place_edges.specs.Sink.{Appended, AppendedPrefix}
-use Rattle.place_run.specs.Outcome.{Outcome, refusal, done, word_at}
+use Rattle.run_frame.specs.Files.{AreHeld, AreTaken, HasBegun, HasCauses, Reads}
+use Rattle.run_frame.specs.Meetings.{IsDecided, Meets}
+use Rattle.run_frame.specs.Stops.{too_long}
+use Rattle.run_frame.specs.declared.stop.FileStop.TheVariants as file
+use Rattle.place_run.specs.Says.{KeepsPromise, Answer, files_read, first_file, named, says}
+use Rattle.place_run.specs.Statuses.{ended, status_of}
+use Rattle.place_run.specs.Stops.{is_free}
+use Rattle.place_run.specs.Tables.{HasNoFault, ThreeFiles, codes_in, numbers_in, problem_of, tables_in}
+use Rattle.place_run.specs.commands.Place.{AreThree, IsWorstStableText, placement_text}
 use Rattle.place_run.specs.declared.status.Status.{Status}
-use Rattle.place_run.specs.declared.status.Status.TheVariants.{Done, Words, FileFault, ReadFault, WriteFault, Memory}
+use Rattle.place_run.specs.declared.status.Status.TheVariants as ends
+use Rattle.place_run.specs.declared.status.Stop.{Stop}
+use Rattle.place_run.specs.declared.status.Stop.TheVariants.{File, Words}
 
--- The status and what was appended are those of the outcome. A fault of reading and want of memory
--- come in its place; a fault of writing comes where it is done, and a prefix of its text was
--- appended.
-abbrev pub IsRunOf : Option Outcome → Status → Option (List ℕ) → Option (List ℕ) → Type 0
-IsRunOf o Done old new = (text : List ℕ) × (o ≡ Some (done text)) × Appended old new text
-IsRunOf o (Words refused) old new = o ≡ Some (refusal (Words refused))
-IsRunOf o (FileFault found) old new = o ≡ Some (refusal (FileFault found))
-IsRunOf o ReadFault old new = ⊤
-IsRunOf o WriteFault old new =
-    (text : List ℕ) × (o ≡ Some (done text)) × AppendedPrefix old new text
-IsRunOf o Memory old new = ⊤
+-- the reading of the first file has begun, if there is one
+abbrev pub FirstHasBegun : Option FileKind → Reads → ℕ → ℕ → Type 0
+FirstHasBegun None reads before now = ⊤
+FirstHasBegun (Some kind) reads before now = HasBegun (reads kind) before now
 
--- the same where the files are told
-abbrev pub IsRun : Option Files → (Files → Option Outcome) → Status
+-- What reading files came to: there are bytes for each kind of file, those held under the names
+-- that the words give where that is told, such that the result meets what is said over them. Each
+-- file up to the one that decides was read once. Memory is refused only once the first file is
+-- read.
+pub record IsReading {T : Type 0} (told : Option Files) (words : List (List ℕ))
+    (first : Option FileKind) (said : Reads → Option (Result T Stop))
+    (files : Reads → List (List ℕ)) (result : Result T Stop)
+    (before now tally_before tally_now : ℕ) : Type 0 where
+  pub reads : Reads
+  pub held : AreHeld told (named words) reads
+  pub meets : Meets is_free (said reads) result
+  pub taken : IsDecided is_free result → AreTaken (files reads) tally_before tally_now
+  pub begun : (IsErrOf result (File file.ReadFault) → ⊥)
+      → FirstHasBegun first reads tally_before tally_now
+  pub causes : HasCauses File result before now tally_before tally_now
+
+-- an answer was written: whole, with its status, or a write failed, and a prefix of its text was
+abbrev pub IsEnded : Answer → Status → Option (List ℕ) → Option (List ℕ) → ℕ → ℕ → Type 0
+IsEnded answer status old new before now =
+    ((status ≡ ended answer.ending) × Appended old new answer.text)
+    ⊎ ((status ≡ ends.WriteFault) × AppendedPrefix old new answer.text × Rose before now)
+
+-- an answer was written, or the sink is as it was where there is none
+abbrev pub IsFinished : {K : Type 0} → (K → Option (List ℕ)) → (K → ℕ)
+    → Result Answer Stop → Status → K → K → Type 0
+IsFinished written faults (Ok answer) status old new =
+    IsEnded answer status (written old) (written new) (faults old) (faults new)
+IsFinished written faults (Err stop) status old new = (status ≡ status_of stop) × (new ≡ old)
+
+-- The answer to a command meets what is said over the bytes that were read, and keeps the command's
+-- promise.
+pub record IsAnswering (told : Option Files) (words : List (List ℕ))
+    (command : Result Command WordsFault) (answer : Result Answer Stop)
+    (before now tally_before tally_now : ℕ) : Type 0 where
+  pub reading : IsReading told words (first_file command) (says command) (files_read command)
+      answer before now tally_before tally_now
+  pub promise : IfOk answer (λ ready. KeepsPromise command reading.reads ready.text)
+
+-- the words were refused
+abbrev pub IsWordsStop : {T : Type 0} → Result T Stop → Type 0
+IsWordsStop result = (refused : WordsFault) × IsErrOf result (Words refused)
+
+-- The run: there is an answer to the words, and it was written.
+pub record IsRun {K : Type 0} (written : K → Option (List ℕ)) (faults : K → ℕ)
+    (told : Option Files) (words : List (List ℕ)) (status : Status) (old new : K)
+    (before now tally_before tally_now : ℕ) : Type 0 where
+  pub answer : Result Answer Stop
+  pub answers : IsAnswering told words (command_of words) answer before now tally_before tally_now
+  pub finished : IsFinished written faults answer status old new
+
+-- where the words are `place` and the run is done, such a text was appended, and nothing else
+abbrev pub PrintsWorstStable : Option Files → List (List ℕ) → Status
     → Option (List ℕ) → Option (List ℕ) → Type 0
-IsRun None outcome status old new = ⊤
-IsRun (Some files) outcome status old new = IsRunOf (outcome files) status old new
+PrintsWorstStable told words status old new =
+    (workers : ℕ) → command_of words ≡ Ok (Place workers) → status ≡ ends.Done
+    → (reads : Reads) × AreHeld told (named words) reads
+    × (text : List ℕ) × IsWorstStableText reads text × Appended old new text
 
--- the status and what was appended are those of the outcome, or memory was refused
-abbrev pub IsWholeRun : Option Files → (Files → Option Outcome) → Status
+-- the status where this is said
+abbrev pub status_said : Result Answer Stop → Status
+status_said (Ok answer) = ended answer.ending
+status_said (Err stop) = status_of stop
+
+-- the text where this is said
+abbrev pub text_said : Result Answer Stop → List ℕ
+text_said (Ok answer) = answer.text
+text_said (Err stop) = []
+
+-- The status and what was appended are those that are said over the bytes held, or memory was
+-- refused.
+abbrev pub IsWhole : Option Files → List (List ℕ) → Status → Option (List ℕ) → Option (List ℕ)
+    → Type 0
+IsWhole told words status old new =
+    (reads : Reads) × AreHeld told (named words) reads
+    × ((status ≡ ends.Memory)
+    ⊎ ((said : Result Answer Stop) × (says (command_of words) reads ≡ Some said)
+    × (status ≡ status_said said) × Appended old new (text_said said)))
+
+-- where the words ask for the placement of three held files without a fault, its text was appended
+-- whole, or memory was refused
+abbrev pub PlacesWhole : Option Files → List (List ℕ) → Status
     → Option (List ℕ) → Option (List ℕ) → Type 0
-IsWholeRun None outcome status old new = ⊤
-IsWholeRun (Some files) outcome status old new =
-    (said : Outcome) → outcome files ≡ Some said
-    → (status ≡ Memory) ⊎ ((status ≡ said.status) × Appended old new said.text)
+PlacesWhole told words status old new = IfSome told (λ files.
+    (three : ThreeFiles) (workers : ℕ) → command_of words ≡ Ok (Place workers)
+    → AreThree (λ kind. files (named words kind)) three → HasNoFault three
+    → (status ≡ ends.Memory)
+    ⊎ ((status ≡ ends.Done)
+    × Appended old new (placement_text (codes_in three) (numbers_in three)
+    (mechanism_placement (problem_of (tables_in three))))))
+
+-- both: all that is said is done, and files without a fault are placed
+pub record IsComplete (told : Option Files) (words : List (List ℕ)) (status : Status)
+    (old new : Option (List ℕ)) : Type 0 where
+  pub whole : IsWhole told words status old new
+  pub places : PlacesWhole told words status old new
+
+-- a count is the same at every moment, and can still rise
+abbrev pub IsConstant : {S : Type 0} → (S → ℕ) → Type 0
+IsConstant {S} count = (n : ℕ) × (n < 2 ^ 64 - 1) × ((state : S) → count state ≡ n)
 
 -- what was written before stays in front
 abbrev pub StaysInFront : Option (List ℕ) → Option (List ℕ) → Type 0
@@ -42,30 +134,31 @@ StaysInFront old new = (bytes : List ℕ) × Appended old new bytes
 
 -- where something was refused before the first byte of a text, this is as it was
 abbrev pub Untouched : {A : Type 0} → Status → A → A → Type 0
-Untouched Done old new = ⊤
-Untouched (Words _) old new = new ≡ old
-Untouched (FileFault _) old new = new ≡ old
-Untouched ReadFault old new = new ≡ old
-Untouched WriteFault old new = ⊤
-Untouched Memory old new = new ≡ old
+Untouched status old new = (stop : Stop) → status ≡ status_of stop → new ≡ old
 
 -- the words were refused
 abbrev pub IsWordsRefusal : Status → Type 0
-IsWordsRefusal status = (refused : WordsFault) × (status ≡ Words refused)
+IsWordsRefusal status = (refused : WordsFault) × (status ≡ ends.Words refused)
 
 -- words are refused exactly where they give no command, and with that refusal
 pub record WordsCause (command : Result Command WordsFault) (status : Status) : Type 0 where
-  pub only : (refused : WordsFault) → status ≡ Words refused → command ≡ Err refused
-  pub always : (refused : WordsFault) → command ≡ Err refused → status ≡ Words refused
+  pub only : (refused : WordsFault) → status ≡ ends.Words refused → command ≡ Err refused
+  pub always : (refused : WordsFault) → command ≡ Err refused → status ≡ ends.Words refused
 
--- the names of the files of a command that the words give are granted
-abbrev pub GrantsFor : (List ℕ → Bool) → Result Command WordsFault → List (List ℕ) → Type 0
-GrantsFor grants (Err _) words = ⊤
-GrantsFor grants (Ok (Place workers)) words =
-    IsTrue (grants (word_at words 1)) × IsTrue (grants (word_at words 2))
-    × IsTrue (grants (word_at words 3))
+-- Each refusal has its cause: words by the grammar, a read fault and a write fault by the counts, a
+-- file that is too long by the tally.
+pub record HasCause (command : Result Command WordsFault) (status : Status)
+    (before now tally_before tally_now out_before out_now : ℕ) : Type 0 where
+  pub words : WordsCause command status
+  pub read : status ≡ ends.ReadFault → Rose before now
+  pub long : (kind : FileKind) → status ≡ ends.FileFault (too_long kind)
+      → GaveMore tally_before tally_now file_limit
+  pub write : status ≡ ends.WriteFault → Rose out_before out_now
 
--- a prefix of the status's line was noted, and all of it where the count of faults did not rise
-pub record Noted (line : List ℕ) (old new : Option (List ℕ)) (before now : ℕ) : Type 0 where
-  pub part : AppendedPrefix old new line
-  pub whole : (Rose before now → ⊥) → Appended old new line
+-- What was written before stays in front, and after a refusal the sink is as it was. No count
+-- falls.
+pub record LeavesSink {K : Type 0} (written : K → Option (List ℕ)) (faults : K → ℕ)
+    (status : Status) (old new : K) : Type 0 where
+  pub kept : StaysInFront (written old) (written new)
+  pub untouched : Untouched status old new
+  pub later : faults old ≤ faults new

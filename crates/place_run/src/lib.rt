@@ -1,20 +1,20 @@
 //! The top call: from the words of the command line to a status, a text and a line of notes.
 #![tactic(auto)]
 
-// What each command comes to before its text is written.
+// What a command has ready before its first byte is written.
+mod answer;
+// What each command does.
 mod commands;
-// One file, read whole and judged.
-mod files;
+// The three tables of a market, read from their files.
+mod inputs;
 // The line of a status.
 mod notes;
-// The market of three tables, and its placement.
-mod placing;
+// The market of three tables.
+mod problem;
 // The top call.
 mod run;
 // How a run ends.
 mod status;
-// The text of a command.
-mod text;
 
 pub use run::run_words;
 pub use status::Status;

@@ -1,9 +1,10 @@
 // How a run ends.
 ghost use Rattle.std.specs.Prelude.{◌≡◌};
-ghost use Rattle.place_run.specs.Lines.{code_of};
-ghost use Rattle.place_run.specs.Steps.{status_of};
+ghost use Rattle.place_run.specs.Statuses.{code_of, ended, status_of};
 
-use record_files::TableStop;
+use command_words::WordsFault;
+use place_base::FileFault;
+use run_frame::FileStop;
 use std::alloc::AllocError;
 
 /// How a run ended.
@@ -12,9 +13,9 @@ pub enum Status {
     /// The files were read and the text was written whole.
     Done,
     /// The words are no command.
-    Words(command_words::WordsFault),
+    Words(WordsFault),
     /// The first of the files that has a fault has this first fault.
-    FileFault(place_base::FileFault),
+    FileFault(FileFault),
     /// A file could not be read.
     ReadFault,
     /// The text could not be written; its front may have been.
@@ -39,12 +40,27 @@ impl Status {
     }
 }
 
-// Why a command has no text.
+// How a run ends whose text is written whole.
+#[derive(Clone, Copy)]
+pub(crate) enum Ending {
+    Done,
+}
+
+impl Ending {
+    pub(crate) fn status(self) -> Status
+        ensures { result ≡ ended self }
+    {
+        match self {
+            Ending::Done => Status::Done,
+        }
+    }
+}
+
+// Why there is no text.
 #[derive(Clone, Copy)]
 pub(crate) enum Stop {
-    Fault(place_base::FileFault),
-    ReadFault,
-    Memory,
+    Words(WordsFault),
+    File(FileStop),
 }
 
 impl Stop {
@@ -52,32 +68,31 @@ impl Stop {
         ensures { result ≡ status_of self }
     {
         match self {
-            Stop::Fault(fault) => Status::FileFault(fault),
-            Stop::ReadFault => Status::ReadFault,
-            Stop::Memory => Status::Memory,
+            Stop::Words(refused) => Status::Words(refused),
+            Stop::File(FileStop::Fault(fault)) => Status::FileFault(fault),
+            Stop::File(FileStop::ReadFault) => Status::ReadFault,
+            Stop::File(FileStop::Memory) => Status::Memory,
         }
+    }
+}
+
+impl From<FileStop> for Stop {
+    ghost use Rattle.place_run.specs.declared.status.Stop.TheVariants.{File};
+
+    ghost from_gives = { λ unread stop. stop ≡ File unread };
+
+    fn from(unread: FileStop) -> Stop {
+        Stop::File(unread)
     }
 }
 
 impl From<AllocError> for Stop {
-    ghost use Rattle.place_run.specs.declared.status.Stop.TheVariants.{Memory};
+    ghost use Rattle.run_frame.specs.declared.stop.FileStop.TheVariants.{Memory};
+    ghost use Rattle.place_run.specs.declared.status.Stop.TheVariants.{File};
 
-    ghost from_gives = { λ _ stop. stop ≡ Memory };
+    ghost from_gives = { λ _ stop. stop ≡ File Memory };
 
     fn from(_: AllocError) -> Stop {
-        Stop::Memory
-    }
-}
-
-impl From<TableStop> for Stop {
-    ghost use Rattle.place_run.specs.Steps.{stop_of};
-
-    ghost from_gives = { λ table stop. stop ≡ stop_of table };
-
-    fn from(stop: TableStop) -> Stop {
-        match stop {
-            TableStop::Fault(fault) => Stop::Fault(fault),
-            TableStop::Memory => Stop::Memory,
-        }
+        Stop::File(FileStop::Memory)
     }
 }

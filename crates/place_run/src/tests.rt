@@ -1,11 +1,13 @@
 // Runs over files in memory, which a reader can check by hand.
+ghost use Rattle.std.specs.Prelude.{◌≤◌, ◌<◌};
+
 mod faulty_files;
 
 use self::faulty_files::FAULTY;
 use crate::{Status, run_words};
 use command_words::WordsFault;
 use place_edges::{MemShelf, MemSink, SureShelf, SureSink};
-use record_files::{Field, put_row_3};
+use record_files::{Field, put_row_2, put_row_3};
 use std::alloc::{AllocError, Global};
 use std::process::Abort;
 use std::test::Fail;
@@ -35,6 +37,7 @@ struct Ran {
     out: MemSink,
     notes: MemSink,
     faults: u64,
+    calls: u64,
 }
 
 fn words(alloc: Global, texts: &[&str]) -> Result<Vec<String>, AllocError> {
@@ -65,29 +68,29 @@ fn run(
     let mut notes = MemSink::new(alloc, 16, 65_536)?;
     let words = words(alloc, texts)?;
     let status = run_words(rt, alloc, &words, &mut shelf, &mut out, &mut notes);
-    let faults = shelf.faults();
     Ok(Ran {
         status,
         out,
         notes,
-        faults,
+        faults: shelf.faults(),
+        calls: shelf.calls(),
     })
 }
 
-// Runs these words over this shelf, and compares the number of the status, both texts and how often
-// the shelf failed.
+// Runs these words over this shelf, and compares the number of the status, both texts, how often
+// the shelf failed, and how often it was called: a file of one piece has an open and two takes.
 fn ends(
     rt: &(impl Threads + Abort),
     alloc: Global,
     texts: &[&str],
     shelf: MemShelf,
-    (code, out, note, faults): (u8, &[u8], &[u8], u64),
+    (code, out, note, faults, calls): (u8, &[u8], &[u8], u64, u64),
 ) -> Result<Status, Fail> {
     let ran = run(rt, alloc, texts, shelf)?;
     assert_eq!(rt; ran.status.code(), code);
     assert_eq!(rt; ran.out.bytes(), out);
     assert_eq!(rt; ran.notes.bytes(), note);
-    assert_eq!(rt; ran.faults, faults);
+    assert_eq!(rt; (ran.faults, ran.calls), (faults, calls));
     Ok(ran.status)
 }
 
@@ -191,7 +194,7 @@ fn are_placed(
             alloc,
             &[("p", *programmes), ("c", *candidates), ("r", *ranks)],
         )?;
-        ends(rt, alloc, &PLACE, shelf, (0, *placed, b"", 0))?;
+        ends(rt, alloc, &PLACE, shelf, (0, *placed, b"", 0, 9))?;
     }
     Ok(())
 }
@@ -205,6 +208,24 @@ const BAD_CANDIDATES: &[u8] = b"candidate,list\nx,101\n";
 
 const BAD_RANKS: &[u8] = b"candidate,type,rank\n1,say,1\n";
 
+// How often the shelf is called until the file of this note is read.
+fn calls_until(note: &[u8], [programmes, candidates, ranks]: [&[u8]; 3]) -> u64 {
+    if note.starts_with(b"fault programmes") {
+        calls_for(programmes)
+    } else if note.starts_with(b"fault candidates") {
+        calls_for(programmes) + calls_for(candidates)
+    } else {
+        calls_for(programmes) + calls_for(candidates) + calls_for(ranks)
+    }
+}
+
+// An open, a take of all bytes where there are some, and a take at the end.
+fn calls_for(file: &[u8]) -> u64
+    ensures { result ≤ 3 }
+{
+    if file.is_empty() { 2 } else { 3 }
+}
+
 // Each three files have this first fault.
 fn are_faulty(
     rt: &(impl Threads + Abort),
@@ -216,7 +237,8 @@ fn are_faulty(
             alloc,
             &[("p", *programmes), ("c", *candidates), ("r", *ranks)],
         )?;
-        ends(rt, alloc, &PLACE, shelf, (3, b"", *note, 0))?;
+        let calls = calls_until(note, [*programmes, *candidates, *ranks]);
+        ends(rt, alloc, &PLACE, shelf, (3, b"", *note, 0, calls))?;
     }
     Ok(())
 }
@@ -275,7 +297,7 @@ fn are_refused(
 ) -> Result<(), Fail> {
     for (texts, refused, note) in words {
         let shelf = shelf(alloc, &[])?;
-        let status = ends(rt, alloc, texts, shelf, (2, b"", *note, 0))?;
+        let status = ends(rt, alloc, texts, shelf, (2, b"", *note, 0, 0))?;
         assert_eq!(rt; status, Status::Words(*refused));
     }
     Ok(())
@@ -288,27 +310,30 @@ fn words_that_are_no_command_are_refused_before_a_file_is_opened(
     are_refused(&rt, rt.alloc(), &REFUSED)
 }
 
-// Shelves that lack a file: the number of the status, its line, and how often the shelf failed. Where
-// a file has a fault, the next is not opened, so that it may be missing.
-const LACKING: [(&[(&str, &[u8])], u8, &[u8], u64); 4] = [
+// Shelves that lack a file: the number of the status, its line, and how often the shelf failed and
+// was called. Where a file has a fault, the next is not opened, so that it may be missing.
+const LACKING: [(&[(&str, &[u8])], u8, &[u8], u64, u64); 4] = [
     (
         &[("p", PROGRAMMES), ("c", BAD_CANDIDATES)],
         3,
         b"fault candidates line 2 field 1 F03 NotNumber earlier 0\n",
         0,
+        6,
     ),
     (
         &[("p", PROGRAMMES), ("r", BAD_RANKS)],
         4,
         b"read fault\n",
         1,
+        4,
     ),
-    (&[("c", CANDIDATES), ("r", RANKS)], 4, b"read fault\n", 1),
+    (&[("c", CANDIDATES), ("r", RANKS)], 4, b"read fault\n", 1, 1),
     (
         &[("p", PROGRAMMES), ("c", CANDIDATES)],
         4,
         b"read fault\n",
         1,
+        7,
     ),
 ];
 
@@ -316,11 +341,17 @@ const LACKING: [(&[(&str, &[u8])], u8, &[u8], u64); 4] = [
 fn are_lacking(
     rt: &(impl Threads + Abort),
     alloc: Global,
-    shelves: &[(&[(&str, &[u8])], u8, &[u8], u64)],
+    shelves: &[(&[(&str, &[u8])], u8, &[u8], u64, u64)],
 ) -> Result<(), Fail> {
-    for (files, code, note, faults) in shelves {
+    for (files, code, note, faults, calls) in shelves {
         let shelf = shelf(alloc, files)?;
-        ends(rt, alloc, &PLACE, shelf, (*code, b"", *note, *faults))?;
+        ends(
+            rt,
+            alloc,
+            &PLACE,
+            shelf,
+            (*code, b"", *note, *faults, *calls),
+        )?;
     }
     Ok(())
 }
@@ -336,7 +367,13 @@ const FREED_SEAT: [(&str, &[u8]); 3] = [("p", PROGRAMMES), ("c", CANDIDATES), ("
 fn a_read_that_fails_within_a_file_is_a_read_fault(rt: HostRuntime) -> Result<(), Fail> {
     let mut shelf = shelf(rt.alloc(), &FREED_SEAT)?;
     shelf.fail_at(5)?;
-    let status = ends(&rt, rt.alloc(), &PLACE, shelf, (4, b"", b"read fault\n", 1))?;
+    let status = ends(
+        &rt,
+        rt.alloc(),
+        &PLACE,
+        shelf,
+        (4, b"", b"read fault\n", 1, 5),
+    )?;
     assert_eq!(rt; status, Status::ReadFault);
     Ok(())
 }
@@ -463,5 +500,90 @@ fn a_programmes_file_may_have_60_000_rows(rt: HostRuntime) -> Result<(), Fail> {
         let ran = run(&rt, alloc, &PLACE, shelf)?;
         assert_eq!(rt; ran.notes.bytes(), note.as_bytes());
     }
+    Ok(())
+}
+
+// The score type of each of four groups.
+fn type_of(group: u64) -> &'static [u8] {
+    match group {
+        0 => b"A",
+        1 => b"B",
+        2 => b"C",
+        _ => b"D",
+    }
+}
+
+// The list of each group: its own programme first.
+fn list_of(group: u64) -> &'static [u8] {
+    match group {
+        0 => b"1;2;3;4",
+        1 => b"2;3;4;1",
+        2 => b"3;4;1;2",
+        _ => b"4;1;2;3",
+    }
+}
+
+// Four programmes with a quarter of the seats each.
+fn four_programmes(alloc: Global) -> Result<Vec<u8>, AllocError> {
+    let mut bytes = b"programme,type,quota\n".to_vec(alloc)?;
+    for group in 0..4 {
+        let code = Field::Number(group + 1);
+        put_row_3(
+            &mut bytes,
+            code,
+            Field::Text(type_of(group)),
+            Field::Number(1_250),
+        )?;
+    }
+    Ok(bytes)
+}
+
+// 5,000 candidates in four groups.
+fn many_candidates(alloc: Global) -> Result<Vec<u8>, AllocError> {
+    let mut bytes = b"candidate,list\n".to_vec(alloc)?;
+    for index in 0..5_000 {
+        let list = list_of(index / 1_250);
+        put_row_2(&mut bytes, Field::Number(index + 1), Field::Text(list))?;
+    }
+    Ok(bytes)
+}
+
+// The ranks of all candidates in all four types: in the type of a group its candidates come first.
+fn many_ranks(alloc: Global) -> Result<Vec<u8>, AllocError> {
+    let mut bytes = b"candidate,type,rank\n".to_vec(alloc)?;
+    for group in 0..4 {
+        for index in 0..5_000 {
+            let rank = (index + 5_000 - 1_250 * group) % 5_000 + 1;
+            let name = Field::Text(type_of(group));
+            put_row_3(
+                &mut bytes,
+                Field::Number(index + 1),
+                name,
+                Field::Number(rank),
+            )?;
+        }
+    }
+    Ok(bytes)
+}
+
+#[test]
+fn five_thousand_candidates_are_placed_by_twenty_thousand_ranks(
+    rt: HostRuntime,
+) -> Result<(), Fail> {
+    let alloc = rt.alloc();
+    let programmes = four_programmes(alloc)?;
+    let candidates = many_candidates(alloc)?;
+    let ranks = many_ranks(alloc)?;
+    let shelf = shelf(
+        alloc,
+        &[("p", &programmes), ("c", &candidates), ("r", &ranks)],
+    )?;
+    let mut placed = b"candidate,programme\n".to_vec(alloc)?;
+    for index in 0..5_000 {
+        let code = Field::Number(index / 1_250 + 1);
+        put_row_2(&mut placed, Field::Number(index + 1), code)?;
+    }
+    // the ranks are taken in more than one piece
+    ends(&rt, alloc, &PLACE, shelf, (0, &placed, b"", 0, 12))?;
     Ok(())
 }

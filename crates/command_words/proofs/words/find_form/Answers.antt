@@ -6,7 +6,7 @@ use Rattle.std.proofs.lemmas.Iterator.{YieldsList-from_slice}
 use Rattle.std.proofs.lemmas.Iterator.Adapters.{option_map_id}
 use Rattle.std.proofs.lemmas.Iterator.Consumers.{YieldsList-from_copied}
 use Rattle.std.proofs.lemmas.Iterator.Search.{find_from_yields_List}
-use Rattle.command_words.specs.Forms.{line_of}
+use Rattle.command_words.specs.Forms.{grammar_line}
 use Rattle.command_words.specs.Words.{CommandForm}
 use Rattle.command_words.specs.declared.words.Form.{Form}
 use Rattle.command_words.proofs.words.find_form.Goals as goal
@@ -26,5 +26,5 @@ returns c =
     let HasWord = λ (form : CommandForm). bytes_eq form.word word in
     let found = find_from_yields_List (λ (form : Form). bytes_eq form.word.now word) _ _ c.find.result c.find.ensures.ran
     (YieldsList-from_copied (YieldsList-from_slice table cc)) (λ x b q k. search (rules, tests)) in
-    ap (option_map line_of) (sym (option_map_id c.find.result) ∙ found) ∙ sym (find-map line_of HasWord table)
-    ∙ ap (λ (forms : List Form). find HasWord (map line_of forms)) c.iter.ensures.rest
+    ap (option_map grammar_line) (sym (option_map_id c.find.result) ∙ found) ∙ sym (find-map grammar_line HasWord table)
+    ∙ ap (λ (forms : List Form). find HasWord (map grammar_line forms)) c.iter.ensures.rest

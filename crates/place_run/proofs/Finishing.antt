@@ -1,0 +1,291 @@
+-- What a run leaves of a sink, and what follows where no read and no write failed.
+use Rattle.std.proofs.Common.{◌≡◌, ◌⊎◌, ◌∙◌, ◌≤◌, ℕ, List, [], refl, sym, ap, subst, take, inl, inr, arith, Option, Some, None, Result, Ok, Err, IfOk, ⊎_elim}
+use Rattle.std.specs.Prelude.{length}
+use Rattle.place_base.specs.declared.fault.FileFault.{FileFault}
+use Rattle.place_base.specs.declared.fault.FileKind.{FileKind}
+use Rattle.place_base.specs.declared.fault.FileKind.TheVariants as file
+use Rattle.command_words.specs.Words.{command_of}
+use Rattle.command_words.specs.declared.words.Command.{Command}
+use Rattle.command_words.specs.declared.words.Command.TheVariants.{Place}
+use Rattle.command_words.specs.declared.words.WordsFault.{WordsFault}
+use Rattle.place_edges.specs.Causes.{Rose}
+use Rattle.place_edges.specs.Shelf.{Files, file_limit}
+use Rattle.place_edges.specs.Sink.{Appended}
+use Rattle.programme_table.specs.Table.{codes_of}
+use Rattle.candidate_table.specs.Table.{numbers_of}
+use Rattle.run_frame.specs.Files.{Reads}
+use Rattle.run_frame.specs.Meetings.{Meets}
+use Rattle.run_frame.specs.Stops.{too_long}
+use Rattle.run_frame.specs.declared.stop.FileStop.{FileStop}
+use Rattle.run_frame.specs.declared.stop.FileStop.TheVariants.{Fault, ReadFault, Memory}
+use Rattle.run_frame.proofs.Parts.{appended-nothing}
+use Rattle.place_run.specs.Runs.{HasCause, IsAnswering, IsComplete, IsConstant, IsFinished, IsWhole, LeavesSink, PlacesWhole, PrintsWorstStable, StaysInFront, status_said, text_said}
+use Rattle.place_run.specs.Says.{Answer, KeepsPromise, and_then, answered, done, opened, says, tables_said}
+use Rattle.place_run.specs.Statuses.{ended, status_of}
+use Rattle.place_run.specs.Stops.{is_free}
+use Rattle.place_run.specs.Tables.{HasNoFault, ThreeFiles, candidates_said, codes_in, fault_or, judged, numbers_in, programmes_said, ranks_said, tables_in}
+use Rattle.place_run.specs.commands.Place.{AreThree, placement_of}
+use Rattle.place_run.specs.declared.status.Ending.{Ending}
+use Rattle.place_run.specs.declared.status.Ending.TheVariants as ending
+use Rattle.place_run.specs.declared.status.Status.{Status}
+use Rattle.place_run.specs.declared.status.Status.TheVariants as ends
+use Rattle.place_run.specs.declared.status.Stop.{Stop}
+use Rattle.place_run.specs.declared.status.Stop.TheVariants.{Words, File}
+use Rattle.place_run.proofs.Headline.{printed-in}
+use Rattle.place_run.proofs.Judging.{judged-short}
+
+-- the stop of a status, if it is that of one
+abbrev stop_in : Status → Option Stop
+stop_in ends.Done = None
+stop_in (ends.Words refused) = Some (Words refused)
+stop_in (ends.FileFault found) = Some (File (Fault found))
+stop_in ends.ReadFault = Some (File ReadFault)
+stop_in ends.WriteFault = None
+stop_in ends.Memory = Some (File Memory)
+
+stop-in : (stop : Stop) → stop_in (status_of stop) ≡ Some stop
+stop-in (Words refused) = refl
+stop-in (File (Fault found)) = refl
+stop-in (File ReadFault) = refl
+stop-in (File Memory) = refl
+
+-- an answer that is written whole ends in no stop, and in no write fault
+ended-well : (end : Ending) → (stop_in (ended end) ≡ None) × (ended end ≡ ends.WriteFault → ⊥)
+ended-well ending.Done = (refl, λ e. cc e)
+
+no-stop : (status : Status) (stop : Stop) → stop_in status ≡ None → status ≡ status_of stop → ⊥
+no-stop status stop none same =
+    let e : None ≡ Some stop = sym none ∙ ap stop_in same ∙ stop-in stop in cc e
+
+-- a status that is a stop's is that of the answer
+stopped : {K : Type 0} (written : K → Option (List ℕ)) (faults : K → ℕ)
+    (answer : Result Answer Stop) (status : Status) (old new : K) (stop : Stop)
+    → IsFinished written faults answer status old new → status ≡ status_of stop
+    → (answer ≡ Err stop) × (new ≡ old)
+stopped written faults (Ok answer) status old new stop (inl (well, wrote)) same =
+    absurd (no-stop status stop (ap stop_in well ∙ (ended-well answer.ending).0) same)
+stopped written faults (Ok answer) status old new stop (inr (fault, wrote, rose)) same =
+    absurd (no-stop status stop (ap stop_in fault) same)
+stopped written faults (Err other) status old new stop (is, same_sink) same =
+    let e : Some other ≡ Some stop = sym (stop-in other) ∙ ap stop_in (sym is ∙ same)
+    ∙ stop-in stop in
+    (ap (λ v. Err v) (cc e), same_sink)
+
+front-finished : {K : Type 0} (written : K → Option (List ℕ)) (faults : K → ℕ)
+    (answer : Result Answer Stop) (status : Status) (old new : K)
+    → IsFinished written faults answer status old new → StaysInFront (written old) (written new)
+front-finished written faults (Ok answer) status old new (inl (well, wrote)) = (answer.text, wrote)
+front-finished written faults (Ok answer) status old new (inr (fault, (k, few, wrote), rose)) =
+    (take k answer.text, wrote)
+front-finished written faults (Err stop) status old new (is, same) =
+    ([], appended-nothing (written old) (written new) (ap written same))
+
+write-cause : {K : Type 0} (written : K → Option (List ℕ)) (faults : K → ℕ)
+    (answer : Result Answer Stop) (status : Status) (old new : K)
+    → IsFinished written faults answer status old new → status ≡ ends.WriteFault
+    → Rose (faults old) (faults new)
+write-cause written faults (Ok answer) status old new (inl (well, wrote)) same =
+    absurd ((ended-well answer.ending).1 (sym well ∙ same))
+write-cause written faults (Ok answer) status old new (inr (fault, wrote, rose)) same = rose
+write-cause written faults (Err stop) status old new (is, same_sink) same =
+    absurd (no-stop status stop (ap stop_in same) is)
+
+-- files say no refusal of words
+behind-no-words : {T U : Type 0} (said : Result T FileStop) (next : T → Option (Result U Stop))
+    (refused : WordsFault) → ((table : T) → next table ≡ Some (Err (Words refused)) → ⊥)
+    → and_then said next ≡ Some (Err (Words refused)) → ⊥
+behind-no-words (Err stop) next refused never e = cc e
+behind-no-words (Ok table) next refused never e = never table e
+
+opened-no-words : {T U : Type 0} (held : Option (List ℕ)) (judge : List ℕ → Result T FileStop)
+    (next : T → Option (Result U Stop)) (refused : WordsFault)
+    → ((table : T) → next table ≡ Some (Err (Words refused)) → ⊥)
+    → opened held judge next ≡ Some (Err (Words refused)) → ⊥
+opened-no-words None judge next refused never e = cc e
+opened-no-words (Some bytes) judge next refused never e =
+    behind-no-words (judge bytes) next refused never e
+
+answered-no-words : {T : Type 0} (make : T → Answer) (said : Option (Result T Stop))
+    (refused : WordsFault) → answered make said ≡ Some (Err (Words refused))
+    → said ≡ Some (Err (Words refused))
+answered-no-words make None refused e = cc e
+answered-no-words make (Some (Err stop)) refused e =
+    let same : stop ≡ Words refused = cc e in ap (λ v. Some (Err v)) same
+answered-no-words make (Some (Ok table)) refused e = cc e
+
+says-refused : (command : Result Command WordsFault) (reads : Reads) (refused : WordsFault)
+    → says command reads ≡ Some (Err (Words refused)) → command ≡ Err refused
+says-refused (Err other) reads refused e = ap (λ v. Err v) (cc e)
+says-refused (Ok (Place workers)) reads refused e = absurd
+    (opened-no-words (reads file.Programmes) _ _ refused
+    (λ programmes. opened-no-words (reads file.Candidates) _ _ refused
+    (λ candidates. opened-no-words (reads file.Ranks) _ _ refused (λ ranks never. cc never)))
+    (answered-no-words _ (tables_said reads) refused e))
+
+-- a decided stop is said
+said-words : (said : Option (Result Answer Stop)) (refused : WordsFault)
+    → Meets is_free said (Err (Words refused)) → said ≡ Some (Err (Words refused))
+said-words said refused (inl free) = cc free
+said-words said refused (inr e) = e
+
+-- where it is done, an answer was appended whole
+done-finished : {K : Type 0} (written : K → Option (List ℕ)) (faults : K → ℕ)
+    (answer : Result Answer Stop) (status : Status) (old new : K)
+    → IsFinished written faults answer status old new → status ≡ ends.Done
+    → (ready : Answer) × (answer ≡ Ok ready) × Appended (written old) (written new) ready.text
+done-finished written faults (Ok answer) status old new (inl (is, wrote)) well =
+    (answer, refl, wrote)
+done-finished written faults (Ok answer) status old new (inr (fault, wrote, rose)) well =
+    cc (sym fault ∙ well)
+done-finished written faults (Err stop) status old new (is, same) well =
+    absurd (no-stop status stop (ap stop_in well) is)
+
+-- where no write failed, what is said was done, or memory was refused
+said-finished : {K : Type 0} (written : K → Option (List ℕ)) (faults : K → ℕ)
+    (said : Option (Result Answer Stop)) (answer : Result Answer Stop) (status : Status) (old new :
+    K)
+    → Meets is_free said answer → IsFinished written faults answer status old new
+    → (answer ≡ Err (File ReadFault) → ⊥) → (Rose (faults old) (faults new) → ⊥)
+    → (status ≡ ends.Memory)
+    ⊎ ((all : Result Answer Stop) × (said ≡ Some all)
+    × (status ≡ status_said all) × Appended (written old) (written new) (text_said all))
+said-finished written faults said (Ok answer) status old new meets (inl (well, wrote)) read write =
+    inr (Ok answer, meets, well, wrote)
+said-finished written faults said (Ok answer) status old new meets (inr (fault, wrote, rose)) read
+    write = absurd (write rose)
+said-finished written faults said (Err stop) status old new (inr e) (is, same) read write =
+    inr (Err stop, e, is, appended-nothing (written old) (written new) (ap written same))
+said-finished written faults said (Err (Words refused)) status old new (inl free) finished read
+    write = cc free
+said-finished written faults said (Err (File (Fault found))) status old new (inl free) finished read
+    write = cc free
+said-finished written faults said (Err (File ReadFault)) status old new (inl free) finished read
+    write = absurd (read refl)
+said-finished written faults said (Err (File Memory)) status old new (inl free) (is, same) read
+    write = inl is
+
+-- a count that is constant does not rise
+pub constant-count : {S : Type 0} (count : S → ℕ) (old new : S) → IsConstant count
+    → Rose (count old) (count new) → ⊥
+constant-count count old new (n, few, same) rose =
+    omega (arith, few, same old, same new, rose)
+
+says-ok : {T : Type 0} (kind : FileKind) (found : Option FileFault) (table : T) (bytes : List ℕ)
+    → length bytes ≤ file_limit
+    → found ≡ None → judged kind found table bytes ≡ Ok table
+says-ok kind found table bytes few none = judged-short kind found table bytes few ∙ ap
+    (λ v. fault_or v table) none
+
+says-programmes : (three : ThreeFiles) → HasNoFault three
+    → programmes_said three.programmes ≡ Ok (tables_in three).programmes
+unfolding programmes_said tables_in
+says-programmes three faultless = says-ok _ _ _ three.programmes faultless.programmes_few
+    faultless.programmes
+
+says-candidates : (three : ThreeFiles) → HasNoFault three
+    → candidates_said (codes_of (tables_in three).programmes.rows) three.candidates
+    ≡ Ok (tables_in three).candidates
+unfolding candidates_said tables_in codes_in
+says-candidates three faultless = says-ok _ _ _ three.candidates faultless.candidates_few
+    faultless.candidates
+
+says-ranks : (three : ThreeFiles) → HasNoFault three
+    → ranks_said (tables_in three).programmes.names (numbers_of (tables_in
+    three).candidates.numbers)
+    three.ranks ≡ Ok (tables_in three).ranks
+unfolding ranks_said tables_in numbers_in codes_in
+says-ranks three faultless = says-ok _ _ _ three.ranks faultless.ranks_few faultless.ranks
+
+-- three files without a fault say their tables
+three-said : (reads : Reads) (three : ThreeFiles) → AreThree reads three → HasNoFault three
+    → tables_said reads ≡ Some (Ok (tables_in three))
+three-said reads three read faultless =
+    rw read.programmes (rw (says-programmes three faultless)
+    (rw read.candidates (rw (says-candidates three faultless)
+    (rw read.ranks (rw (says-ranks three faultless) refl)))))
+
+places-whole : (told : Option Files) (words : List (List ℕ)) (status : Status)
+    (old new : Option (List ℕ))
+    → IsWhole told words status old new → PlacesWhole told words status old new
+places-whole None words status old new whole = tt
+places-whole (Some files) words status old new (reads, held, whole) =
+    λ three workers accepted read faultless.
+    let seen : AreThree reads three = record {
+      programmes = sym (held file.Programmes) ∙ read.programmes;
+      candidates = sym (held file.Candidates) ∙ read.candidates;
+      ranks = sym (held file.Ranks) ∙ read.ranks;
+    } in
+    let said : says (command_of words) reads ≡ Some (Ok (done (placement_of (tables_in three)))) =
+    ap (λ v. says v reads) accepted
+    ∙ ap (λ v. answered (λ tables. done (placement_of tables)) v)
+    (three-said reads three seen faultless) in
+    ⊎_elim (λ refused. inl refused)
+    (λ other. let same : other.0 ≡ Ok (done (placement_of (tables_in three))) = cc (other.1, said)
+    in
+    inr (
+      other.2 ∙ ap status_said same,
+      subst (λ v. Appended old new v) (ap text_said same ∙ printed-in three) other.3,
+    ))
+    whole
+
+-- the clauses of a run, from its answer and how it was written
+module _ {K : Type 0} (written : K → Option (List ℕ)) (faults : K → ℕ) (told : Option Files)
+    (words : List (List ℕ)) (answer : Result Answer Stop) (status : Status) (old new : K)
+    (before now tally_before tally_now : ℕ)
+    (answers : IsAnswering told words (command_of words) answer before now tally_before tally_now)
+    (finished : IsFinished written faults answer status old new) where
+  pub worst-done : PrintsWorstStable told words status (written old) (written new)
+  worst-done = λ workers accepted well.
+      let ready = done-finished written faults answer status old new finished well in (
+        answers.reading.reads,
+        answers.reading.held,
+        ready.0.text,
+        subst (λ v. KeepsPromise v answers.reading.reads ready.0.text) accepted
+            (subst (λ v. IfOk v (λ r. KeepsPromise (command_of words) answers.reading.reads r.text))
+            ready.1 answers.promise),
+        ready.2,
+      )
+
+  pub complete-run : (Rose before now → ⊥) → (Rose (faults old) (faults new) → ⊥)
+      → IsComplete told words status (written old) (written new)
+  complete-run no_read no_write =
+      let whole : IsWhole told words status (written old) (written new) = (
+        answers.reading.reads,
+        answers.reading.held,
+        said-finished written faults _ answer status old new answers.reading.meets finished
+            (λ unread. no_read (answers.reading.causes.read unread)) no_write,
+      ) in
+      record {
+        whole = whole;
+        places = places-whole told words status (written old) (written new) whole;
+      }
+
+  pub causes-run : ((refused : WordsFault) → command_of words ≡ Err refused
+      → answer ≡ Err (Words refused))
+      → HasCause (command_of words) status before now tally_before tally_now (faults old) (faults
+      new)
+  causes-run exact =
+      let at = stopped written faults answer status old new in
+      record {
+        words = record {
+          only = λ refused same. says-refused (command_of words) answers.reading.reads refused
+              (said-words _ refused (subst (λ v. Meets is_free
+              (says (command_of words) answers.reading.reads) v) (at (Words refused) finished
+              same).0
+              answers.reading.meets));
+          always = λ refused none.
+              (subst (λ v. IsFinished written faults v status old new) (exact refused none)
+              finished).0;
+        };
+        read = λ same. answers.reading.causes.read (at (File ReadFault) finished same).0;
+        long = λ kind same. answers.reading.causes.long kind
+            (at (File (Fault (too_long kind))) finished same).0;
+        write = write-cause written faults answer status old new finished;
+      }
+
+  pub leaves-sink : faults old ≤ faults new → LeavesSink written faults status old new
+  leaves-sink later = record {
+    kept = front-finished written faults answer status old new finished;
+    untouched = λ stop same. (stopped written faults answer status old new stop finished same).1;
+    later = later;
+  }

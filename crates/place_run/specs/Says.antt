@@ -1,0 +1,129 @@
+-- What the words come to, and which files are read for it.
+use Rattle.std.specs.Prelude.{◌≡◌, ℕ, List, [], ◌∷◌, Bool, IsTrue, slice_index_or, Option, Some, None, Result, Ok, Err, ⊤}
+use Rattle.place_base.specs.declared.fault.FileKind.{FileKind}
+use Rattle.place_base.specs.declared.fault.FileKind.TheVariants.{Programmes, Candidates, Ranks, Placement, Registrations}
+use Rattle.command_words.specs.declared.words.Command.{Command}
+use Rattle.command_words.specs.declared.words.Command.TheVariants.{Place}
+use Rattle.command_words.specs.declared.words.WordsFault.{WordsFault}
+use Rattle.place_edges.specs.Shelf.{Files}
+use Rattle.programme_table.specs.Table.{codes_of}
+use Rattle.programme_table.specs.Table as programme
+use Rattle.candidate_table.specs.Table.{numbers_of}
+use Rattle.candidate_table.specs.Table as candidate
+use Rattle.run_frame.specs.Files.{IsHeld, Reads}
+use Rattle.run_frame.specs.declared.stop.FileStop.{FileStop}
+use Rattle.place_run.specs.Tables.{Tables, candidates_said, programmes_said, ranks_said}
+use Rattle.place_run.specs.commands.Place.{IsWorstStableText, placement_of}
+use Rattle.place_run.specs.declared.status.Ending.{Ending}
+use Rattle.place_run.specs.declared.status.Ending.TheVariants.{Done}
+use Rattle.place_run.specs.declared.status.Stop.{Stop}
+use Rattle.place_run.specs.declared.status.Stop.TheVariants.{Words, File}
+
+-- what a command has ready before its first byte is written
+pub record Answer : Type 0 where
+  pub ending : Ending
+  pub text : List ℕ
+
+-- the word at an index, from 0
+abbrev pub word_at : List (List ℕ) → ℕ → List ℕ
+word_at words index = slice_index_or words index []
+
+-- the names that the words give to the files of each kind
+abbrev pub named : List (List ℕ) → FileKind → List ℕ
+named words Programmes = word_at words 1
+named words Candidates = word_at words 2
+named words Ranks = word_at words 3
+named words Placement = word_at words 4
+named words Registrations = word_at words 5
+
+-- go on with what a file says
+abbrev pub and_then : {T U : Type 0} → Result T FileStop → (T → Option (Result U Stop))
+    → Option (Result U Stop)
+and_then (Err stop) next = Some (Err (File stop))
+and_then (Ok said) next = next said
+
+-- open a file, judge it, and go on; nothing is said where it is not held
+abbrev pub opened : {T U : Type 0} → Option (List ℕ) → (List ℕ → Result T FileStop)
+    → (T → Option (Result U Stop)) → Option (Result U Stop)
+opened None judge next = None
+opened (Some bytes) judge next = and_then (judge bytes) next
+
+-- no file is read behind one that has a fault
+abbrev pub read_behind : {T : Type 0} → Result T FileStop → (T → List (List ℕ)) → List (List ℕ)
+read_behind (Err stop) next = []
+read_behind (Ok said) next = next said
+
+-- the files that are read so: each is read once, in this order
+abbrev pub read_from : {T : Type 0} → Option (List ℕ) → (List ℕ → Result T FileStop)
+    → (T → List (List ℕ)) → List (List ℕ)
+read_from None judge next = []
+read_from (Some bytes) judge next = bytes ∷ read_behind (judge bytes) next
+
+-- what three files say: their tables, or the first fault
+abbrev pub tables_said : Reads → Option (Result Tables Stop)
+tables_said reads =
+    opened (reads Programmes) programmes_said (λ programmes.
+    opened (reads Candidates) (candidates_said (codes_of programmes.rows)) (λ candidates.
+    opened (reads Ranks) (ranks_said programmes.names (numbers_of candidates.numbers)) (λ ranks.
+    Some (Ok (record { programmes = programmes; candidates = candidates; ranks = ranks })))))
+
+-- the files that are read for it
+abbrev pub tables_read : Reads → List (List ℕ)
+tables_read reads =
+    read_from (reads Programmes) programmes_said (λ programmes.
+    read_from (reads Candidates) (candidates_said (codes_of programmes.rows)) (λ candidates.
+    read_from (reads Ranks) (ranks_said programmes.names (numbers_of candidates.numbers)) (λ ranks.
+    [])))
+
+-- an answer that is made of what was read
+abbrev pub answered : {T : Type 0} → (T → Answer) → Option (Result T Stop)
+    → Option (Result Answer Stop)
+answered make None = None
+answered make (Some (Err stop)) = Some (Err stop)
+answered make (Some (Ok said)) = Some (Ok (make said))
+
+-- a text that ends a run well
+abbrev pub done : List ℕ → Answer
+done text = record { ending = Done; text = text }
+
+-- what the words come to over the bytes of the files, none where a file is missed before anything
+-- is refused
+abbrev pub says : Result Command WordsFault → Reads → Option (Result Answer Stop)
+says (Err refused) reads = Some (Err (Words refused))
+says (Ok (Place workers)) reads = answered (λ tables. done (placement_of tables)) (tables_said
+    reads)
+
+-- the files that are read for it
+abbrev pub files_read : Result Command WordsFault → Reads → List (List ℕ)
+files_read (Err refused) reads = []
+files_read (Ok (Place workers)) reads = tables_read reads
+
+-- the kind of the file that is opened first
+abbrev pub first_file : Result Command WordsFault → Option FileKind
+first_file (Err refused) = None
+first_file (Ok (Place workers)) = Some Programmes
+
+-- what each command promises of its text, in the subject's own words
+abbrev pub KeepsPromise : Result Command WordsFault → Reads → List ℕ → Type 0
+KeepsPromise (Err refused) reads text = ⊤
+KeepsPromise (Ok (Place workers)) reads text = IsWorstStableText reads text
+
+-- The name of each of the three files is granted where the files before it may have no fault. Where
+-- the shelf tells no bytes these are all three names.
+pub record MayOpenTables (told : Option Files) (grants : List ℕ → Bool) (words : List (List ℕ))
+    : Type 0 where
+  pub programmes : IsTrue (grants (named words Programmes))
+  pub candidates : (p : List ℕ) (programmes : programme.Programmes)
+      → IsHeld told (named words Programmes) (Some p) → programmes_said p ≡ Ok programmes
+      → IsTrue (grants (named words Candidates))
+  pub ranks : (p c : List ℕ) (programmes : programme.Programmes) (candidates : candidate.Candidates)
+      → IsHeld told (named words Programmes) (Some p) → programmes_said p ≡ Ok programmes
+      → IsHeld told (named words Candidates) (Some c)
+      → candidates_said (codes_of programmes.rows) c ≡ Ok candidates
+      → IsTrue (grants (named words Ranks))
+
+-- the names that a command reaches are granted
+abbrev pub MayOpen : Option Files → (List ℕ → Bool) → Result Command WordsFault → List (List ℕ)
+    → Type 0
+MayOpen told grants (Err refused) words = ⊤
+MayOpen told grants (Ok (Place workers)) words = MayOpenTables told grants words

@@ -1,0 +1,60 @@
+-- The number of each status, and its line on the notes.
+use Rattle.std.specs.Prelude.{ℕ, List, [], ◌∷◌, codes, decimal}
+use Rattle.command_words.specs.declared.words.WordsFault.{WordsFault}
+use Rattle.command_words.specs.declared.words.WordsFault.TheVariants.{NoCommand, UnknownCommand, WordCount, BadNumber}
+use Rattle.run_frame.specs.Lines.{fault_line, line_text}
+use Rattle.run_frame.specs.declared.stop.FileStop.TheVariants as file
+use Rattle.place_run.specs.declared.status.Ending.{Ending}
+use Rattle.place_run.specs.declared.status.Ending.TheVariants as ending
+use Rattle.place_run.specs.declared.status.Status.{Status}
+use Rattle.place_run.specs.declared.status.Status.TheVariants.{Done, Words, FileFault, ReadFault, WriteFault, Memory}
+use Rattle.place_run.specs.declared.status.Stop.{Stop}
+use Rattle.place_run.specs.declared.status.Stop.TheVariants as stop
+
+-- the number of a status
+abbrev pub code_of : Status → ℕ
+code_of Done = 0
+code_of (Words _) = 2
+code_of (FileFault _) = 3
+code_of ReadFault = 4
+code_of WriteFault = 5
+code_of Memory = 6
+
+-- the status of an answer whose text was written whole
+abbrev pub ended : Ending → Status
+ended ending.Done = Done
+
+-- the status where there is no answer
+abbrev pub status_of : Stop → Status
+status_of (stop.Words refused) = Words refused
+status_of (stop.File (file.Fault found)) = FileFault found
+status_of (stop.File file.ReadFault) = ReadFault
+status_of (stop.File file.Memory) = Memory
+
+-- the name of a refusal of words
+abbrev pub refusal_name : WordsFault → List ℕ
+refusal_name NoCommand = codes "NoCommand"
+refusal_name (UnknownCommand _) = codes "UnknownCommand"
+refusal_name (WordCount _) = codes "WordCount"
+refusal_name (BadNumber _) = codes "BadNumber"
+
+-- the place of the word that is refused, 0 where there is no word
+abbrev pub refusal_place : WordsFault → ℕ
+refusal_place NoCommand = 0
+refusal_place (UnknownCommand place) = place
+refusal_place (WordCount place) = place
+refusal_place (BadNumber place) = place
+
+-- the line of a refusal of words
+unfoldable pub words_line : WordsFault → List ℕ
+words_line refused =
+    line_text (codes "words" ∷ refusal_name refused ∷ decimal (refusal_place refused) ∷ [])
+
+-- the line of a status
+abbrev pub status_line : Status → List ℕ
+status_line Done = []
+status_line (Words refused) = words_line refused
+status_line (FileFault found) = fault_line found
+status_line ReadFault = codes "read fault\n"
+status_line WriteFault = codes "write fault\n"
+status_line Memory = codes "want of memory\n"

@@ -1,0 +1,8 @@
+-- The kinds of text.
+use Rattle.std.specs.Prelude.{ℕ, List}
+use Rattle.place_run.specs.declared.answer.Text.{Text}
+use Rattle.place_run.specs.declared.answer.Text.TheVariants.{Whole}
+
+-- the bytes that a text has
+abbrev pub bytes_of : Text → List ℕ
+bytes_of (Whole bytes) = bytes.items

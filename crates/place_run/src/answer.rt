@@ -1,0 +1,60 @@
+// What a command has ready before its first byte is written.
+ghost use Rattle.std.specs.Prelude.{◌≡◌};
+ghost use Rattle.place_edges.specs.Sink.{IsWritten};
+ghost use Rattle.place_run.specs.Says.{done};
+
+use crate::status::Ending;
+use place_edges::{Failed, Sink, write_whole};
+use std::marker::Model;
+
+// An answer: how the run ends, and a text. All its memory is taken when it is made.
+#[derive(Drop)]
+pub(crate) struct Answer {
+    ending: Ending,
+    text: Text,
+}
+
+// The kinds of text.
+#[derive(Drop)]
+enum Text {
+    // One that stands in memory whole.
+    Whole(Vec<u8>),
+}
+
+impl Model for Answer {
+    ghost use Rattle.place_run.specs.Says.{Answer};
+    ghost use Rattle.place_run.specs.Texts.{bytes_of};
+
+    ghost Value = { Answer };
+
+    ghost view = { λ a. record { ending = a.ending; text = bytes_of a.text } };
+}
+
+impl Answer {
+    // The answer of a command that is done, with this text.
+    pub(crate) fn done(text: Vec<u8>) -> Answer
+        ensures { result ≡ done text.items }
+    {
+        Answer {
+            ending: Ending::Done,
+            text: Text::Whole(text),
+        }
+    }
+
+    // How the run ends where the text is written whole.
+    pub(crate) fn ending(&self) -> Ending
+        ensures { result ≡ self.now.ending }
+    {
+        self.ending
+    }
+
+    // Writes the text.
+    pub(crate) fn write<K: Sink>(&self, out: &mut K) -> Result<(), Failed>
+        ensures { IsWritten self.now.text result (K.written out.old) (K.written out.new)
+            (K.faults out.old) (K.faults out.new) }
+    {
+        match &self.text {
+            Text::Whole(bytes) => write_whole(out, bytes),
+        }
+    }
+}

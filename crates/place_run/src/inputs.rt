@@ -1,0 +1,165 @@
+// The three tables of a market, read from their files.
+ghost use Rattle.std.specs.Prelude.{◌≡◌, ◌≤◌, ◌<◌, All, IfOk, IsTrue, Option, Some, length};
+ghost use Rattle.command_words.specs.Words.{texts};
+ghost use Rattle.place_base.specs.declared.fault.FileKind.TheVariants as file;
+ghost use Rattle.programme_table.specs.Table.{codes_of};
+ghost use Rattle.candidate_table.specs.Table.{IsPreferenceList, numbers_of};
+ghost use Rattle.run_frame.specs.Files.{IsJudged};
+ghost use Rattle.place_run.specs.Runs.{IsReading};
+ghost use Rattle.place_run.specs.Says.{MayOpenTables, tables_read, tables_said, word_at};
+ghost use Rattle.place_run.specs.Tables.{programmes_said, candidates_said, ranks_said};
+
+use crate::status::Stop;
+use candidate_table::CandidateTable;
+use place_base::FileKind;
+use place_edges::Shelf;
+use programme_table::ProgrammeTable;
+use rank_lists::RankLists;
+use run_frame::{FileStop, read_file, table_or_stop};
+use std::alloc::Global;
+use std::marker::Model;
+use std::thread::Threads;
+
+// The three tables of a market. Each speaks only of what those before it hold.
+#[derive(Drop)]
+pub(crate) struct Inputs {
+    programmes: ProgrammeTable,
+    candidates: CandidateTable,
+    ranks: RankLists,
+}
+
+impl Model for Inputs {
+    ghost use Rattle.place_run.specs.Tables.{DoFit, Tables};
+
+    ghost Value = { Tables };
+
+    ghost view = { λ i. record {
+      programmes = i.programmes;
+      candidates = i.candidates;
+      ranks = i.ranks;
+    } };
+
+    ghost invariant = { λ i. DoFit (record {
+      programmes = i.programmes;
+      candidates = i.candidates;
+      ranks = i.ranks;
+    }) };
+}
+
+impl Inputs {
+    // Reads the files that the words 2 to 4 name: each is read and judged before the next is
+    // opened.
+    pub(crate) fn read<R: Threads, H: Shelf>(
+        rt: &R,
+        alloc: Global,
+        words: &[String],
+        shelf: &mut H,
+        pieces: u32,
+    ) -> Result<Inputs, Stop>
+        requires words { 4 ≤ length words.now }
+        requires granted { MayOpenTables (H.files shelf.old) (H.grants shelf.old) (texts words.now) }
+        requires pieces { (1 ≤ pieces) × (pieces ≤ 64) }
+        ensures reading { IsReading (H.files shelf.old) (texts words.now) (Some file.Programmes)
+            tables_said tables_read result
+            (H.faults shelf.old) (H.faults shelf.new) (H.tally shelf.old) (H.tally shelf.new) }
+        ensures files { H.files shelf.new ≡ H.files shelf.old }
+        ensures grants { H.grants shelf.new ≡ H.grants shelf.old }
+    {
+        let programmes = read_programmes(rt, alloc, shelf, word(words, 1), pieces)?;
+        let candidates = read_candidates(rt, alloc, shelf, word(words, 2), pieces, &programmes)?;
+        let name = word(words, 3);
+        let ranks = read_ranks(rt, alloc, shelf, name, pieces, &programmes, &candidates)?;
+        Ok(Inputs {
+            programmes,
+            candidates,
+            ranks,
+        })
+    }
+
+    // The tables, which are not copied.
+    pub(crate) fn into_parts(self) -> (ProgrammeTable, CandidateTable, RankLists)
+        ensures programmes { result.0 ≡ self.programmes }
+        ensures candidates { result.1 ≡ self.candidates }
+        ensures ranks { result.2 ≡ self.ranks }
+        ensures lists { All (IsPreferenceList (length (codes_of self.programmes.rows)))
+            self.candidates.lists }
+        ensures types { length self.ranks.orders ≡ length self.programmes.names }
+        ensures numbers { self.ranks.candidates ≡ length self.candidates.numbers }
+    {
+        (self.programmes, self.candidates, self.ranks)
+    }
+}
+
+// The word at a place, counted from 0.
+fn word(words: &[String], place: usize) -> &str
+    requires { place < length words.now }
+    ensures { result.now ≡ word_at (texts words.now) place }
+{
+    words[place].as_str()
+}
+
+// Reads the programmes file.
+fn read_programmes<R: Threads, H: Shelf>(
+    rt: &R,
+    alloc: Global,
+    shelf: &mut H,
+    name: &str,
+    pieces: u32,
+) -> Result<ProgrammeTable, FileStop>
+    requires granted { IsTrue (H.grants shelf.old name.now) }
+    requires pieces { (1 ≤ pieces) × (pieces ≤ 64) }
+    ensures judged { IsJudged (H.files shelf.old) name.now programmes_said result
+        (H.faults shelf.old) (H.faults shelf.new) (H.tally shelf.old) (H.tally shelf.new) }
+    ensures files { H.files shelf.new ≡ H.files shelf.old }
+    ensures grants { H.grants shelf.new ≡ H.grants shelf.old }
+{
+    let bytes = read_file(alloc, shelf, name, FileKind::Programmes)?;
+    table_or_stop(ProgrammeTable::read(rt, alloc, &bytes, pieces))
+}
+
+// Reads the candidates file, beside the programmes.
+fn read_candidates<R: Threads, H: Shelf>(
+    rt: &R,
+    alloc: Global,
+    shelf: &mut H,
+    name: &str,
+    pieces: u32,
+    programmes: &ProgrammeTable,
+) -> Result<CandidateTable, FileStop>
+    requires granted { IsTrue (H.grants shelf.old name.now) }
+    requires pieces { (1 ≤ pieces) × (pieces ≤ 64) }
+    ensures judged { IsJudged (H.files shelf.old) name.now
+        (candidates_said (codes_of programmes.now.rows)) result
+        (H.faults shelf.old) (H.faults shelf.new) (H.tally shelf.old) (H.tally shelf.new) }
+    ensures lists { IfOk result (λ table.
+        All (IsPreferenceList (length (codes_of programmes.now.rows))) table.lists) }
+    ensures files { H.files shelf.new ≡ H.files shelf.old }
+    ensures grants { H.grants shelf.new ≡ H.grants shelf.old }
+{
+    let bytes = read_file(alloc, shelf, name, FileKind::Candidates)?;
+    table_or_stop(CandidateTable::read(rt, alloc, &bytes, pieces, programmes))
+}
+
+// Reads the ranks file, beside the types of the programmes and the candidates.
+fn read_ranks<R: Threads, H: Shelf>(
+    rt: &R,
+    alloc: Global,
+    shelf: &mut H,
+    name: &str,
+    pieces: u32,
+    programmes: &ProgrammeTable,
+    candidates: &CandidateTable,
+) -> Result<RankLists, FileStop>
+    requires granted { IsTrue (H.grants shelf.old name.now) }
+    requires pieces { (1 ≤ pieces) × (pieces ≤ 64) }
+    ensures judged { IsJudged (H.files shelf.old) name.now
+        (ranks_said programmes.now.names (numbers_of candidates.now.numbers)) result
+        (H.faults shelf.old) (H.faults shelf.new) (H.tally shelf.old) (H.tally shelf.new) }
+    ensures types { IfOk result (λ lists. length lists.orders ≡ length programmes.now.names) }
+    ensures candidates { IfOk result (λ lists. lists.candidates ≡ length candidates.now.numbers) }
+    ensures files { H.files shelf.new ≡ H.files shelf.old }
+    ensures grants { H.grants shelf.new ≡ H.grants shelf.old }
+{
+    let bytes = read_file(alloc, shelf, name, FileKind::Ranks)?;
+    table_or_stop(RankLists::read(rt, alloc, &bytes, pieces, programmes, candidates))
+}

@@ -1,0 +1,61 @@
+// The market of three tables.
+ghost use Rattle.std.specs.Prelude.{◌≡◌, ◌≤◌, All, IfOk, length};
+ghost use Rattle.market.specs.Problems.{IsValid};
+ghost use Rattle.place_base.specs.declared.limits.TheConstants.{MOST_CANDIDATES};
+ghost use Rattle.programme_table.specs.Table.{codes_of};
+ghost use Rattle.candidate_table.specs.Table.{IsPreferenceList};
+ghost use Rattle.place_run.specs.Problems.{IsProblemOf};
+ghost use Rattle.place_run.specs.Tables.{problem_with};
+
+use crate::inputs::Inputs;
+use candidate_table::CandidateNumbers;
+use market::{List, Market};
+use place_base::TypeFinder;
+use programme_table::ProgrammeTable;
+use rank_lists::{RankLists, RankParts};
+use std::alloc::{AllocError, Global};
+
+// A market, with the codes of its programmes and the numbers of its candidates.
+#[derive(Drop)]
+pub(crate) struct Problem {
+    pub(crate) market: Market,
+    pub(crate) programmes: ProgrammeTable,
+    pub(crate) numbers: CandidateNumbers,
+}
+
+impl Problem {
+    // The market of three tables.
+    pub(crate) fn build(alloc: Global, inputs: Inputs) -> Result<Problem, AllocError>
+        ensures { IfOk result (IsProblemOf inputs) }
+    {
+        let (programmes, candidates, ranks) = inputs.into_parts();
+        let (numbers, lists) = candidates.into_parts();
+        let market = build_market(alloc, &programmes, lists, ranks)?;
+        Ok(Problem {
+            market,
+            programmes,
+            numbers,
+        })
+    }
+}
+
+// The market of the programmes, the candidates' lists, and their turn orders and ranks.
+fn build_market(
+    alloc: Global,
+    programmes: &ProgrammeTable,
+    lists: Vec<List>,
+    ranks: RankLists,
+) -> Result<Market, AllocError>
+    requires lists { All (IsPreferenceList (length (codes_of programmes.now.rows))) lists.items }
+    requires few { length lists.items ≤ MOST_CANDIDATES }
+    requires types { length ranks.orders ≡ length programmes.now.names }
+    requires candidates { ranks.candidates ≡ length lists.items }
+    ensures market { IfOk result (λ market.
+        market ≡ problem_with programmes.now lists.items ranks) }
+    ensures valid { IfOk result IsValid }
+{
+    let kinds = programmes.type_count();
+    let programmes = programmes.programmes(alloc)?;
+    let RankParts { orders, ranks } = ranks.into_parts();
+    Market::build(alloc, kinds, programmes, lists, orders, ranks)
+}

@@ -1,0 +1,128 @@
+-- A file that was read whole is judged by its bytes; one that was not has its cause.
+use Rattle.std.proofs.Common.{◌≡◌, ℕ, ◌+◌, ◌<◌, ◌≤◌, List, [], ◌∷◌, Option, Some, None, Result, Err, refl, sym, ap, subst, ◌∙◌, inl, inr, arith}
+use Rattle.std.specs.Prelude.{length, replicate, IsErrAnd, IsErrOf}
+use Rattle.std.proofs.lemmas.List.{length-replicate}
+use Rattle.place_base.specs.declared.fault.FileKind.{FileKind}
+use Rattle.place_edges.specs.Shelf.{Files, HasBytes, HasMore, file_limit, tally_with}
+use Rattle.run_frame.specs.Files.{HasBegun, HasCauses, IsHeld, IsJudged, IsTaken, IsUnread}
+use Rattle.run_frame.specs.Meetings.{Meets}
+use Rattle.run_frame.specs.Stops.{is_free, too_long}
+use Rattle.run_frame.specs.declared.stop.FileStop.{FileStop}
+use Rattle.run_frame.specs.declared.stop.FileStop.TheVariants.{Fault, ReadFault, Memory}
+use Rattle.run_frame.proofs.Parts.{at-error}
+
+-- a file that has more than so many bytes: one that is held, where that is told, and else some
+long-file : (told : Option Files) (name : List ℕ) (n : ℕ) → HasMore told name n
+    → (bytes : List ℕ) × IsHeld told name (Some bytes) × (n < length bytes)
+long-file None name n many = (replicate (n + 1) 0, tt, omega (arith, length-replicate {A = ℕ}))
+long-file (Some files) name n many = many
+
+held-bytes : (told : Option Files) (name bytes : List ℕ) → HasBytes told name bytes
+    → IsHeld told name (Some bytes)
+held-bytes None name bytes held = tt
+held-bytes (Some files) name bytes held = held
+
+held-some : (told : Option Files) (name : List ℕ)
+    → (bytes : Option (List ℕ)) × IsHeld told name bytes
+held-some None name = (None, tt)
+held-some (Some files) name = (files name, refl)
+
+-- of a file that was read at least one byte was taken, but where it has none
+begun-bytes : (bytes : List ℕ) (before now : ℕ) → now ≡ tally_with before (length bytes)
+    → HasBegun (Some bytes) before now
+begun-bytes [] before now given = inl refl
+begun-bytes (byte ∷ bytes) before now given = inr (omega (arith, given))
+
+-- a file whose bytes were read is judged by them
+pub judged-bytes : {T : Type 0} (told : Option Files) (name bytes : List ℕ)
+    (judge : List ℕ → Result T FileStop) (result : Result T FileStop)
+    (before now tally_before tally_now : ℕ) → HasBytes told name bytes
+    → length bytes ≤ file_limit → tally_now ≡ tally_with tally_before (length bytes)
+    → Meets is_free (Some (judge bytes)) result
+    → HasCauses (λ stop. stop) result before now tally_before tally_now
+    → IsJudged told name judge result before now tally_before tally_now
+judged-bytes told name bytes judge result before now tally_before tally_now held few given meets
+    causes = record {
+      bytes = Some bytes;
+      held = held-bytes told name bytes held;
+      meets = meets;
+      taken = λ file same decided.
+          let e : file ≡ bytes = cc same in
+          subst (λ v. IsTaken v tally_before tally_now) (sym e)
+          (record { short = λ _. given; long = λ many. absurd (omega (arith, few, many)) });
+      begun = λ unread. begun-bytes bytes tally_before tally_now given;
+      causes = causes;
+    }
+
+-- the causes of a stop are the same whatever there would be without it
+same-causes : {T S : Type 0} (stop : FileStop) (before now tally_before tally_now : ℕ)
+    → HasCauses {T = S} (λ v. v) (Err stop) before now tally_before tally_now
+    → HasCauses {T = T} (λ v. v) (Err stop) before now tally_before tally_now
+same-causes stop before now tally_before tally_now causes = record {
+  faults = causes.faults;
+  tally = causes.tally;
+  read = λ e. let same : stop ≡ ReadFault = cc e in causes.read (ap (λ v. Err v) same);
+  long = λ kind e.
+      let same : stop ≡ Fault (too_long kind) = cc e in causes.long kind (ap (λ v. Err v) same);
+}
+
+-- a file that was not read whole is judged so
+judged-unread : {T S : Type 0} (told : Option Files) (name : List ℕ) (kind : FileKind)
+    (judge : List ℕ → Result T FileStop) (stop : FileStop)
+    (before now tally_before tally_now : ℕ)
+    → ((bytes : List ℕ) → file_limit < length bytes → judge bytes ≡ Err (Fault (too_long kind)))
+    → IsUnread told name kind stop
+    → (IsErrOf {T = S} (Err stop) Memory → tally_with tally_before 1 ≤ tally_now)
+    → HasCauses {T = S} (λ stop. stop) (Err stop) before now tally_before tally_now
+    → IsJudged told name judge (Err stop) before now tally_before tally_now
+judged-unread told name kind judge (Fault found) before now tally_before tally_now long
+    (is, more) begun causes =
+    let file = long-file told name file_limit more in record {
+      bytes = Some file.0;
+      held = file.1;
+      meets = inr (ap (λ v. Some v) (long file.0 file.2 ∙ ap (λ v. Err (Fault v)) (sym is)));
+      taken = λ bytes same decided.
+          let e : bytes ≡ file.0 = cc same in
+          subst (λ v. IsTaken v tally_before tally_now) (sym e) (record {
+            short = λ few. absurd (omega (arith, few, file.2));
+            long = λ many. causes.long kind (ap (λ v. Err (Fault v)) is);
+          });
+      begun = λ unread.
+          inr (omega (arith, causes.tally, causes.long kind (ap (λ v. Err (Fault v)) is)));
+      causes = same-causes _ before now tally_before tally_now causes;
+    }
+judged-unread told name kind judge ReadFault before now tally_before tally_now long unread begun
+    causes =
+    let file = held-some told name in record {
+      bytes = file.0;
+      held = file.1;
+      meets = inl refl;
+      taken = λ bytes same decided. cc decided;
+      begun = λ unread. absurd (unread refl);
+      causes = same-causes _ before now tally_before tally_now causes;
+    }
+judged-unread told name kind judge Memory before now tally_before tally_now long unread begun causes
+    =
+    let file = held-some told name in record {
+      bytes = file.0;
+      held = file.1;
+      meets = inl refl;
+      taken = λ bytes same decided. cc decided;
+      begun = λ unread. inr (begun refl);
+      causes = same-causes _ before now tally_before tally_now causes;
+    }
+
+-- the same of a result that is its stop
+pub judged-stop : {T S : Type 0} (told : Option Files) (name : List ℕ) (kind : FileKind)
+    (judge : List ℕ → Result T FileStop) (stop : FileStop) (result : Result T FileStop)
+    (before now tally_before tally_now : ℕ) → IsErrAnd result (λ found. found ≡ stop)
+    → ((bytes : List ℕ) → file_limit < length bytes → judge bytes ≡ Err (Fault (too_long kind)))
+    → IsUnread told name kind stop
+    → (IsErrOf {T = S} (Err stop) Memory → tally_with tally_before 1 ≤ tally_now)
+    → HasCauses {T = S} (λ stop. stop) (Err stop) before now tally_before tally_now
+    → IsJudged told name judge result before now tally_before tally_now
+judged-stop told name kind judge stop result before now tally_before tally_now is long unread begun
+    causes =
+    at-error (λ r. IsJudged told name judge r before now tally_before tally_now) result stop is
+    (judged-unread told name kind judge stop before now tally_before tally_now long unread begun
+    causes)

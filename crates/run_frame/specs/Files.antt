@@ -1,0 +1,66 @@
+-- What reading files came to.
+use Rattle.std.specs.Prelude.{◌≡◌, ◌≤◌, ◌<◌, ◌⊎◌, ℕ, List, [], ◌∷◌, length, Option, Some, None, Result, IsErrOf, IfSome, option_map, ⊤}
+use Rattle.place_base.specs.declared.fault.FileKind.{FileKind}
+use Rattle.place_edges.specs.Causes.{Rose}
+use Rattle.place_edges.specs.Shelf.{Files, GaveMore, HasMore, file_limit, tally_with}
+use Rattle.run_frame.specs.Meetings.{IsDecided, Meets}
+use Rattle.run_frame.specs.Stops.{is_free, too_long}
+use Rattle.run_frame.specs.declared.stop.FileStop.{FileStop}
+use Rattle.run_frame.specs.declared.stop.FileStop.TheVariants.{Fault, ReadFault, Memory}
+
+-- why a file could not be read whole: only too long a file is a fault
+abbrev pub IsUnread : Option Files → List ℕ → FileKind → FileStop → Type 0
+IsUnread files name kind (Fault found) = (found ≡ too_long kind) × HasMore files name file_limit
+IsUnread files name kind ReadFault = ⊤
+IsUnread files name kind Memory = ⊤
+
+-- No count of a shelf fell. A read fault comes only where the count of faults rose, and a file that
+-- is too long only where the tally rose by more than 2^30.
+pub record HasCauses {T S : Type 0} (stopped : FileStop → S) (result : Result T S)
+    (before now tally_before tally_now : ℕ) : Type 0 where
+  pub faults : before ≤ now
+  pub tally : tally_before ≤ tally_now
+  pub read : IsErrOf result (stopped ReadFault) → Rose before now
+  pub long : (kind : FileKind) → IsErrOf result (stopped (Fault (too_long kind)))
+      → GaveMore tally_before tally_now file_limit
+
+-- the bytes held under a name, none where there is no such file, if that is told
+abbrev pub IsHeld : Option Files → List ℕ → Option (List ℕ) → Type 0
+IsHeld told name held = IfSome told (λ files. files name ≡ held)
+
+-- the tally rose by the bytes of a file, or by more than 2^30 where it has more
+pub record IsTaken (bytes : List ℕ) (before now : ℕ) : Type 0 where
+  pub short : length bytes ≤ file_limit → now ≡ tally_with before (length bytes)
+  pub long : file_limit < length bytes → GaveMore before now file_limit
+
+-- the same of files that were read one after the other
+abbrev pub AreTaken : List (List ℕ) → ℕ → ℕ → Type 0
+AreTaken [] before now = now ≡ before
+AreTaken (bytes ∷ files) before now =
+    (between : ℕ) × IsTaken bytes before between × AreTaken files between now
+
+-- the reading of a file has begun: a byte was taken of it, or it has none
+abbrev pub HasBegun : Option (List ℕ) → ℕ → ℕ → Type 0
+HasBegun bytes before now = (bytes ≡ Some []) ⊎ (tally_with before 1 ≤ now)
+
+-- What reading and judging one file came to: there are bytes, those held where that is told, by
+-- which it meets what the file says.
+pub record IsJudged {T : Type 0} (told : Option Files) (name : List ℕ)
+    (judge : List ℕ → Result T FileStop) (result : Result T FileStop)
+    (before now tally_before tally_now : ℕ) : Type 0 where
+  pub bytes : Option (List ℕ)
+  pub held : IsHeld told name bytes
+  pub meets : Meets is_free (option_map judge bytes) result
+  pub taken : (file : List ℕ) → bytes ≡ Some file → IsDecided is_free result
+      → IsTaken file tally_before tally_now
+  pub begun : (IsErrOf result ReadFault → ⊥) → HasBegun bytes tally_before tally_now
+  pub causes : HasCauses (λ stop. stop) result before now tally_before tally_now
+
+-- the bytes of the files of each kind, none where there is no such file
+abbrev pub Reads : Type 0
+Reads = FileKind → Option (List ℕ)
+
+-- they are those held under the files' names, if that is told
+abbrev pub AreHeld : Option Files → (FileKind → List ℕ) → Reads → Type 0
+AreHeld told names reads =
+    IfSome told (λ files. (kind : FileKind) → files (names kind) ≡ reads kind)

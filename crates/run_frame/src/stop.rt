@@ -1,0 +1,40 @@
+// Why a file has no table.
+ghost use Rattle.std.specs.Prelude.{◌≡◌};
+ghost use Rattle.run_frame.specs.Stops.{table_said};
+
+use place_base::FileFault;
+use place_edges::ReadStop;
+use record_files::TableStop;
+use std::alloc::AllocError;
+
+/// Why a file has no table.
+#[derive(Clone, Copy, Debug, PartialEq, Eq)]
+pub enum FileStop {
+    /// The file has this first fault.
+    Fault(FileFault),
+    /// The file could not be read.
+    ReadFault,
+    /// Memory was refused.
+    Memory,
+}
+
+impl From<AllocError> for FileStop {
+    ghost use Rattle.run_frame.specs.declared.stop.FileStop.TheVariants.{Memory};
+
+    ghost from_gives = { λ _ stop. stop ≡ Memory };
+
+    fn from(_: AllocError) -> FileStop {
+        FileStop::Memory
+    }
+}
+
+/// What was read of a table, with its stop among the causes of a file.
+pub fn table_or_stop<T>(read: Result<T, TableStop>) -> Result<T, FileStop>
+    ensures { result ≡ table_said read }
+{
+    match read {
+        Ok(table) => Ok(table),
+        Err(TableStop::Fault(fault)) => Err(FileStop::Fault(fault)),
+        Err(TableStop::Memory) => Err(FileStop::Memory),
+    }
+}
