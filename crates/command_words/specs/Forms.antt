@@ -12,6 +12,6 @@ abbrev pub asked : Kind → ℕ → Command
 asked kind.Place workers = Place workers
 
 -- the line of the grammar that a line of the table stands for
-abbrev pub line_of : Form → CommandForm
-line_of form =
+abbrev pub grammar_line : Form → CommandForm
+grammar_line form =
     record { word = form.word.now; further = form.further; command = asked form.kind }

@@ -2,7 +2,7 @@
 
 ghost use Rattle.std.specs.Prelude.{◌≡◌, ◌≤◌};
 ghost use Rattle.std.specs.Option.{option_map};
-ghost use Rattle.command_words.specs.Forms.{asked as command_asked, line_of};
+ghost use Rattle.command_words.specs.Forms.{asked as command_asked, grammar_line};
 ghost use Rattle.command_words.specs.Words.{command_of, form_of, number_behind, texts, workers_of};
 
 use record_files::number;
@@ -80,7 +80,7 @@ pub fn read_words(words: &[String]) -> Result<Command, WordsFault>
 
 // The line of the grammar with this word.
 fn find_form(word: &[u8]) -> Option<Form>
-    ensures { option_map line_of result ≡ form_of word.now }
+    ensures { option_map grammar_line result ≡ form_of word.now }
 {
     FORMS.iter().copied().find(|form| form.word == word)
 }

@@ -1,6 +1,7 @@
 //! Prints the placement of the files that its words name.
 #![tactic(auto)]
 
+use gate_workers::OpenGate;
 use place_edges::{RealShelf, RealSink};
 use place_run::run_words;
 use std::env;
@@ -20,6 +21,8 @@ fn main(rt: HostRuntime) -> ExitCode {
     let mut shelf = RealShelf::new(rt);
     let mut out = RealSink::new(rt.stdout());
     let mut notes = RealSink::new(rt.stderr());
-    let status = run_words(&rt, alloc, &words, &mut shelf, &mut out, &mut notes);
+    let status = run_words(
+        &rt, alloc, &words, &mut shelf, &mut out, &mut notes, &OpenGate,
+    );
     ExitCode::from(status.code())
 }

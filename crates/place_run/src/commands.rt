@@ -13,16 +13,18 @@ use self::place::place;
 use crate::answer::Answer;
 use crate::status::Stop;
 use command_words::{Command, read_words};
+use gate_workers::Gate;
 use place_edges::Shelf;
 use std::alloc::Global;
 use std::thread::Threads;
 
 // The answer to the words: what their command has ready before its first byte is written.
-pub(crate) fn answer_words<R: Threads, H: Shelf>(
+pub(crate) fn answer_words<R: Threads + Sync, H: Shelf, G: Gate>(
     rt: &R,
     alloc: Global,
     words: &[String],
     shelf: &mut H,
+    gate: &G,
 ) -> Result<Answer, Stop>
     requires { MayOpen (H.files shelf.old) (H.grants shelf.old) (command_of (texts words.now))
         (texts words.now) }
@@ -36,7 +38,7 @@ pub(crate) fn answer_words<R: Threads, H: Shelf>(
     ensures grants { H.grants shelf.new ≡ H.grants shelf.old }
 {
     match read_words(words) {
-        Ok(Command::Place(workers)) => place(rt, alloc, words, shelf, workers),
+        Ok(Command::Place(workers)) => place(rt, alloc, words, shelf, workers, gate),
         Err(refused) => Err(Stop::Words(refused)),
     }
 }

@@ -9,15 +9,16 @@ mod commands;
 mod inputs;
 // The line of a status.
 mod notes;
+// The mechanism's placement in a market.
+mod placing;
 // The market of three tables.
 mod problem;
 // The top call.
 mod run;
 // How a run ends.
 mod status;
+#[cfg(test)]
+mod tests;
 
 pub use run::run_words;
 pub use status::Status;
-
-#[cfg(test)]
-mod tests;

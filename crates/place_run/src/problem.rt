@@ -14,6 +14,7 @@ use place_base::TypeFinder;
 use programme_table::ProgrammeTable;
 use rank_lists::{RankLists, RankParts};
 use std::alloc::{AllocError, Global};
+use std::thread::Threads;
 
 // A market, with the codes of its programmes and the numbers of its candidates.
 #[derive(Drop)]
@@ -24,13 +25,19 @@ pub(crate) struct Problem {
 }
 
 impl Problem {
-    // The market of three tables.
-    pub(crate) fn build(alloc: Global, inputs: Inputs) -> Result<Problem, AllocError>
+    // The market of three tables, made by so many threads.
+    pub(crate) fn build<R: Threads + Sync>(
+        rt: &R,
+        alloc: Global,
+        inputs: Inputs,
+        threads: u32,
+    ) -> Result<Problem, AllocError>
+        requires { 1 ≤ threads }
         ensures { IfOk result (IsProblemOf inputs) }
     {
         let (programmes, candidates, ranks) = inputs.into_parts();
         let (numbers, lists) = candidates.into_parts();
-        let market = build_market(alloc, &programmes, lists, ranks)?;
+        let market = build_market(rt, alloc, threads, &programmes, lists, ranks)?;
         Ok(Problem {
             market,
             programmes,
@@ -40,12 +47,15 @@ impl Problem {
 }
 
 // The market of the programmes, the candidates' lists, and their turn orders and ranks.
-fn build_market(
+fn build_market<R: Threads + Sync>(
+    rt: &R,
     alloc: Global,
+    threads: u32,
     programmes: &ProgrammeTable,
     lists: Vec<List>,
     ranks: RankLists,
 ) -> Result<Market, AllocError>
+    requires threads { 1 ≤ threads }
     requires lists { All (IsPreferenceList (length (codes_of programmes.now.rows))) lists.items }
     requires few { length lists.items ≤ MOST_CANDIDATES }
     requires types { length ranks.orders ≡ length programmes.now.names }
@@ -57,5 +67,5 @@ fn build_market(
     let kinds = programmes.type_count();
     let programmes = programmes.programmes(alloc)?;
     let RankParts { orders, ranks } = ranks.into_parts();
-    Market::build(alloc, kinds, programmes, lists, orders, ranks)
+    Market::build_by(rt, alloc, threads, kinds, programmes, lists, orders, ranks)
 }

@@ -11,6 +11,7 @@ use crate::answer::Answer;
 use crate::commands::answer_words;
 use crate::notes::note;
 use crate::status::{Status, Stop};
+use gate_workers::Gate;
 use place_edges::{Shelf, Sink};
 use std::alloc::Global;
 use std::thread::Threads;
@@ -23,13 +24,17 @@ use std::thread::Threads;
 /// bytes, then its first fault. All memory is taken before the first byte is written to `out`. So
 /// after each refusal `out` is as it was; only a write fault leaves a part of the text there. A
 /// fault of `notes` changes neither the status nor `out`.
-pub fn run_words<R: Threads, H: Shelf, K: Sink, N: Sink>(
+///
+/// The rounds run on as many workers as the words say, who pass the gate; what is written does not
+/// depend on them.
+pub fn run_words<R: Threads + Sync, H: Shelf, K: Sink, N: Sink, G: Gate>(
     rt: &R,
     alloc: Global,
     words: &[String],
     shelf: &mut H,
     out: &mut K,
     notes: &mut N,
+    gate: &G,
 ) -> Status
     // Each file of the command may be opened where those before it have no fault.
     requires { MayOpen (H.files shelf.old) (H.grants shelf.old) (command_of (texts words.now))
@@ -71,7 +76,7 @@ pub fn run_words<R: Threads, H: Shelf, K: Sink, N: Sink>(
     ensures grants { H.grants shelf.new ≡ H.grants shelf.old }
     ensures unopened { IsWordsRefusal result → shelf.new ≡ shelf.old }
 {
-    let answer = answer_words(rt, alloc, words, shelf);
+    let answer = answer_words(rt, alloc, words, shelf, gate);
     let status = finish(answer, out);
     note(notes, status);
     status

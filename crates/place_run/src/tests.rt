@@ -6,6 +6,7 @@ mod faulty_files;
 use self::faulty_files::FAULTY;
 use crate::{Status, run_words};
 use command_words::WordsFault;
+use gate_workers::OpenGate;
 use place_edges::{MemShelf, MemSink, SureShelf, SureSink};
 use record_files::{Field, put_row_2, put_row_3};
 use std::alloc::{AllocError, Global};
@@ -59,7 +60,7 @@ fn shelf(alloc: Global, files: &[(&str, &[u8])]) -> Result<MemShelf, AllocError>
 
 // Runs these words over this shelf.
 fn run(
-    rt: &impl Threads,
+    rt: &(impl Threads + Sync),
     alloc: Global,
     texts: &[&str],
     mut shelf: MemShelf,
@@ -67,7 +68,9 @@ fn run(
     let mut out = MemSink::new(alloc, 16, 65_536)?;
     let mut notes = MemSink::new(alloc, 16, 65_536)?;
     let words = words(alloc, texts)?;
-    let status = run_words(rt, alloc, &words, &mut shelf, &mut out, &mut notes);
+    let status = run_words(
+        rt, alloc, &words, &mut shelf, &mut out, &mut notes, &OpenGate,
+    );
     Ok(Ran {
         status,
         out,
@@ -80,7 +83,7 @@ fn run(
 // Runs these words over this shelf, and compares the number of the status, both texts, how often
 // the shelf failed, and how often it was called: a file of one piece has an open and two takes.
 fn ends(
-    rt: &(impl Threads + Abort),
+    rt: &(impl Threads + Sync + Abort),
     alloc: Global,
     texts: &[&str],
     shelf: MemShelf,
@@ -185,7 +188,7 @@ const MARKETS: [(&[u8], &[u8], &[u8], &[u8]); 12] = [
 
 // Each three files are placed so.
 fn are_placed(
-    rt: &(impl Threads + Abort),
+    rt: &(impl Threads + Sync + Abort),
     alloc: Global,
     markets: &[(&[u8], &[u8], &[u8], &[u8])],
 ) -> Result<(), Fail> {
@@ -228,7 +231,7 @@ fn calls_for(file: &[u8]) -> u64
 
 // Each three files have this first fault.
 fn are_faulty(
-    rt: &(impl Threads + Abort),
+    rt: &(impl Threads + Sync + Abort),
     alloc: Global,
     files: &[(&[u8], &[u8], &[u8], &[u8])],
 ) -> Result<(), Fail> {
@@ -291,7 +294,7 @@ const REFUSED: [(&[&str], WordsFault, &[u8]); 9] = [
 
 // These words are refused so, over a shelf without a file.
 fn are_refused(
-    rt: &(impl Threads + Abort),
+    rt: &(impl Threads + Sync + Abort),
     alloc: Global,
     words: &[(&[&str], WordsFault, &[u8])],
 ) -> Result<(), Fail> {
@@ -339,7 +342,7 @@ const LACKING: [(&[(&str, &[u8])], u8, &[u8], u64, u64); 4] = [
 
 // Each shelf ends `place` so.
 fn are_lacking(
-    rt: &(impl Threads + Abort),
+    rt: &(impl Threads + Sync + Abort),
     alloc: Global,
     shelves: &[(&[(&str, &[u8])], u8, &[u8], u64, u64)],
 ) -> Result<(), Fail> {
@@ -386,7 +389,9 @@ fn a_write_that_fails_leaves_the_front_of_the_text(rt: HostRuntime) -> Result<()
     out.fail_at(2)?;
     let mut notes = MemSink::new(alloc, 16, 65_536)?;
     let words = words(alloc, &PLACE)?;
-    let status = run_words(&rt, alloc, &words, &mut shelf, &mut out, &mut notes);
+    let status = run_words(
+        &rt, alloc, &words, &mut shelf, &mut out, &mut notes, &OpenGate,
+    );
     assert_eq!(rt; (status, status.code()), (Status::WriteFault, 5));
     assert_eq!(rt; out.bytes(), b"candidate,progra".as_slice());
     assert_eq!(rt; out.faults(), 1);
@@ -402,7 +407,9 @@ fn notes_that_fail_change_nothing_else(rt: HostRuntime) -> Result<(), Fail> {
     let mut notes = MemSink::new(alloc, 4, 65_536)?;
     notes.fail_at(6)?;
     let words = words(alloc, &PLACE)?;
-    let status = run_words(&rt, alloc, &words, &mut shelf, &mut out, &mut notes);
+    let status = run_words(
+        &rt, alloc, &words, &mut shelf, &mut out, &mut notes, &OpenGate,
+    );
     assert_eq!(rt; status.code(), 3);
     assert_eq!(rt; out.bytes(), b"".as_slice());
     assert_eq!(rt; notes.bytes(), b"fault candidates".as_slice());
@@ -419,7 +426,9 @@ fn nothing_fails_over_a_sure_shelf_and_a_sure_sink(rt: HostRuntime) -> Result<()
     let words = words(alloc, &PLACE)?;
     let mut out = SureSink::new();
     let mut notes = SureSink::new();
-    let status = run_words(&rt, alloc, &words, &mut shelf, &mut out, &mut notes);
+    let status = run_words(
+        &rt, alloc, &words, &mut shelf, &mut out, &mut notes, &OpenGate,
+    );
     assert_eq!(rt; status, Status::Done);
     Ok(())
 }

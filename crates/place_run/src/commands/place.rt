@@ -10,9 +10,10 @@ ghost use Rattle.place_run.specs.commands.Place.{IsPlaced, candidate_row, placem
 
 use crate::answer::Answer;
 use crate::inputs::Inputs;
+use crate::placing::placement_by;
 use crate::problem::Problem;
 use crate::status::Stop;
-use dictatorship::mechanism_plain;
+use gate_workers::Gate;
 use place_base::Finder;
 use place_edges::Shelf;
 use record_files::{Field, put_row_2};
@@ -21,12 +22,13 @@ use std::alloc::{AllocError, Global};
 use std::thread::Threads;
 
 // The answer to `place`: its text, or why there is none.
-pub(crate) fn place<R: Threads, H: Shelf>(
+pub(crate) fn place<R: Threads + Sync, H: Shelf, G: Gate>(
     rt: &R,
     alloc: Global,
     words: &[String],
     shelf: &mut H,
     workers: u32,
+    gate: &G,
 ) -> Result<Answer, Stop>
     requires words { 4 ≤ length words.now }
     requires granted { MayOpenTables (H.files shelf.old) (H.grants shelf.old) (texts words.now) }
@@ -37,18 +39,25 @@ pub(crate) fn place<R: Threads, H: Shelf>(
     ensures grants { H.grants shelf.new ≡ H.grants shelf.old }
 {
     let inputs = Inputs::read(rt, alloc, words, shelf, workers)?;
-    let text = placed_text(alloc, inputs)?;
+    let text = placed_text(rt, alloc, inputs, workers, gate)?;
     Ok(Answer::done(text))
 }
 
 // The text of the mechanism's placement in the market of three tables.
-fn placed_text(alloc: Global, inputs: Inputs) -> Result<Vec<u8>, AllocError>
+fn placed_text<R: Threads + Sync, G: Gate>(
+    rt: &R,
+    alloc: Global,
+    inputs: Inputs,
+    workers: u32,
+    gate: &G,
+) -> Result<Vec<u8>, AllocError>
+    requires { (1 ≤ workers) × (workers ≤ 64) }
     ensures { IfOk result (λ text. IsPlaced inputs text.items) }
 {
-    let problem = Problem::build(alloc, inputs)?;
+    let problem = Problem::build(rt, alloc, inputs, workers)?;
     worst_stable(&problem.market);
-    let outcome = mechanism_plain(alloc, &problem.market)?;
-    let held = outcome.placement.held();
+    let placement = placement_by(rt, alloc, &problem.market, workers, gate)?;
+    let held = placement.held();
     placement_text(alloc, held, &problem.programmes, &problem.numbers)
 }
 

@@ -8,8 +8,8 @@ use Rattle.candidate_table.specs.Table.{IsPreferenceList}
 use Rattle.place_run.proofs.Markets.{valid-market, built-market}
 use Rattle.place_run.proofs.problem.build_market.Goals as goal
 
-pub build-requires : goal.build-requires
-build-requires c =
+pub build_by-requires-clause-valid : goal.build_by-requires-clause-valid
+build_by-requires-clause-valid g c κs within =
     let rows = c.args.programmes.now.rows in
     let items = c.in_ok-programmes.programmes.items in
     let counted : length items ≡ length rows = ap length c.in_ok-programmes.ensures.programmes ∙
@@ -34,9 +34,9 @@ build-requires c =
     c.into_parts-orders.ensures.orders c.into_parts-orders.ensures.ranks
 
 pub returns-clause-market : goal.returns-clause-market
-returns-clause-market c =
-    built-market c.build.result c.args.programmes.now c.args.ranks _ _ c.args.lists.items _ _
+returns-clause-market g c =
+    built-market c.build_by.result c.args.programmes.now c.args.ranks _ _ c.args.lists.items _ _
     c.type_count-kinds.ensures.length
     c.in_ok-programmes.ensures.programmes c.into_parts-orders.ensures.orders
     c.into_parts-orders.ensures.ranks
-    c.build.ensures
+    c.build_by.ensures

@@ -5,15 +5,14 @@ use Rattle.market.specs.Problems.{Problem}
 use Rattle.market.specs.Stability.{held_by}
 use Rattle.programme_table.specs.Table.{Programmes, codes_of}
 use Rattle.place_run.specs.commands.Place.{IsPlaced}
-use Rattle.place_run.proofs.Markets.{lists-of_market, programmes-of_market, outcome-placement, held-within, placed-text}
+use Rattle.place_run.proofs.Markets.{lists-of_market, programmes-of_market, held-within, placed-text}
 use Rattle.place_run.proofs.commands.place.placed_text.Goals as goal
 
 pub placement_text-requires-clause-candidates : goal.placement_text-requires-clause-candidates
-placement_text-requires-clause-candidates c =
+placement_text-requires-clause-candidates g c =
     let tables = c.args.inputs in
     let problem = c.in_ok-problem.problem in
-    let places = c.held-held.ensures
-    ∙ outcome-placement problem.market c.in_ok-outcome.outcome c.in_ok-outcome.ensures in
+    let places = c.held-held.ensures ∙ c.in_ok-placement.ensures in
     let same : problem.market.lists ≡ tables.candidates.lists =
     ap (λ (v : Problem). v.lists) c.in_ok-problem.ensures.market
     ∙ lists-of_market tables.programmes tables.candidates.lists tables.ranks in
@@ -22,11 +21,10 @@ placement_text-requires-clause-candidates c =
     (length-map problem.numbers (λ line. line.0))
 
 pub placement_text-requires-clause-programmes : goal.placement_text-requires-clause-programmes
-placement_text-requires-clause-programmes c = λ i p holds.
+placement_text-requires-clause-programmes g c = λ i p holds.
     let tables = c.args.inputs in
     let problem = c.in_ok-problem.problem in
-    let places = c.held-held.ensures
-    ∙ outcome-placement problem.market c.in_ok-outcome.outcome c.in_ok-outcome.ensures in
+    let places = c.held-held.ensures ∙ c.in_ok-placement.ensures in
     let count : length problem.market.programmes ≡ length (codes_of problem.programmes.rows) =
     ap (λ (v : Problem). length v.programmes) c.in_ok-problem.ensures.market
     ∙ programmes-of_market tables.programmes tables.candidates.lists tables.ranks
@@ -37,11 +35,10 @@ placement_text-requires-clause-programmes c = λ i p holds.
     (ap (λ v. held_by v i) (sym places) ∙ holds))
 
 pub returns : goal.returns
-returns c =
+returns g c =
     let tables = c.args.inputs in
     let problem = c.in_ok-problem.problem in
-    let places = c.held-held.ensures
-    ∙ outcome-placement problem.market c.in_ok-outcome.outcome c.in_ok-outcome.ensures in
+    let places = c.held-held.ensures ∙ c.in_ok-placement.ensures in
     IfOk-weaker c.placement_text.result _ (λ text. IsPlaced tables text.items)
     (λ text written. placed-text tables problem.market text.items _ problem.programmes
     problem.numbers c.in_ok-problem.ensures.market c.in_ok-problem.ensures.valid

@@ -1,0 +1,44 @@
+// The mechanism's placement in a market, by rounds over teams of workers.
+
+ghost use Rattle.std.specs.Prelude.{◌≡◌, ◌<◌, ◌≤◌, IfOk};
+ghost use Rattle.market.specs.Mechanism.{mechanism_placement};
+
+use gate_workers::Gate;
+use market::{Market, Placement, Steps};
+use round_rerun::place_rounds;
+use std::alloc::{AllocError, Global};
+use std::marker::Brand;
+use std::sync::ledger::{Blank, Ledger};
+use std::thread::Threads;
+
+// The placement, by teams of so many workers who pass this gate.
+pub(crate) fn placement_by<R: Threads + Sync, G: Gate>(
+    rt: &R,
+    alloc: Global,
+    market: &Market,
+    workers: u32,
+    gate: &G,
+) -> Result<Placement, AllocError>
+    requires { (1 ≤ workers) × (workers ≤ 64) }
+    ensures { IfOk result (λ placement. placement ≡ mechanism_placement market.now) }
+{
+    uncounted::<R, G, Brand>(rt, alloc, market, workers, gate, Blank::new(1))
+}
+
+// The same with a counter of turns that nobody reads.
+fn uncounted<R: Threads + Sync, G: Gate, L: Ledger>(
+    rt: &R,
+    alloc: Global,
+    market: &Market,
+    workers: u32,
+    gate: &G,
+    blank: Blank,
+) -> Result<Placement, AllocError>
+    requires workers { (1 ≤ workers) × (workers ≤ 64) }
+    requires ledger { (blank.name ≡ L.name) × (blank.parts ≡ L.parts) × (0 < blank.parts) }
+    ensures { IfOk result (λ placement. placement ≡ mechanism_placement market.now) }
+{
+    let mut turns = Steps::<L>::new(blank);
+    let outcome = place_rounds(rt, alloc, workers, gate, market, &mut turns)?;
+    Ok(outcome.placement)
+}
