@@ -6,10 +6,6 @@ use Rattle.interleaving_core.proofs.Machines.{allowed, within, refused, has_own}
 use Rattle.interleaving_core.proofs.MachineEvents.{posts_turn}
 use Rattle.interleaving_core.proofs.state.CoreState.post.Goals as goal
 
-pub may_post-requires : goal.may_post-requires
-may_post-requires c =
-    within c.self.inside _ _ _ c.self.invariant c.self.view_is c.requires c.index.ensures
-
 pub returns-in_err-claim : goal.returns-in_err-claim
 returns-in_err-claim c =
     let p = err_from_is_err_and c.from_residual.result c.from_residual.ensures.1 in

@@ -6,10 +6,6 @@ use Rattle.interleaving_core.proofs.Machines.{allowed, within, refused, list_sho
 use Rattle.interleaving_core.proofs.MachineEvents.{reads_entry}
 use Rattle.interleaving_core.proofs.state.CoreState.read.Goals as goal
 
-pub may_read-requires : goal.may_read-requires
-may_read-requires c =
-    within c.self.inside _ _ _ c.self.invariant c.self.view_is c.requires c.index.ensures
-
 pub returns-in_err-claim : goal.returns-in_err-claim
 returns-in_err-claim c =
     let p = err_from_is_err_and c.from_residual.result c.from_residual.ensures.1 in

@@ -6,10 +6,6 @@ use Rattle.interleaving_core.proofs.Machines.{allowed, within, refused, sealed_w
 use Rattle.interleaving_core.proofs.MachineEvents.{seals_turn}
 use Rattle.interleaving_core.proofs.state.CoreState.seal.Goals as goal
 
-pub may_seal-requires : goal.may_seal-requires
-may_seal-requires c =
-    within c.self.inside _ _ _ c.self.invariant c.self.view_is c.requires c.index.ensures
-
 pub returns-in_err-turn : goal.returns-in_err-turn
 returns-in_err-turn c =
     let p = err_from_is_err_and c.from_residual.result c.from_residual.ensures.1 in

@@ -7,10 +7,6 @@ use Rattle.interleaving_core.proofs.Machines.{allowed, within, refused, list_sho
 use Rattle.interleaving_core.proofs.MachineEvents.{weighs_entry}
 use Rattle.interleaving_core.proofs.state.CoreState.weigh.Goals as goal
 
-pub may_weigh-requires : goal.may_weigh-requires
-may_weigh-requires c =
-    within c.self.inside _ _ _ c.self.invariant c.self.view_is c.requires c.index.ensures
-
 pub returns-in_err-committed : goal.returns-in_err-committed
 returns-in_err-committed c =
     let p = err_from_is_err_and c.from_residual.result c.from_residual.ensures.1 in
