@@ -47,7 +47,8 @@ pub next_post : (round : SharedRound) (me : WorkSeat) (x : Claiming) → IsSeatO
 next_post round me x of_round shown m =
     let is = is_claim me x m.turn m.place m.met shown m.allowed.0 in
     let may = subst
-    (λ (z : Dictatorship × Claiming). IsAllowed z.0 (knows me).core (Posts z.1.turn z.1.passed z.1.met))
+    (λ (z : Dictatorship × Claiming). IsAllowed z.0 (knows me).core
+    (Posts z.1.turn z.1.passed z.1.met))
     (λ i. (of_round.dict i, is i)) m.allowed in
     let drawn = me.in_range.claimed _ _ _ may.0 in
     let turns = ap (λ (d : Dictatorship). turn_count d) of_round.dict in

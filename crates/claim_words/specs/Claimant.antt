@@ -44,7 +44,8 @@ pub record IsRead (old new : WorkSeat) (answer : Bool) : Type 0 where
   pub view : knows new ≡ with_core (knows old)
       (after_read (nat_lt found (quota_of (knows old).dict (entry (knows old).dict turn place)))
       (knows old).core turn place)
-  pub answered : answer ≡ nat_le (quota_of (knows old).dict (entry (knows old).dict turn place)) found
+  pub answered : answer ≡ nat_le (quota_of (knows old).dict (entry (knows old).dict turn place))
+      found
 
 -- a post: the seat's view is the core's for the place passed to, which is the answer
 pub record IsPost (old new : WorkSeat) (answer : ℕ) : Type 0 where

@@ -10,8 +10,8 @@ use word_rule::{
     posted_at, seat_word,
 };
 
-/// Draws the next turn. `None` comes exactly where the number drawn is at least the number of turns;
-/// the seat is then done.
+/// Draws the next turn. `None` comes exactly where the number drawn is at least the number of
+/// turns; the seat is then done.
 pub fn claim(round: &SharedRound, me: &mut WorkSeat) -> Option<u32>
     requires seat { IsSeatOf round.now me.old }
     requires may { MayClaim me.old }

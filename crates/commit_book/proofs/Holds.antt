@@ -1,5 +1,5 @@
--- The phase and the count that a seat's copies show are those that its condition speaks of. So what the
--- condition says, and the ranges that every seat keeps, hold of the copies.
+-- The phase and the count that a seat's copies show are those that its condition speaks of. So
+-- what the condition says, and the ranges that every seat keeps, hold of the copies.
 use Rattle.std.proofs.Common.{◌≡◌, ℕ, ◌<◌, ◌≤◌, false, length, Option, Some, None, sym, refl, subst, ap, ◌∙◌, arith}
 use Rattle.market.specs.Dictatorships.{Dictatorship, IsValidDictatorship, list_at}
 use Rattle.interleaving_core.specs.declared.parts.Cell.{Cell}
@@ -57,11 +57,13 @@ found_small d m n found k valid dict hold told =
   where
     by : (c : Cell) → cell_of found ≡ c → place_in c ≤ 48
     by Empty is = omega arith
-    by (Committed j) is = absurd (let left = told.uncommitted in let q = ap is_committed is in cc (q, left))
+    by (Committed j) is = absurd (let left = told.uncommitted in let q = ap is_committed is in
+        cc (q, left))
     by (Posted j) is =
         let scan : n.0.core.hold ≡ hold_at k (Scan j) =
         ap (λ (q : SeatMe). q.0.core.hold) told.seat
-        ∙ (ap (λ o. (look_by m.0.core o found).hold) hold ∙ ap (λ c. hold_at k (phase_after_look c)) is) in
+        ∙ (ap (λ o. (look_by m.0.core o found).hold) hold
+        ∙ ap (λ c. hold_at k (phase_after_look c)) is) in
         let same : n.0.dict ≡ d = ap (λ (q : SeatMe). q.0.dict) told.seat ∙ dict in
         let turn = told.range.scanned k j scan in
         let place = told.range.scanned_place k j scan in
@@ -71,7 +73,8 @@ found_small d m n found k valid dict hold told =
         omega arith
 
 -- the seat may look at a turn of the round
-pub next_look : (round : SharedRound) (me : WorkSeat) → MayLook me → me.committed < turn_count (dict_of round)
+pub next_look : (round : SharedRound) (me : WorkSeat) → MayLook me
+    → me.committed < turn_count (dict_of round)
     → IsAllowed (dict_of round) (knows me).core (Looks me.committed)
 next_look round me m inside =
     (m.idle ∙ ap (λ c. hold_at c Idle) (sym (held me m.committed Idle m.idle).1), inside)
@@ -164,7 +167,8 @@ next_seal round me place x of_round is at m =
   where
     in_list : (y : Phase) → (knows me).core.hold ≡ hold_at me.committed y
         → CanSeal (length (list_at (dict_of round) me.committed)) place y
-        → (me.committed < turn_count (knows me).dict) × (place ≤ length (list_at (knows me).dict me.committed))
+        → (me.committed < turn_count (knows me).dict)
+        × (place ≤ length (list_at (knows me).dict me.committed))
     in_list Idle e can = absurd can
     in_list Halted e can = absurd can
     in_list (Scan i) e can =

@@ -49,7 +49,8 @@ module _ (old at mid new : WorkSeat) (count : ℕ) where
       → HasSwept old new count
   swept_so view look free =
       let hold : (knows at).core.hold ≡ hold_at c Idle = ap (λ (x : SeatKnows). x.core.hold) view in
-      let same : look.committed ≡ c = (same_hold look.committed c Idle Idle (sym look.idle ∙ hold)).0 in
+      let same : look.committed ≡ c =
+      (same_hold look.committed c Idle Idle (sym look.idle ∙ hold)).0 in
       let turns = ap (λ (x : SeatKnows). turn_count x.dict) view in
       elim (native.Mathlib.Decide.dec_le (turn_count (knows at).dict) look.committed) [
         | yes l ↦
@@ -62,7 +63,9 @@ module _ (old at mid new : WorkSeat) (count : ℕ) where
             saw.view ∙ ap (λ (k : ℕ). as_holder (knows at) k (phase_after_look saw.found)) same in
             swept_in (phase_after_look saw.found) view halted free (λ every done.
             absurd
-            (let some = saw.posted (ap (λ (x : SeatKnows). x.share) view ∙ (every ∙ ap (λ (x : SeatKnows). x.workers) (sym view))) (ap (λ (x : SeatKnows). x.core.done) view ∙ done) in
+            (let some = saw.posted (ap (λ (x : SeatKnows). x.share) view
+            ∙ (every ∙ ap (λ (x : SeatKnows). x.workers) (sym view)))
+            (ap (λ (x : SeatKnows). x.core.done) view ∙ done) in
             cc (some)))
       ]
 

@@ -16,24 +16,24 @@ pub record IsSettled (old new : WorkSeat) : Type 0 where
   pub allowed : IsAllowed (knows new).dict (knows new).core (Seals old.committed place phase)
   pub view : knows new ≡ as_holder (knows old) old.committed phase
 
--- the holder committed so many turns and gave the mark back with their sum. A done seat with every share
--- has committed every turn left
+-- the holder committed so many turns and gave the mark back with their sum. A done seat with every
+-- share has committed every turn left
 pub record HasSwept (old new : WorkSeat) (count : ℕ) : Type 0 where
   pub view : knows new ≡ released_with (knows old) (old.committed + count)
   pub within : old.committed + count ≤ turn_count (knows old).dict
   pub whole : (knows old).share ≡ (knows old).workers → (knows old).core.done ≡ true
       → old.committed + count ≡ turn_count (knows old).dict
 
--- the mark was held: there is a word found that says so, and the seat's view is that of a miss. So other
--- seats have a share
+-- the mark was held: there is a word found that says so, and the seat's view is that of a miss. So
+-- other seats have a share
 pub record IsMiss (old new : WorkSeat) : Type 0 where
   pub found : ℕ
   pub held : is_held found ≡ true
   pub view : knows new ≡ tried (knows old) true (mark_number found)
   pub shared : (knows old).share ≢ (knows old).workers
 
--- the seat after it took the mark with this number, committed so many turns, and gave the mark back with
--- their sum
+-- the seat after it took the mark with this number, committed so many turns, and gave the mark
+-- back with their sum
 abbrev pub swept : SeatKnows → ℕ → ℕ → SeatKnows
 swept x number count = released_with (tried x false number) (number + count)
 

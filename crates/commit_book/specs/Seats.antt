@@ -4,8 +4,8 @@ use Rattle.word_rule.specs.Rounds.{knows, IsSeatOf}
 use Rattle.word_rule.specs.declared.seat.SharedRound.{SharedRound}
 use Rattle.word_rule.specs.declared.seat.WorkSeat.{WorkSeat}
 
--- it is a seat of this round, that stands for as many workers and is done as before, and owes a try on
--- the mark or does not
+-- it is a seat of this round, that stands for as many workers and is done as before, and owes a
+-- try on the mark or does not
 pub record HasStepped (round : SharedRound) (old new : WorkSeat) (debt : Bool) : Type 0 where
   pub of_round : IsSeatOf round new
   pub share : (knows new).share ≡ (knows old).share

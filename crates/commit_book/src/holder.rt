@@ -13,8 +13,8 @@ use word_rule::{
     seat_word,
 };
 
-/// Tries to take the mark, by one fetch-or. `false` comes exactly where the word found was odd: another
-/// worker held the mark at this step.
+/// Tries to take the mark, by one fetch-or. `false` comes exactly where the word found was odd:
+/// another worker held the mark at this step.
 pub fn take(round: &SharedRound, me: &mut WorkSeat) -> bool
     requires seat { IsSeatOf round.now me.old }
     requires may { MayTake me.old }
@@ -33,8 +33,8 @@ pub fn take(round: &SharedRound, me: &mut WorkSeat) -> bool
     true
 }
 
-/// The posted place of the first uncommitted turn. `None` comes exactly where all turns are committed, in
-/// which case no word is read, or the cell read at this step was empty.
+/// The posted place of the first uncommitted turn. `None` comes exactly where all turns are
+/// committed, in which case no word is read, or the cell read at this step was empty.
 pub fn look(round: &SharedRound, me: &mut WorkSeat) -> Option<u32>
     requires seat { IsSeatOf round.now me.old }
     requires may { MayLook me.old }
@@ -54,8 +54,8 @@ pub fn look(round: &SharedRound, me: &mut WorkSeat) -> Option<u32>
     Some(place)
 }
 
-/// Reads the seat count of the entry at the holder's place in the first uncommitted turn's list. `true`
-/// comes exactly where it has reached the quota; the place is then the next one.
+/// Reads the seat count of the entry at the holder's place in the first uncommitted turn's list.
+/// `true` comes exactly where it has reached the quota; the place is then the next one.
 pub fn weigh(round: &SharedRound, dict: &Dict, me: &mut WorkSeat) -> bool
     requires seat { IsSeatOf round.now me.old }
     requires dict { dict.now ≡ dict_of round.now }
@@ -78,8 +78,8 @@ pub fn weigh(round: &SharedRound, dict: &Dict, me: &mut WorkSeat) -> bool
     full
 }
 
-/// Raises the seat count of the entry that was found to have a seat left. `true` comes exactly where it
-/// has now reached the quota.
+/// Raises the seat count of the entry that was found to have a seat left. `true` comes exactly
+/// where it has now reached the quota.
 pub fn seat(round: &SharedRound, dict: &Dict, me: &mut WorkSeat) -> bool
     requires seat { IsSeatOf round.now me.old }
     requires dict { dict.now ≡ dict_of round.now }
@@ -135,8 +135,8 @@ fn place_in(phase: PhaseCopy) -> u32
     }
 }
 
-/// Frees the mark with the new number of committed turns. All turns are committed, or the last look found
-/// an empty cell.
+/// Frees the mark with the new number of committed turns. All turns are committed, or the last
+/// look found an empty cell.
 pub fn release(round: &SharedRound, me: &mut WorkSeat)
     requires seat { IsSeatOf round.now me.old }
     requires may { MayRelease me.old }

@@ -12,10 +12,10 @@ use crate::holder::{look, release, seal, seat, take, weigh};
 use market::Dict;
 use word_rule::{SharedRound, WorkSeat};
 
-/// Takes the mark, commits turns in their order until a look gives `None`, gives the mark back, and answers
-/// how many turns it committed: what its release wrote less what its take found. `None` comes exactly where
-/// the take found the mark held. A done seat with every share never gets `None`, and has then committed
-/// every turn of the round.
+/// Takes the mark, commits turns in their order until a look gives `None`, gives the mark back,
+/// and answers how many turns it committed: what its release wrote less what its take found.
+/// `None` comes exactly where the take found the mark held. A done seat with every share never
+/// gets `None`, and has then committed every turn of the round.
 pub fn commit_prefix(round: &SharedRound, dict: &Dict, me: &mut WorkSeat) -> Option<u32>
     requires seat { IsSeatOf round.now me.old }
     requires dict { dict.now ≡ dict_of round.now }
@@ -29,8 +29,8 @@ pub fn commit_prefix(round: &SharedRound, dict: &Dict, me: &mut WorkSeat) -> Opt
     Some(sweep(round, dict, me))
 }
 
-// Commits turns in their order until a look gives `None`, gives the mark back, and answers how many turns
-// it committed.
+// Commits turns in their order until a look gives `None`, gives the mark back, and answers how
+// many turns it committed.
 fn sweep(round: &SharedRound, dict: &Dict, me: &mut WorkSeat) -> u32
     requires seat { IsSeatOf round.now me.old }
     requires dict { dict.now ≡ dict_of round.now }

@@ -40,7 +40,8 @@ ready_one round k me new =
 -- seats at the opening may draw
 pub all_ready : (round : SharedRound) (l : List WorkSeat) → AreNew round l
     → (i : ℕ) (d : WorkSeat) → i < length l → IsReady round (get_or l i d)
-all_ready round l all i d h = ready_one round i (get_or l i d) (all i (get_or l i d) (slice_get-get_or l i d h))
+all_ready round l all i d h = ready_one round i (get_or l i d)
+    (all i (get_or l i d) (slice_get-get_or l i d h))
 
 shares_one : (l : List WorkSeat)
     → ((k : ℕ) (me : WorkSeat) → slice_get l k ≡ Some me → (knows me).share ≡ 1)
@@ -64,5 +65,6 @@ team_over round xs ys new same worked = (
       let l = slice_get_within ys k me e in
       let h : k < length xs = omega arith in
       ap (λ m. (knows m).share) (sym (get_or_from_slice_get ys k me me e))
-      ∙ ((worked k me h).stays.share ∙ (new k (get_or xs k me) (slice_get-get_or xs k me h)).share)),
+      ∙ ((worked k me h).stays.share
+      ∙ (new k (get_or xs k me) (slice_get-get_or xs k me h)).share)),
 )

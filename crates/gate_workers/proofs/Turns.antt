@@ -1,5 +1,5 @@
--- A worker's way from one draw to the next. Each turn that it draws is a later one, so it draws no more
--- numbers than there are turns.
+-- A worker's way from one draw to the next. Each turn that it draws is a later one, so it draws no
+-- more numbers than there are turns.
 use Rattle.std.proofs.Common.{◌≡◌, ℕ, suc, ◌+◌, ◌-◌, ◌<◌, ◌≤◌, true, List, [], ◌∷◌, length, Some, None, refl, ap, ◌∙◌, arith}
 use Rattle.std.specs.Prelude.{slice_get}
 use Rattle.std.proofs.lemmas.Bool.{lt-ltb}
@@ -69,7 +69,8 @@ one_turn old drawn read posted new turn place a b c e =
     ap (λ (x : SeatKnows). x.core) draw.view
     ∙ ap (λ b. after_claim_if b (knows old).core draw.found)
     (lt-ltb draw.found (turn_count (knows old).dict) said.1) in
-    let more = length-append (knows old).core.own (record { turn = draw.found; place = None } ∷ []) in
+    let more = length-append (knows old).core.own (record { turn = draw.found; place = None } ∷ [])
+    in
     let few = short (knows old).core.own 0 draw.found (λ i x e. omega arith) draw.earlier.below
     draw.earlier.rise in
     let inside = said.1 in

@@ -9,8 +9,8 @@ use Rattle.word_rule.specs.declared.seat.SharedRound.{SharedRound}
 use Rattle.word_rule.specs.declared.seat.WorkSeat.{WorkSeat}
 use Rattle.claim_words.specs.Claimant.{MayClaim, MayPost}
 
--- the seat has read its turn's list up to an entry that has a seat left, or to its end: its claim alone
--- is another one
+-- the seat has read its turn's list up to an entry that has a seat left, or to its end: its claim
+-- alone is another one
 pub record HasRead (old new : WorkSeat) : Type 0 where
   pub claim : Option Claiming
   pub view : knows new ≡ with_core (knows old) (with_claim (knows old).core claim)
@@ -25,8 +25,8 @@ pub record HasTried (old new : WorkSeat) : Type 0 where
   pub owes : (knows new).core.owes ≡ false
   pub tries : (knows new).tries ≡ (knows old).tries + 1
 
--- the seat owes no try on the mark; its own turns rise, and each has a posted place; and it tried the mark
--- once for each turn that it drew
+-- the seat owes no try on the mark; its own turns rise, and each has a posted place; and it tried
+-- the mark once for each turn that it drew
 pub record HasWorked (old new : WorkSeat) : Type 0 where
   pub owes : (knows new).core.owes ≡ false
   pub placed : (i : ℕ) (x : OwnTurn) → slice_get (knows new).core.own i ≡ Some x → IsSome x.place

@@ -1,7 +1,7 @@
 // The points of a worker's way, at which a gate may hold it.
 
-/// A point of a worker's way through its turns. `BeforeRead` stands before the reading of an entry; every
-/// other point stands after its step.
+/// A point of a worker's way through its turns. `BeforeRead` stands before the reading of an
+/// entry; every other point stands after its step.
 #[derive(Clone, Copy)]
 pub enum GatePoint {
     /// This turn was drawn.

@@ -1,9 +1,9 @@
-//! A worker, which draws, posts and commits turns until none is left, and the team of workers that runs a
-//! whole dictatorship on shared words.
+//! A worker, which draws, posts and commits turns until none is left, and the team of workers that
+//! runs a whole dictatorship on shared words.
 //!
-//! Whatever the schedule of the threads is, each turn is committed with the choice that the dictatorship
-//! makes for it. A gate is called at each point of a worker's way: it may hold the worker there, and so
-//! show that workers run side by side; no answer depends on it.
+//! Whatever the schedule of the threads is, each turn is committed with the choice that the
+//! dictatorship makes for it. A gate is called at each point of a worker's way: it may hold the
+//! worker there, and so show that workers run side by side; no answer depends on it.
 #![tactic(auto)]
 
 // The points of a worker's way, at which a gate may hold it.

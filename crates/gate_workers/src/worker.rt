@@ -13,9 +13,9 @@ use commit_book::{commit_turn, look, release, take};
 use market::Dict;
 use word_rule::{SharedRound, WorkSeat};
 
-/// Draws a turn, reads its list up to the first entry that has a seat left, posts the place found and
-/// tries the mark once; who takes it commits turns until a look finds none, and gives it back. So on until
-/// no turn is left: the seat is then done, and has no claim, no debt and not the mark.
+/// Draws a turn, reads its list up to the first entry that has a seat left, posts the place found
+/// and tries the mark once; who takes it commits turns until a look finds none, and gives it back.
+/// So on until no turn is left: the seat is then done, and has no claim, no debt and not the mark.
 pub fn work<G: Gate>(round: &SharedRound, dict: &Dict, me: &mut WorkSeat, gate: &G)
     requires seat { IsSeatOf round.now me.old }
     requires dict { dict.now ≡ dict_of round.now }

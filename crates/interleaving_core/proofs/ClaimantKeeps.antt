@@ -132,7 +132,8 @@ claim_keeps d c i v false drawn s at ok =
 
 -- a reading: the entry is met, or it is full and passed
 pub read_keeps : (d : Dictatorship) (c : Core) (i : ℕ) (v : View) (k j : ℕ) → IsSound d c
-    → slice_get c.views i ≡ Some v → IsAllowed d v (Reads k j) → IsSound d (after d c i v (Reads k j))
+    → slice_get c.views i ≡ Some v → IsAllowed d v (Reads k j)
+    → IsSound d (after d c i v (Reads k j))
 read_keeps d c i v k j s at ok = by (is_open d c (entry d k j)) refl
   where
     mine : Claiming
@@ -154,7 +155,8 @@ read_keeps d c i v k j s at ok = by (is_open d c (entry d k j)) refl
           one = claimant_one v mine claim ok.0 f.one;
           claim = at_some (IsSoundClaim d c) (record { turn = k; passed = passed; met = met }) fits;
           hold = f.hold;
-          own = own_moves d c v.own k j passed false met (subst (AreSoundOwnTurns d c v.own) ok.0 f.own);
+          own = own_moves d c v.own k j passed false met
+              (subst (AreSoundOwnTurns d c v.own) ok.0 f.own);
           past = f.past;
         }
 
@@ -210,7 +212,8 @@ le_or : (a b : ℕ) → (b < a → ⊥) → a ≤ b
 le_or a b h =
     elim (native.Mathlib.Decide.dec_le a b) [ yes l ↦ l | no n ↦ absurd (h (omega arith)) ]
 
-pub post_keeps : (d : Dictatorship) (c : Core) (i : ℕ) (v : View) (k j : ℕ) (met : Bool) → IsSound d c
+pub post_keeps : (d : Dictatorship) (c : Core) (i : ℕ) (v : View) (k j : ℕ) (met : Bool)
+    → IsSound d c
     → slice_get c.views i ≡ Some v → IsAllowed d v (Posts k j met)
     → IsSound d (after d c i v (Posts k j met))
 post_keeps d c i v k j met s at ok =

@@ -30,7 +30,8 @@ keeps d c i v (Seals h j phase) valid = seal_keeps d c i v h j phase valid
 keeps d c i v (Releases h phase) valid = release_keeps d c i v h phase
 
 -- the opening is sound
-pub begins : (d : Dictatorship) (workers : ℕ) → IsValidDictatorship d → IsSound d (opening d workers)
+pub begins : (d : Dictatorship) (workers : ℕ) → IsValidDictatorship d
+    → IsSound d (opening d workers)
 begins d workers valid =
     let n = length d.lists in
     record {

@@ -101,7 +101,8 @@ module _ (s : Inside) (i : ℕ) (w u : Worker) (room : vec_capacity u.own ≡ ve
   looks_at_cell c cell x at is =
       let same = cell_is s c cell x.kept x.ok.1 at in
       acted s _ i w u (Looks c) _ x (ap told_of_look same)
-      (is ∙ ap (λ (y : Cell). with_hold (view_of w) (hold_at c (phase_after_look y))) same) room refl
+      (is ∙ ap (λ (y : Cell). with_hold (view_of w) (hold_at c (phase_after_look y))) same) room
+      refl
       refl refl
 
   pub finds_post : (c j : ℕ) (cell : Cell) → MayAct s i w (Looks c)

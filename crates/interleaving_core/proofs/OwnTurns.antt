@@ -18,7 +18,8 @@ turn_in (Some x) = x.turn
 
 pub own_stays : (d : Dictatorship) (c e : Core) (own : List OwnTurn) (claim : Option Claiming)
     → c.claim_number ≤ e.claim_number
-    → ((k j : ℕ) → IsCellFrom (cell_at c k) j → IsCellFrom (cell_at e k) j) → AreSoundOwnTurns d c own claim
+    → ((k j : ℕ) → IsCellFrom (cell_at c k) j → IsCellFrom (cell_at e k) j)
+    → AreSoundOwnTurns d c own claim
     → AreSoundOwnTurns d e own claim
 own_stays d c e own claim more cells f = record {
   each = λ i x at. let a = f.each i x at in
@@ -70,8 +71,10 @@ rise_snoc own z rise below i j x y ex ey l = ⊎_elim
 -- a turn is claimed
 pub own_claimed : (d : Dictatorship) (c e : Core) (own : List OwnTurn) (found : ℕ)
     → c.claim_number ≤ found → found < e.claim_number → found < turn_count d
-    → ((k j : ℕ) → IsCellFrom (cell_at c k) j → IsCellFrom (cell_at e k) j) → AreSoundOwnTurns d c own None
-    → AreSoundOwnTurns d e (own ++ record { turn = found; place = None } ∷ []) (claim_at found 0 false)
+    → ((k j : ℕ) → IsCellFrom (cell_at c k) j → IsCellFrom (cell_at e k) j)
+    → AreSoundOwnTurns d c own None
+    → AreSoundOwnTurns d e (own ++ record { turn = found; place = None } ∷ [])
+    (claim_at found 0 false)
 own_claimed d c e own found new more inside cells f = record {
   each = λ i x at. ⊎_elim
       (λ (p : slice_get own i ≡ Some x). let a = f.each i x p in (

@@ -60,7 +60,8 @@ posted_stays : (d : Dictatorship) (c e : Core) (h j : ℕ) → Stays c e h → I
     → IsPostedUpTo d e h j
 posted_stays d c e h j s f = (f.0, (f.1.0, s.cell f.1.0 f.1.1, f.1.2))
 
-phase_stays : (d : Dictatorship) (c e : Core) (h : ℕ) (x : Phase) → Stays c e h → IsSoundPhase d c h x
+phase_stays : (d : Dictatorship) (c e : Core) (h : ℕ) (x : Phase) → Stays c e h
+    → IsSoundPhase d c h x
     → IsSoundPhase d e h x
 phase_stays d c e h Idle s f = tt
 phase_stays d c e h Halted s f = tt
@@ -95,7 +96,8 @@ holding_at d e count c x is f =
 -- the holder's view after its event
 pub holder_fits : (d : Dictatorship) (c e : Core) (count now : ℕ) (v : View) (mine : Holding)
     (hold : Option Holding) → Grows c e → IsSoundView d c count v → v.hold ≡ Some mine
-    → ((h : Holding) → hold ≡ Some h → IsSoundHolding d e now h) → IsSoundView d e now (with_hold v hold)
+    → ((h : Holding) → hold ≡ Some h → IsSoundHolding d e now h)
+    → IsSoundView d e now (with_hold v hold)
 holder_fits d c e count now v mine hold g f is holds =
     record {
       one =

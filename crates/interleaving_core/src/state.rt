@@ -46,8 +46,8 @@ impl Model for CoreState {
 }
 
 impl CoreState {
-    /// The opening state of this dictatorship, for 1 to `MAX_WORKERS` workers. All memory that the machine
-    /// ever needs is taken here: for each worker as much as it needs to draw every turn.
+    /// The opening state of this dictatorship, for 1 to `MAX_WORKERS` workers. All memory that the
+    /// machine ever needs is taken here: for each worker as much as it needs to draw every turn.
     pub fn open(alloc: Global, dict: Dict, workers: u32) -> Result<CoreState, AllocError>
         requires some { 1 ≤ workers }
         requires few { workers ≤ MAX_WORKERS }

@@ -54,7 +54,8 @@ one_share (suc zero) b l h e = refl
 one_share (suc (suc n)) b l h e = absurd (let t = h (omega arith) in cc)
 
 -- own turns without a claim were all posted, and drawn before
-earlier : (d : Dictatorship) (c : Core) (v : View) → v.claim ≡ None → AreSoundOwnTurns d c v.own v.claim
+earlier : (d : Dictatorship) (c : Core) (v : View) → v.claim ≡ None
+    → AreSoundOwnTurns d c v.own v.claim
     → AreEarlier v.own c.claim_number
 earlier d c v none f =
     record {

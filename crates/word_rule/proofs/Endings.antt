@@ -1,5 +1,5 @@
--- A round that ends with a seat that has every share and does not hold the mark: the mark is free, so its
--- number is the true one, and the cells before it show the choices.
+-- A round that ends with a seat that has every share and does not hold the mark: the mark is free,
+-- so its number is the true one, and the cells before it show the choices.
 use Rattle.std.proofs.Common.{◌≡◌, ℕ, ◌+◌, ◌/◌, ◌<◌, ◌≤◌, List, length, get_or, None, sym, refl, ap, subst, ◌∙◌, arith}
 use Rattle.atomic_table.specs.Table.{State, Seen, Final}
 use Rattle.std.proofs.lemmas.Option.{get_or_from_slice_get}
@@ -18,7 +18,8 @@ use Rattle.word_rule.proofs.CoreViews.{there}
 use Rattle.word_rule.proofs.Layouts.{place_in, shows_small, reads_cell}
 use Rattle.word_rule.proofs.Holder.{free_with_all}
 
--- what the words of a round's end show of its dictatorship, to a seat that released this number last
+-- what the words of a round's end show of its dictatorship, to a seat that released this number
+-- last
 pub record Ends (words : List ℕ) (d : Dictatorship) (released : ℕ) : Type 0 where
   pub valid : IsValidDictatorship d
   pub wide : length words ≡ word_count d
@@ -28,7 +29,8 @@ pub record Ends (words : List ℕ) (d : Dictatorship) (released : ℕ) : Type 0 
       → cell_of (get_or words (2 + programme_count d + k) 0) ≡ Committed (choice d k)
 
 -- a word that was read
-pub word_at : (words : List ℕ) (i word : ℕ) → get_elem? words i ≡ some word → get_or words i 0 ≡ word
+pub word_at : (words : List ℕ) (i word : ℕ) → get_elem? words i ≡ some word
+    → get_or words i 0 ≡ word
 word_at words i word at = get_or_from_slice_get words i word 0 (there words i word at)
 
 module _ (key : RoundKey) where
@@ -55,7 +57,8 @@ module _ (key : RoundKey) where
   round_ends id x words slots f alive every hold =
       let s = f.0 in
       let live : IsLive s.views id x = record { there = there s.views id x f.1.1; live = alive } in
-      subst (λ (w : List ℕ). Ends w key.dict.value x.released) f.2 (ends_so s f.1.0 id x live every hold)
+      subst (λ (w : List ℕ). Ends w key.dict.value x.released) f.2
+      (ends_so s f.1.0 id x live every hold)
 
 choice_small : (d : Dictatorship) (k : ℕ) → IsValidDictatorship d → k < length d.lists
     → choice d k ≤ 48
@@ -63,7 +66,8 @@ unfolding choice first_open
 choice_small d k valid inside = place-small d k (has_seat d (picks d k)) valid inside
 
 -- so the cells before the mark's number are committed, each at its choice
-pub ends_committed : (words : List ℕ) (d : Dictatorship) (released count : ℕ) → Ends words d released
+pub ends_committed : (words : List ℕ) (d : Dictatorship) (released count : ℕ)
+    → Ends words d released
     → get_or words 1 0 / 2 ≡ count → AreCommitted d words (programme_count d) count
 ends_committed words d released count e is =
     let wide = e.wide in

@@ -1,6 +1,6 @@
--- The holder's atomic steps keep the rule: a try on the mark, a look, a weighing, a seat taken, a commit
--- and a release are each their event. A seat with every share has no other beside it, so it finds the
--- mark free; and once it is done it finds each turn that is not committed posted.
+-- The holder's atomic steps keep the rule: a try on the mark, a look, a weighing, a seat taken, a
+-- commit and a release are each their event. A seat with every share has no other beside it, so it
+-- finds the mark free; and once it is done it finds each turn that is not committed posted.
 use Rattle.std.proofs.Common.{◌≡◌, ℕ, ◌+◌, ◌*◌, ◌/◌, ◌%◌, ◌^◌, ◌<◌, ◌≤◌, ◌⊎◌, Bool, true, false, List, length, set, get_or, bit_or, nat_lt, nat_le, eqb, ne_eqb, Some, None, IsSome, sym, refl, ap, inl, inr, ⊎_elim, subst, ◌∙◌, arith, length-set, get_or-set_same, get_or-set_other}
 use Rattle.std.specs.Prelude.{slice_get}
 use Rattle.std.proofs.lemmas.List.{set-get_or}
@@ -26,7 +26,7 @@ use Rattle.word_rule.specs.Holder.{posted_place, tried, TellsTake, look_by, Tell
 use Rattle.word_rule.specs.declared.rule.RoundKey.{RoundKey}
 use Rattle.word_rule.proofs.CoreViews.{live_there, place, at_place, whose}
 use Rattle.word_rule.proofs.Layouts.{shows_committed, or_one, reads_seats, reads_cell, writes_mark, writes_seats, writes_cell}
-use Rattle.word_rule.proofs.Keeps.{IsSameSeat, live_after, seat_in_range, seat_fits, table_after, event_keeps}
+use Rattle.word_rule.proofs.Keeps.{IsSameSeat, same_seat, live_after, seat_in_range, seat_fits, table_after, event_keeps}
 
 tried_core : (x : SeatKnows) (b : Bool) (n : ℕ) → (tried x b n).core ≡ after_take x.core b n
 tried_core x true n = refl
@@ -36,18 +36,27 @@ tried_released : (x : SeatKnows) (b : Bool) (n : ℕ) → (tried x b n).released
 tried_released x true n = refl
 tried_released x false n = refl
 
+-- who stands for others is done, before and after
+done_too : (x : SeatKnows) → (1 < x.share → x.core.done ≡ true) → 1 < x.share
+    → (x.core.done ≡ true) × (x.core.done ≡ true)
+done_too x alone more = (alone more, alone more)
+
 tried_same : (x : SeatKnows) (b : Bool) (n : ℕ) → (1 < x.share → x.core.done ≡ true)
     → IsSameSeat x (tried x b n)
-tried_same x true n alone =
-    record { number = refl; share = refl; dict = refl; workers = refl; alone = λ more. (alone more, alone more) }
-tried_same x false n alone =
-    record { number = refl; share = refl; dict = refl; workers = refl; alone = λ more. (alone more, alone more) }
+tried_same x true n a =
+    record { number = refl; share = refl; dict = refl; workers = refl; alone = done_too x a }
+tried_same x false n a =
+    record { number = refl; share = refl; dict = refl; workers = refl; alone = done_too x a }
+
+released_same : (x : SeatKnows) (n : ℕ) → (1 < x.share → x.core.done ≡ true)
+    → IsSameSeat x (released_with x n)
+released_same x n a =
+    record { number = refl; share = refl; dict = refl; workers = refl; alone = done_too x a }
 
 -- a seat with another view that is done as before
 same_with : (x : SeatKnows) (v : View) → v.done ≡ x.core.done → (1 < x.share → x.core.done ≡ true)
     → IsSameSeat x (with_core x v)
-same_with x v done alone =
-    record { number = refl; share = refl; dict = refl; workers = refl; alone = λ more. (alone more, done ∙ alone more) }
+same_with x v done alone = same_seat x v (λ more. (alone more, done ∙ alone more))
 
 bit_zero : (b : Bool) → bit b ≡ 0 → b ≡ false
 bit_zero true e = absurd (omega arith)
@@ -81,7 +90,8 @@ module _ (key : RoundKey) where
       let w = whose s.views j v in_core in
       dite (ℕ_discrete w.at id)
       (λ here.
-      let same : x ≡ w.seat = let p = live.there in let q = w.live.there in let r = ap (slice_get s.views) here in cc (p, q, r) in
+      let same : x ≡ w.seat = let p = live.there in let q = w.live.there in let r =
+      ap (slice_get s.views) here in cc (p, q, r) in
       ⊎_elim
       (λ (own : v ≡ w.seat.core). inl (own ∙ ap (λ (z : SeatKnows). z.core) (sym same)))
       (λ (other : (1 < w.seat.share) × (v ≡ other_view w.seat.core.done)).
@@ -95,7 +105,8 @@ module _ (key : RoundKey) where
       omega arith))
 
   -- so it finds the mark free where it does not hold it
-  pub free_with_all : (s : Table) (h : IsSoundTable key s) (id : ℕ) (x : SeatKnows) → IsLive s.views id x
+  pub free_with_all : (s : Table) (h : IsSoundTable key s) (id : ℕ) (x : SeatKnows)
+      → IsLive s.views id x
       → x.share ≡ key.workers → x.core.hold ≡ None → is_held (get_or s.words 1 0) ≡ false
   free_with_all s h id x live every hold =
       bit_zero (is_held (get_or s.words 1 0))
@@ -103,11 +114,13 @@ module _ (key : RoundKey) where
       ∙ sum_zero hold_bit (core_views s.views) (λ j v e.
       ⊎_elim
       (λ (own : v ≡ x.core). ap hold_bit own ∙ ap some_bit hold)
-      (λ (other : v ≡ other_view x.core.done). ap hold_bit other ∙ ap some_bit (others_free x.core.done))
+      (λ (other : v ≡ other_view x.core.done). ap hold_bit other
+      ∙ ap some_bit (others_free x.core.done))
       (all_mine s h id x live every j v e)))
 
   -- and once it is done, each turn is posted that is not committed
-  posted_with_all : (s : Table) (h : IsSoundTable key s) (id : ℕ) (x : SeatKnows) → IsLive s.views id x
+  posted_with_all : (s : Table) (h : IsSoundTable key s) (id : ℕ) (x : SeatKnows)
+      → IsLive s.views id x
       → x.share ≡ key.workers → x.core.done ≡ true → (k : ℕ) → k < turn_count d → h.sound.count ≤ k
       → IsSome (posted_place (cell_at (table_core key s) k))
   posted_with_all s h id x live every done k inside left =
@@ -123,9 +136,11 @@ module _ (key : RoundKey) where
       (sym (h.sound.claims.claimed k inside (omega arith)) ∙ none) (h.sound.cells.above k left)
 
   -- a step that leaves the mark's word keeps the rule where it is an event of the core
-  mark_stays : (s : Table) (h : IsSoundTable key s) (id : ℕ) (x y : SeatKnows) (words : List ℕ) (a : Action)
+  mark_stays : (s : Table) (h : IsSoundTable key s) (id : ℕ) (x y : SeatKnows) (words : List ℕ)
+      (a : Action)
       → IsLive s.views id x → IsSameSeat x y → IsAllowed d x.core a → length words ≡ length s.words
-      → core_of d words (set (core_views s.views) (place s.views id) y.core) ≡ after d (table_core key s) (place s.views id) x.core a
+      → core_of d words (set (core_views s.views) (place s.views id) y.core) ≡ after d
+      (table_core key s) (place s.views id) x.core a
       → get_or words 1 0 / 2 ≡ get_or s.words 1 0 / 2 → y.released ≡ x.released
       → IsSoundTable key (table_after key s id y words)
   mark_stays s h id x y words a live same may long leads mark told =
@@ -133,9 +148,11 @@ module _ (key : RoundKey) where
       event_keeps key s h id x y words a live same may long leads (omega arith) (omega arith)
 
   -- so does a load
-  load_keeps : (s : Table) (h : IsSoundTable key s) (id i : ℕ) (x : SeatKnows) (v : View) (a : Action)
+  load_keeps : (s : Table) (h : IsSoundTable key s) (id i : ℕ) (x : SeatKnows) (v : View)
+      (a : Action)
       → IsLive s.views id x → IsSameSeat x (with_core x v) → IsAllowed d x.core a
-      → core_of d s.words (set (core_views s.views) (place s.views id) v) ≡ after d (table_core key s) (place s.views id) x.core a
+      → core_of d s.words (set (core_views s.views) (place s.views id) v) ≡ after d
+      (table_core key s) (place s.views id) x.core a
       → IsSoundTable key (table_after key s id (with_core x v) (set s.words i (get_or s.words i 0)))
   load_keeps s h id i x v a live same may leads =
       let as_was : set s.words i (get_or s.words i 0) ≡ s.words = set-get_or s.words i 0 in
@@ -157,7 +174,8 @@ module _ (key : RoundKey) where
       let one = or_one found in
       let wide = h.wide in
       let views = set (core_views s.views) (place s.views id) y.core in
-      let leads : core_of d (set s.words 1 word) views ≡ after d (table_core key s) (place s.views id) x.core Takes =
+      let leads : core_of d (set s.words 1 word) views ≡ after d (table_core key s)
+      (place s.views id) x.core Takes =
       writes_mark d s.words views word (omega arith)
       ∙ (λ k. record (table_core key s) {
         mark_held = one.1 k;
@@ -166,7 +184,8 @@ module _ (key : RoundKey) where
       }) in
       let number : get_or (set s.words 1 word) 1 0 / 2 ≡ found / 2 =
       ap (λ (z : ℕ). z / 2) (get_or-set_same s.words 1 word 0 (omega arith)) ∙ one.0 in
-      let kept = mark_stays s h id x y (set s.words 1 word) Takes live same may (length-set s.words 1 word) leads number
+      let kept = mark_stays s h id x y (set s.words 1 word) Takes live same may
+      (length-set s.words 1 word) leads number
       (tried_released x b (found / 2)) in
       let mine = h.each id x live in
       let dict = ap (λ (z : Dictatorship). turn_count z) mine.dict in
@@ -188,7 +207,8 @@ module _ (key : RoundKey) where
   -- a look at the first uncommitted turn's cell
   pub look_allowed : (slots id : ℕ) (me : SeatMe) (i k : ℕ) → 0 < me.0.share
       → (1 < me.0.share → me.0.core.done ≡ true) → IsAllowed d me.0.core (Looks k)
-      → i ≡ 2 + programme_count d + k → Allows (IsSoundTable key) slots id me i (λ n. n) (TellsLook me)
+      → i ≡ 2 + programme_count d + k → Allows (IsSoundTable key) slots id me i (λ n. n)
+      (TellsLook me)
   look_allowed slots id me i k some alone may is s h homes at fits =
       let x = me.0 in
       let live = live_there s.views id x at some in
@@ -201,7 +221,8 @@ module _ (key : RoundKey) where
       let seen = reads_cell d s.words (core_views s.views) i k is may.1 in
       let leads : core_of d s.words (set (core_views s.views) (place s.views id) v)
       ≡ after d (table_core key s) (place s.views id) x.core (Looks k) =
-      ap (λ (u : View). core_of d s.words (set (core_views s.views) (place s.views id) u)) (by ∙ ap seen_view (sym seen)) in
+      ap (λ (u : View). core_of d s.words (set (core_views s.views) (place s.views id) u))
+      (by ∙ ap seen_view (sym seen)) in
       let kept = load_keeps s h id i x v (Looks k) live same may leads in
       let mine = h.each id x live in
       let count = ((seat_fits key s h id x live).hold _ may.0).committed in
@@ -222,7 +243,8 @@ module _ (key : RoundKey) where
 
   -- a weighing of the entry at the holder's place
   pub weigh_allowed : (slots id : ℕ) (me : SeatMe) (i k j : ℕ) → 0 < me.0.share
-      → (1 < me.0.share → me.0.core.done ≡ true) → IsAllowed d me.0.core (Weighs k j) → i ≡ 2 + entry d k j
+      → (1 < me.0.share → me.0.core.done ≡ true) → IsAllowed d me.0.core (Weighs k j)
+      → i ≡ 2 + entry d k j
       → Allows (IsSoundTable key) slots id me i (λ n. n) (TellsWeigh me)
   weigh_allowed slots id me i k j some alone may is s h homes at fits =
       let x = me.0 in
@@ -230,7 +252,8 @@ module _ (key : RoundKey) where
       let found = get_or s.words i 0 in
       let p = entry d k j in
       let v = weigh_by x.dict x.core x.core.hold found in
-      let seen_view : ℕ → View = λ n. with_hold x.core (hold_at k (phase_after_weigh (nat_lt n (quota_of d p)) j)) in
+      let seen_view : ℕ → View = λ n. with_hold x.core
+      (hold_at k (phase_after_weigh (nat_lt n (quota_of d p)) j)) in
       let mine = h.each id x live in
       let by : v ≡ seen_view found = (λ z. weigh_by (mine.dict z) x.core (may.0 z) found) in
       let same = same_with x v (ap (λ (u : View). u.done) by) alone in
@@ -238,17 +261,21 @@ module _ (key : RoundKey) where
       let turn = (fit.hold _ may.0).phase.0.0 in
       let inside : p < programme_count d = h.valid.list_entries k j turn may.1 in
       let seen : found ≡ seats_of (table_core key s) p =
-      ap (λ (z : ℕ). get_or s.words z 0) is ∙ sym (reads_seats d s.words (core_views s.views) p inside) in
+      ap (λ (z : ℕ). get_or s.words z 0) is
+      ∙ sym (reads_seats d s.words (core_views s.views) p inside) in
       let leads : core_of d s.words (set (core_views s.views) (place s.views id) v)
       ≡ after d (table_core key s) (place s.views id) x.core (Weighs k j) =
-      ap (λ (u : View). core_of d s.words (set (core_views s.views) (place s.views id) u)) (by ∙ ap seen_view seen) in
+      ap (λ (u : View). core_of d s.words (set (core_views s.views) (place s.views id) u))
+      (by ∙ ap seen_view seen) in
       let kept = load_keeps s h id i x v (Weighs k j) live same may leads in
-      let range = seat_in_range key _ kept id (with_core x v) (live_after key s id x (with_core x v) live same) in
+      let range = seat_in_range key _ kept id (with_core x v)
+      (live_after key s id x (with_core x v) live same) in
       (with_core x v, keeps, tt, kept, record { seat = refl; range = range })
 
   -- a seat taken of the entry at the holder's place
   pub seat_allowed : (slots id : ℕ) (me : SeatMe) (i k j : ℕ) → 0 < me.0.share
-      → (1 < me.0.share → me.0.core.done ≡ true) → IsAllowed d me.0.core (Seats k j) → i ≡ 2 + entry d k j
+      → (1 < me.0.share → me.0.core.done ≡ true) → IsAllowed d me.0.core (Seats k j)
+      → i ≡ 2 + entry d k j
       → Allows (IsSoundTable key) slots id me i (λ n. (n + 1) % 2 ^ 64) (TellsSeat me)
   seat_allowed slots id me i k j some alone may is s h homes at fits =
       let x = me.0 in
@@ -256,7 +283,8 @@ module _ (key : RoundKey) where
       let found = get_or s.words i 0 in
       let p = entry d k j in
       let v = seat_by x.dict x.core x.core.hold found in
-      let seen_view : ℕ → View = λ n. with_hold x.core (hold_at k (Seated j (nat_le (quota_of d p) (n + 1)))) in
+      let seen_view : ℕ → View = λ n. with_hold x.core
+      (hold_at k (Seated j (nat_le (quota_of d p) (n + 1)))) in
       let mine = h.each id x live in
       let by : v ≡ seen_view found = (λ z. seat_by (mine.dict z) x.core (may z) found) in
       let y = with_core x v in
@@ -265,15 +293,18 @@ module _ (key : RoundKey) where
       let phase = (fit.hold _ may).phase in
       let inside : p < programme_count d = h.valid.list_entries k j phase.0.0 phase.1 in
       let seen : found ≡ seats_of (table_core key s) p =
-      ap (λ (z : ℕ). get_or s.words z 0) is ∙ sym (reads_seats d s.words (core_views s.views) p inside) in
-      let now = seats_now d (table_core key s) h.sound (place s.views id) x.core (at_place s.views id x live) _ may (λ q. refl) p inside in
+      ap (λ (z : ℕ). get_or s.words z 0) is
+      ∙ sym (reads_seats d s.words (core_views s.views) p inside) in
+      let now = seats_now d (table_core key s) h.sound (place s.views id) x.core
+      (at_place s.views id x live) _ may (λ q. refl) p inside in
       let most = seats_taken-le-quota d p (h.valid.filled p inside) k in
       let quota = h.valid.quotas p inside in
       let next = (found + 1) % 2 ^ 64 in
       let up : next ≡ found + 1 = mod-eq_of_lt (let l : found + 1 < 2 ^ 64 = omega arith in l) in
       let count : next ≡ seats_of (table_core key s) p + 1 = up ∙ ap (λ (z : ℕ). z + 1) seen in
       let views = set (core_views s.views) (place s.views id) v in
-      let leads : core_of d (set s.words i next) views ≡ after d (table_core key s) (place s.views id) x.core (Seats k j) =
+      let leads : core_of d (set s.words i next) views ≡ after d (table_core key s)
+      (place s.views id) x.core (Seats k j) =
       writes_seats d s.words views i p next is inside
       ∙ (λ z. record (table_core key s) {
         seats = set (table_core key s).seats p (count z);
@@ -281,7 +312,8 @@ module _ (key : RoundKey) where
       }) in
       let mark : get_or (set s.words i next) 1 0 ≡ get_or s.words 1 0 =
       get_or-set_other s.words i 1 next 0 (λ e. omega arith) in
-      let kept = mark_stays s h id x y (set s.words i next) (Seats k j) live same may (length-set s.words i next) leads
+      let kept = mark_stays s h id x y (set s.words i next) (Seats k j) live same may
+      (length-set s.words i next) leads
       (ap (λ (z : ℕ). z / 2) mark) refl in
       let range = seat_in_range key _ kept id y (live_after key s id x y live same) in (
         y,
@@ -309,7 +341,8 @@ module _ (key : RoundKey) where
       let same = same_with x v (ap (λ (u : View). u.done) by) alone in
       let shown : cell_of word ≡ Committed j = ap cell_of shows ∙ shows_committed j in
       let views = set (core_views s.views) (place s.views id) v in
-      let leads : core_of d (set s.words i word) views ≡ after d (table_core key s) (place s.views id) x.core (Seals k j phase) =
+      let leads : core_of d (set s.words i word) views ≡ after d (table_core key s)
+      (place s.views id) x.core (Seals k j phase) =
       writes_cell d s.words views i k word (Committed j) is inside shown
       ∙ ap (λ (u : View). record (table_core key s) {
         cells = set (table_core key s).cells k (Committed j);
@@ -317,31 +350,40 @@ module _ (key : RoundKey) where
       }) by in
       let mark : get_or (set s.words i word) 1 0 ≡ get_or s.words 1 0 =
       get_or-set_other s.words i 1 word 0 (λ e. omega arith) in
-      let kept = mark_stays s h id x y (set s.words i word) (Seals k j phase) live same may (length-set s.words i word) leads
+      let kept = mark_stays s h id x y (set s.words i word) (Seals k j phase) live same may
+      (length-set s.words i word) leads
       (ap (λ (z : ℕ). z / 2) mark) refl in
       let range = seat_in_range key _ kept id y (live_after key s id x y live same) in
       (y, keeps, tt, kept, record { seat = refl; range = range })
 
   -- a release with the number of committed turns
   pub release_allowed : (slots id : ℕ) (me : SeatMe) (k word : ℕ) (phase : Phase) → 0 < me.0.share
-      → (1 < me.0.share → me.0.core.done ≡ true) → IsAllowed d me.0.core (Releases k phase) → word ≡ 2 * k
+      → (1 < me.0.share → me.0.core.done ≡ true) → IsAllowed d me.0.core (Releases k phase)
+      → word ≡ 2 * k
       → Allows (IsSoundTable key) slots id me 1 (λ _. word) (λ _. TellsRelease me word)
   release_allowed slots id me k word phase some alone may shows s h homes at fits =
       let x = me.0 in
       let live = live_there s.views id x at some in
       let y = released_with x (word / 2) in
-      let same : IsSameSeat x y = record { number = refl; share = refl; dict = refl; workers = refl; alone = λ more. (alone more, alone more) } in
+      let same = released_same x (word / 2) alone in
       let wide = h.wide in
       let half : word / 2 ≡ k = omega arith in
       let even : eqb (word % 2) 1 ≡ false = ne_eqb (word % 2) 1 (λ e. omega arith) in
       let views = set (core_views s.views) (place s.views id) y.core in
-      let leads : core_of d (set s.words 1 word) views ≡ after d (table_core key s) (place s.views id) x.core (Releases k phase) =
+      let leads : core_of d (set s.words 1 word) views ≡ after d (table_core key s)
+      (place s.views id) x.core (Releases k phase) =
       writes_mark d s.words views word (omega arith)
-      ∙ (λ z. record (table_core key s) { mark_held = even z; mark_number = half z; views = views }) in
-      let mark : get_or (set s.words 1 word) 1 0 ≡ word = get_or-set_same s.words 1 word 0 (omega arith) in
+      ∙ (λ z. record (table_core key s) {
+        mark_held = even z;
+        mark_number = half z;
+        views = views;
+      }) in
+      let mark : get_or (set s.words 1 word) 1 0 ≡ word = get_or-set_same s.words 1 word 0
+      (omega arith) in
       let count = ((seat_fits key s h id x live).hold _ may.0).committed in
       let behind = h.sound.mark.behind in
-      let kept = event_keeps key s h id x y (set s.words 1 word) (Releases k phase) live same may (length-set s.words 1 word) leads
+      let kept = event_keeps key s h id x y (set s.words 1 word) (Releases k phase) live same may
+      (length-set s.words 1 word) leads
       (omega arith) (omega arith) in
       let range = seat_in_range key _ kept id y (live_after key s id x y live same) in
       (y, keeps, tt, kept, record { seat = refl; range = range })

@@ -1,7 +1,7 @@
 -- A step that is an event of the core keeps the rule. Whatever the table is when the step comes,
--- its words and views are a sound core state. The event is allowed by what the seat's own view says,
--- so the state after it is sound; and the table after the step shows that state, since the step
--- changes one word and one view, as the event does.
+-- its words and views are a sound core state. The event is allowed by what the seat's own view
+-- says, so the state after it is sound; and the table after the step shows that state, since the
+-- step changes one word and one view, as the event does.
 use Rattle.std.proofs.Common.{◌≡◌, ℕ, ◌/◌, ◌<◌, ◌≤◌, ◌≢◌, true, List, length, set, get_or, Some, sym, refl, ap, inr, ⊎_elim, subst, ◌∙◌, arith}
 use Rattle.std.specs.Prelude.{slice_get}
 use Rattle.atomic_table.specs.Table.{State}

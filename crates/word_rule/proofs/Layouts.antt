@@ -42,7 +42,8 @@ shows_small word = by (eqb word 0) (eqb (word % 2) 1) refl refl
         → word ≤ 2 * place_in (cell_by a b (word / 2)) + 2
     by true b z o = let e = eqb-true word 0 z in omega arith
     by false true z o = omega arith
-    by false false z o = let p = eqb-false (word % 2) 1 o in let q = eqb-false word 0 z in omega arith
+    by false false z o = let p = eqb-false (word % 2) 1 o in let q = eqb-false word 0 z in
+        omega arith
 
 -- the mark's word once it was taken: its number stays, and it is held
 pub or_one : (n : ℕ) → (bit_or n 1 / 2 ≡ n / 2) × (is_held (bit_or n 1) ≡ true)

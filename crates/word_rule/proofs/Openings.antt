@@ -1,5 +1,5 @@
--- The opening words with one seat that stands for every worker are the opening state of the core, which
--- is sound; and the seats that it is split into stand for every worker.
+-- The opening words with one seat that stands for every worker are the opening state of the core,
+-- which is sound; and the seats that it is split into stand for every worker.
 use Rattle.std.proofs.Common.{◌≡◌, ℕ, zero, suc, ◌+◌, ◌<◌, ◌≤◌, false, List, [], ◌∷◌, ◌++◌, length, map, take, drop, replicate, Some, sym, refl, ap, inl, subst, ◌∙◌, arith, append-nil, length-append}
 use Rattle.std.specs.Prelude.{slice_get}
 use Rattle.std.proofs.Math.Nat.{le_refl}
@@ -66,7 +66,8 @@ wide d valid =
 
 -- a table is made with a sound core state
 opens_with_first : (key : RoundKey) → IsValidDictatorship key.dict.value → 0 < key.workers
-    → key.workers ≤ MAX_WORKERS → IsSoundTable key (table_opening (first_words key.dict.value) [] (first_of key))
+    → key.workers ≤ MAX_WORKERS → IsSoundTable key
+    (table_opening (first_words key.dict.value) [] (first_of key))
 opens_with_first key valid some few =
     let d = key.dict.value in
     let x = first_of key in
@@ -78,7 +79,8 @@ opens_with_first key valid some few =
       sound =
           let shown = words_open d key.workers (core_views (x ∷ [])) valid views in
           subst (IsSound d) (sym shown) (begins d key.workers valid);
-      shares = sum_by-cons share_of x [] ∙ (let e : key.workers + 0 ≡ key.workers = omega arith in e);
+      shares = sum_by-cons share_of x []
+          ∙ (let e : key.workers + 0 ≡ key.workers = omega arith in e);
       each = λ i y is.
           subst (Belongs key 0) (only x i y is.there) record {
             dict = refl;

@@ -1,6 +1,6 @@
--- A split and a join keep the rule. They move shares between seats; the views of the core stay those
--- of as many workers at the opening, or done, as before, so that each sum over the views stays, and
--- what is known of each view.
+-- A split and a join keep the rule. They move shares between seats; the views of the core stay
+-- those of as many workers at the opening, or done, as before, so that each sum over the views
+-- stays, and what is known of each view.
 use Rattle.std.proofs.Common.{◌≡◌, ℕ, zero, suc, ◌+◌, ◌-◌, ◌*◌, ◌/◌, ◌<◌, ◌≢◌, ◌⊎◌, Bool, true, false, List, [], ◌∷◌, ◌++◌, length, set, get_or, Some, None, sym, refl, ap, inl, inr, ⊎_elim, subst, ◌∙◌, add-mul, suc-mul, arith, length-set}
 use Rattle.std.specs.Prelude.{slice_get}
 use Rattle.std.specs.List.{sum_by}
@@ -37,7 +37,14 @@ module _ (d : Dictatorship) (c : Core) (vs : List View) where
         one = f.one;
         claim = λ x is.
             let g = f.claim x is in
-            record { turn = g.turn; drawn = g.drawn; passed = g.passed; full = g.full; met = g.met };
+            record {
+              turn = g.turn;
+              drawn = g.drawn;
+              passed = g.passed;
+              full = g.full;
+              met =
+                  g.met;
+            };
         hold = λ h is.
             let g = f.hold h is in
             record { committed = g.committed; phase = phase_refits h.committed h.phase g.phase };
@@ -115,7 +122,8 @@ module _ (key : RoundKey) where
 
   -- a view of a seat from before fits
   old_fits : (s : Table) (h : IsSoundTable key s) (i : ℕ) (x : SeatKnows) (v : View)
-      → IsLive s.views i x → (v ≡ x.core) ⊎ ((1 < x.share) × (v ≡ other_view x.core.done)) → Fits s h v
+      → IsLive s.views i x → (v ≡ x.core) ⊎ ((1 < x.share) × (v ≡ other_view x.core.done))
+      → Fits s h v
   old_fits s h i x v at which =
       ⊎_elim
       (λ (own : v ≡ x.core). subst (Fits s h) (sym own) (seat_fits key s h i x at))
@@ -180,7 +188,8 @@ module _ (key : RoundKey) where
       (λ (own : v ≡ w.seat.core).
       subst (Fits s h) (ap (λ (z : SeatKnows). z.core) p.1 ∙ sym own) fresh_fits)
       (λ (other : (1 < w.seat.share) × (v ≡ other_view w.seat.core.done)).
-      subst (Fits s h) (ap (λ (z : SeatKnows). other_view z.core.done) p.1 ∙ sym other.1) fresh_fits)
+      subst (Fits s h) (ap (λ (z : SeatKnows). other_view z.core.done) p.1 ∙ sym other.1)
+      fresh_fits)
       w.which)
       rest)
       (origin w.at w.seat w.live) in
@@ -193,14 +202,16 @@ module _ (key : RoundKey) where
       λ i y is.
       ⊎_elim
       (λ p. inl (p.0, ap (λ (z : SeatKnows). z.number) (sym p.1), ap share_of (sym p.1)))
-      (λ r. inr (⊎_elim (λ p. inl p) (λ p. inr (p.0, ap (λ (z : SeatKnows). z.number) (sym p.1))) r))
+      (λ r. inr (⊎_elim (λ p. inl p) (λ p. inr (p.0, ap (λ (z : SeatKnows). z.number) (sym p.1)))
+      r))
       (origin i y is) in
       record {
         valid = h.valid;
         team = h.team;
         wide = h.wide;
         sound = resound d (table_core key s) (core_views vs) h.sound (sums hold_bit) (sums done_bit)
-            (λ k. sums (claim_bit k)) (λ p. sums (seat_bit d p)) (λ i v e. fits_of v (whose vs i v e));
+            (λ k. sums (claim_bit k)) (λ p. sums (seat_bit d p))
+            (λ i v e. fits_of v (whose vs i v e));
         shares =
             let p = sum_by-append share_of (set s.views id left) (right ∷ []) in
             let o = sum_by-cons share_of right [] in
@@ -399,7 +410,8 @@ module _ (key : RoundKey) where
             (sums hold_bit (ap some_bit o.hold) (ap some_bit p.hold))
             (sums done_bit (ap bit o.done) (ap bit p.done))
             (λ k. sums (claim_bit k) (ap (turn_bit k) o.claim) (ap (turn_bit k) p.claim))
-            (λ q. sums (seat_bit d q) (ap (holder_seat_bit d q) o.hold) (ap (holder_seat_bit d q) p.hold))
+            (λ q. sums (seat_bit d q) (ap (holder_seat_bit d q) o.hold)
+            (ap (holder_seat_bit d q) p.hold))
             (λ i v e. fits_of v (whose vs i v e));
         shares =
             let r = sum_set share_of mid other y spent_seat in_mid in

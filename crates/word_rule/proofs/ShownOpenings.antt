@@ -1,5 +1,6 @@
--- While every view is still that of the opening, the table shows the opening state: the claim number is
--- 0, so no cell is touched, no turn is committed, nobody holds the mark, and each seat count is its fill.
+-- While every view is still that of the opening, the table shows the opening state: the claim
+-- number is 0, so no cell is touched, no turn is committed, nobody holds the mark, and each seat
+-- count is its fill.
 use Rattle.std.proofs.Common.{◌≡◌, ℕ, zero, suc, ◌<◌, Bool, true, false, List, [], ◌∷◌, ◌++◌, length, get_or, replicate, sym, refl, ap, ◌∙◌, arith}
 use Rattle.std.specs.List.{sum_by}
 use Rattle.std.proofs.lemmas.List.{ext_get_or, replicate-append-replicate}
@@ -29,8 +30,10 @@ fresh_views : (l : List SeatKnows) → AreFresh l
     → core_views l ≡ replicate (sum_by share_of l) fresh_view
 fresh_views [] fresh = refl
 fresh_views (x ∷ xs) fresh =
-    let mine = shared_fresh x.share x.core (λ live. fresh 0 x record { there = refl; live = live }) in
-    let rest = fresh_views xs (λ i y is. fresh (suc i) y record { there = is.there; live = is.live }) in
+    let mine = shared_fresh x.share x.core (λ live. fresh 0 x record { there = refl; live = live })
+    in
+    let rest = fresh_views xs (λ i y is. fresh (suc i) y record
+    { there = is.there; live = is.live }) in
     (λ i. mine i ++ rest i)
     ∙ (replicate-append-replicate x.share (sum_by share_of xs) fresh_view
     ∙ ap (λ (n : ℕ). replicate n fresh_view) (sym (sum_by-cons share_of x xs)))
@@ -49,7 +52,8 @@ none_committed : (d : Dictatorship) (cells : List Cell) (count : ℕ)
     → ((k : ℕ) → get_or cells k Empty ≡ Empty) → count ≡ 0
 none_committed d cells zero below empty = refl
 none_committed d cells (suc n) below empty =
-    absurd (let e : Empty ≡ Committed (choice d 0) = sym (empty 0) ∙ below 0 (omega arith) in cc (e))
+    absurd (let e : Empty ≡ Committed (choice d 0) = sym (empty 0) ∙ below 0 (omega arith) in
+    cc (e))
 
 pub shows_opening : (key : RoundKey) → ShowsOpening key
 shows_opening key s h fresh =
@@ -77,7 +81,8 @@ shows_opening key s h fresh =
     let long = sound.seats.each_programme in
     let nobody : sum_by (seat_bit d p) c.views ≡ 0 =
     ap (sum_by (seat_bit d p)) views ∙ sum_replicate (seat_bit d p) key.workers fresh_view refl in
-    let takes : seats_taken d sound.count p ≡ 0 = ap (λ (k : ℕ). seats_taken d k p) none ∙ seats_taken-zero d p in
+    let takes : seats_taken d sound.count p ≡ 0 = ap (λ (k : ℕ). seats_taken d k p) none
+    ∙ seats_taken-zero d p in
     let counted = sound.seats.counts p (omega arith) in
     omega arith) in
     λ k. record {

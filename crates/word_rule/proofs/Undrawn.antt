@@ -1,4 +1,5 @@
--- Who has drawn no number after an event had drawn none before it, and the claim number is the same.
+-- Who has drawn no number after an event had drawn none before it, and the claim number is the
+-- same.
 use Rattle.std.proofs.Common.{◌≡◌, ℕ, zero, suc, ◌≢◌, Bool, true, false, List, [], ◌∷◌, ◌++◌, set, Some, None, sym, refl, ap, subst, ◌∙◌}
 use Rattle.std.specs.Prelude.{nat_lt, slice_get}
 use mathlib.Core.Logic.{dite}
@@ -23,7 +24,8 @@ no_place [] j e = refl
 no_place (x ∷ []) j e = absurd (cc (e))
 no_place (x ∷ y ∷ ys) j e = absurd (cc (e))
 
-read_draws_nothing : (b : Bool) (v : View) (k j : ℕ) → HasNotDrawn (after_read b v k j) → HasNotDrawn v
+read_draws_nothing : (b : Bool) (v : View) (k j : ℕ) → HasNotDrawn (after_read b v k j)
+    → HasNotDrawn v
 read_draws_nothing true v k j u = u
 read_draws_nothing false v k j u = u
 

@@ -5,14 +5,14 @@ use Rattle.interleaving_core.specs.declared.parts.Cell.TheVariants.{Committed}
 use Rattle.interleaving_core.specs.Core.{turn_count}
 use Rattle.word_rule.specs.Layout.{cell_word, cell_of}
 
--- the words of a round that is over, as clauses see them: the round's dictatorship, and how many of its
--- turns are committed
+-- the words of a round that is over, as clauses see them: the round's dictatorship, and how many
+-- of its turns are committed
 pub record RoundEnd : Type 0 where
   pub dict : Dictatorship
   pub committed : ℕ
 
--- the first turns are committed, so many of them: behind the seat counts of so many programmes, their
--- words show cells that are committed at their choices
+-- the first turns are committed, so many of them: behind the seat counts of so many programmes,
+-- their words show cells that are committed at their choices
 pub record AreCommitted (d : Dictatorship) (words : List ℕ) (programmes count : ℕ) : Type 0 where
   pub valid : IsValidDictatorship d
   pub within : count ≤ turn_count d

@@ -72,7 +72,8 @@ IsAlone key x = (s : State ℕ SeatKnows) (i : ℕ) → IsSoundTable key s → I
     → (j : ℕ) (v : View) → slice_get (core_views s.views) j ≡ Some v
     → (v.claim ≡ None) × (v.hold ≡ None)
 
--- whatever the table is while every view is still that of the opening, it shows the core's opening state
+-- whatever the table is while every view is still that of the opening, it shows the core's opening
+-- state
 abbrev pub ShowsOpening : RoundKey → Type 0
 ShowsOpening key = (s : State ℕ SeatKnows) → IsSoundTable key s
     → ((i : ℕ) (x : SeatKnows) → IsLive s.views i x → x.core ≡ fresh_view)

@@ -5,9 +5,9 @@ use Rattle.market.specs.Dictatorships.{Dictatorship}
 use Rattle.interleaving_core.specs.Core.{View, fresh_view}
 
 -- a worker's view of the core; the seat's number and its share, which is how many workers it stands
--- for; how many tries on the mark it has made, held or not; the number of its last try that found the
--- mark free, and the number that its last release wrote; and the round's dictatorship and number of
--- workers
+-- for; how many tries on the mark it has made, held or not; the number of its last try that found
+-- the mark free, and the number that its last release wrote; and the round's dictatorship and
+-- number of workers
 pub record SeatKnows : Type 0 where
   pub core : View
   pub number : ℕ

@@ -13,8 +13,9 @@ use std::alloc::Global;
 use std::marker::Model;
 use std::snapshot::Snapshot;
 
-/// The words of a round that is over. Contracts see them as the round's dictatorship and the number of
-/// its committed turns, which are the first ones. Only `close_round` makes a value of this type.
+/// The words of a round that is over. Contracts see them as the round's dictatorship and the
+/// number of its committed turns, which are the first ones. Only `close_round` makes a value of
+/// this type.
 pub struct Words {
     closed: Closed<u8, Global>,
     programmes: u32,
@@ -74,8 +75,8 @@ impl Drop for Words {
     }
 }
 
-/// Ends a round, by a seat that has every share and does not hold the mark. At least as many turns are
-/// committed as the seat's last release wrote. It takes no memory.
+/// Ends a round, by a seat that has every share and does not hold the mark. At least as many turns
+/// are committed as the seat's last release wrote. It takes no memory.
 pub fn close_round(round: SharedRound, me: WorkSeat) -> Words
     requires seat { IsSeatOf round me }
     requires all { (knows me).share ≡ (key_of round).workers }

@@ -30,7 +30,8 @@ impl Play<u8, SeatView> for WeighStep {
     ghost then = { λ step. TellsWeigh };
 }
 
-/// The holder takes a seat of the entry at its place: a fetch-and-add of 1 on the entry's seat word.
+/// The holder takes a seat of the entry at its place: a fetch-and-add of 1 on the entry's seat
+/// word.
 pub struct SeatStep;
 
 impl Play<u8, SeatView> for SeatStep {

@@ -1,4 +1,5 @@
-// The words of a round's table by name: where each stands, and how its contents are written and read.
+// The words of a round's table by name: where each stands, and how its contents are written and
+// read.
 
 ghost use Rattle.std.specs.Prelude.{◌≡◌, ◌≤◌, ◌/◌};
 ghost use Rattle.word_rule.specs.Layout.{seat_word, cell_word, is_held, mark_number, free_mark, posted_at, committed_at, cell_of};

@@ -14,9 +14,9 @@ use market::Dict;
 use std::alloc::{AllocError, Global};
 use std::snapshot::Snapshot;
 
-/// The words of a round, and one seat for each of its 1 to `MAX_WORKERS` workers, numbered from 0. Words and
-/// seats together are the opening state of the core: whatever the table is while every view is still
-/// that of the opening, it shows that state. All memory of the round is taken here.
+/// The words of a round, and one seat for each of its 1 to `MAX_WORKERS` workers, numbered from 0.
+/// Words and seats together are the opening state of the core: whatever the table is while every
+/// view is still that of the opening, it shows that state. All memory of the round is taken here.
 pub fn open_round(
     alloc: Global,
     dict: &Dict,

@@ -41,9 +41,9 @@ fn works(rt: &impl Abort, round: &SharedRound, dict: &Dict, me: &mut WorkSeat) -
     commits(rt, round, dict, me)
 }
 
-// What each seat does, from the last to the first: it draws this turn or the next ones, or posts its
-// turn. The first turn's cell stays empty until the end, so that nothing is committed before, and then
-// all.
+// What each seat does, from the last to the first: it draws this turn or the next ones, or posts
+// its turn. The first turn's cell stays empty until the end, so that nothing is committed before,
+// and then all.
 fn acts(
     rt: &impl Abort,
     round: &SharedRound,

@@ -34,6 +34,7 @@ impl CoreState {
     }
 
     // Reads the next entry of the claimed turn's list.
+    #[tactic(auto, using(crate::proofs::Machines::within, crate::proofs::Machines::refused))]
     pub(super) fn read(&mut self, worker: u32) -> Result<Told, NotNow>
         requires { worker < length self.old.core.views }
         ensures { Answers self.old worker CoreEvent.Read self.new result }
@@ -58,6 +59,7 @@ impl CoreState {
     }
 
     // Posts the claimed turn at the place found.
+    #[tactic(auto, using(crate::proofs::Machines::within, crate::proofs::Machines::refused))]
     pub(super) fn post(&mut self, worker: u32) -> Result<Told, NotNow>
         requires { worker < length self.old.core.views }
         ensures { Answers self.old worker CoreEvent.Post self.new result }

@@ -54,6 +54,7 @@ impl CoreState {
     }
 
     // Reads whether the entry at the place weighed is full.
+    #[tactic(auto, using(crate::proofs::Machines::within, crate::proofs::Machines::refused))]
     pub(super) fn weigh(&mut self, worker: u32) -> Result<Told, NotNow>
         requires { worker < length self.old.core.views }
         ensures { Answers self.old worker CoreEvent.Weigh self.new result }
@@ -93,6 +94,7 @@ impl CoreState {
     }
 
     // Commits the turn.
+    #[tactic(auto, using(crate::proofs::Machines::within, crate::proofs::Machines::refused))]
     pub(super) fn seal(&mut self, worker: u32) -> Result<Told, NotNow>
         requires { worker < length self.old.core.views }
         ensures { Answers self.old worker CoreEvent.Seal self.new result }

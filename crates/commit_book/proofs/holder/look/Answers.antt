@@ -12,8 +12,11 @@ load-found-requires c =
     let programmes = round.programmes_are in
     let words = round.words_are in
     let word = c.cell_word-word.ensures in
-    let may = next_look round me c.requires.may (omega arith) in
-    (c.requires.seat.table, omega arith, look_allowed round.table.shared.key _ _ _ _ _ me.live me.narrow may (omega arith))
+    let may = next_look round me c.requires.may (omega arith) in (
+      c.requires.seat.table,
+      omega arith,
+      look_allowed _ _ _ _ _ _ me.live me.narrow may (omega arith),
+    )
 
 pub cell_of-requires : goal.cell_of-requires
 cell_of-requires c =

@@ -7,5 +7,8 @@ pub store-requires : goal.store-requires
 store-requires c =
     let me = c.args.me.now in
     let round = c.args.round.now in
-    let next = next_release round me c.requires.seat c.requires.may in
-    (c.requires.seat.table, search rules, release_allowed round.table.shared.key _ _ _ _ _ _ me.live me.narrow next.may c.free_mark-freed.ensures)
+    let next = next_release round me c.requires.seat c.requires.may in (
+      c.requires.seat.table,
+      search rules,
+      release_allowed _ _ _ _ _ _ _ me.live me.narrow next.may c.free_mark-freed.ensures,
+    )

@@ -16,5 +16,8 @@ load-found-requires c =
     let programme = ap (λ l. slice_index_or l place 0) list in
     let inside = next.programme in
     let words = round.words_are in
-    let word = c.seat_word-word.ensures in
-    (c.requires.seat.table, omega arith, weigh_allowed round.table.shared.key _ _ _ _ _ _ me.live me.narrow next.may (omega arith))
+    let word = c.seat_word-word.ensures in (
+      c.requires.seat.table,
+      omega arith,
+      weigh_allowed _ _ _ _ _ _ _ me.live me.narrow next.may (omega arith),
+    )

@@ -35,7 +35,8 @@ read_entry-requires-clause-may g c =
       turn = x.turn;
       place = x.passed;
       allowed = (
-        sym me.claim_is ∙ (c.in-Some.is ∙ ap (λ met. claim_at x.turn x.passed met) c.if-claim.false),
+        sym me.claim_is ∙ (c.in-Some.is
+            ∙ ap (λ met. claim_at x.turn x.passed met) c.if-claim.false),
         omega arith,
       );
     }

@@ -18,5 +18,7 @@ join_all-last-requires-clause-all g c =
     let kept = c.run_all.auto.seats in
     let over = team_over c.in_ok-round.round c.as_mut_slice.result.now c.run_all.new.seats
     (subst (AreNew c.in_ok-round.round) (sym value) made.new) kept c.run_all.ensures in
-    let all = whole c.in_ok-round.seats.len c.run_all.new.seats c.in_ok-round.seats.items (kept ∙ before) c.in_ok-round.seats.ok.0 in
-    ap (λ (l : List WorkSeat). shares_of l) all ∙ (over.1 ∙ (kept ∙ (before ∙ (made.seats ∙ sym made.workers))))
+    let all = whole c.in_ok-round.seats.len c.run_all.new.seats c.in_ok-round.seats.items
+    (kept ∙ before) c.in_ok-round.seats.ok.0 in
+    ap (λ (l : List WorkSeat). shares_of l) all
+    ∙ (over.1 ∙ (kept ∙ (before ∙ (made.seats ∙ sym made.workers))))

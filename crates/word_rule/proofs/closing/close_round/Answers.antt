@@ -14,7 +14,8 @@ invariant_of-result c =
     let words = slots_items c.close_with-closed.result.words in
     let counts = c.close_with-closed.ensures.counts in
     let values = c.close_with-closed.ensures.values in
-    let ends = round_ends round.table.shared.key _ _ _ _ values.2 c.args.me.live c.requires.all c.requires.free in
+    let ends = round_ends round.table.shared.key _ _ _ _ values.2 c.args.me.live c.requires.all
+    c.requires.free in
     let half = ap mark_number (word_at words MARK_WORD c.word.result c.word.ensures)
     ∙ sym c.mark_number-committed.ensures in
     let wide = ends.wide in
@@ -22,13 +23,15 @@ invariant_of-result c =
     let slots = round.no_slots in
     let words_count = counts.0 in
     let slots_count = counts.1 in
-    let committed = subst (λ (z : ℕ). AreCommitted (dict_of round) words z c.mark_number-committed.result) (sym round.programmes_are)
+    let committed = subst (λ (z : ℕ). AreCommitted (dict_of round) words z
+    c.mark_number-committed.result) (sym round.programmes_are)
     (ends_committed words _ _ _ ends half) in
     let seen = sym c.of-ended.ensures in (
       values.0,
       omega arith,
       omega arith,
-      subst (λ (z : SharedRound). AreCommitted (dict_of z) words round.programmes c.mark_number-committed.result) seen committed,
+      subst (λ (z : SharedRound). AreCommitted (dict_of z) words round.programmes
+          c.mark_number-committed.result) seen committed,
     )
 
 pub returns-clause-released : goal.returns-clause-released
@@ -36,7 +39,8 @@ returns-clause-released c =
     let round = c.args.round in
     let words = slots_items c.close_with-closed.result.words in
     let values = c.close_with-closed.ensures.values in
-    let ends = round_ends round.table.shared.key _ _ _ _ values.2 c.args.me.live c.requires.all c.requires.free in
+    let ends = round_ends round.table.shared.key _ _ _ _ values.2 c.args.me.live c.requires.all
+    c.requires.free in
     let half = ap mark_number (word_at words MARK_WORD c.word.result c.word.ensures)
     ∙ sym c.mark_number-committed.ensures in
     let least = ends.least in

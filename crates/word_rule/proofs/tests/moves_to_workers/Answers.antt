@@ -24,4 +24,5 @@ work_seat_sync : IsSync seat_row
 work_seat_sync = search (sendable, seat_sync) depth 40
 
 pub crosses_threads-requires-2-sync-T : goal.crosses_threads-requires-2-sync-T
-crosses_threads-requires-2-sync-T c κs = record { shared = λ d b o ν. work_seat_sync.shared d b o ν }
+crosses_threads-requires-2-sync-T c κs =
+    record { shared = λ d b o ν. work_seat_sync.shared d b o ν }

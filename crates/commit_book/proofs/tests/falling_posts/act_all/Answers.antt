@@ -12,5 +12,6 @@ loop-me-preserved g c =
     record {
       left = (ready_last _ _ _ _ c.in-Some.ensures.items v.left).1;
       moved = ready_snoc _ _ _ _ pushed v.moved c.acts.ensures.ready;
-      shares = shares_moved _ _ _ _ _ _ _ c.in-Some.ensures.items pushed c.acts.ensures.share v.shares;
+      shares = shares_moved _ _ _ _ _ _ _ c.in-Some.ensures.items pushed c.acts.ensures.share
+          v.shares;
     }

@@ -13,5 +13,6 @@ loop-me-preserved g c =
     record {
       left = (ready_last _ _ _ _ c.in-Some.ensures.items v.left).1;
       over = over_snoc _ _ _ _ pushed v.over c.ends.ensures.over;
-      shares = shares_moved _ _ _ _ _ _ _ c.in-Some.ensures.items pushed c.ends.ensures.share v.shares;
+      shares = shares_moved _ _ _ _ _ _ _ c.in-Some.ensures.items pushed c.ends.ensures.share
+          v.shares;
     }

@@ -1,23 +1,8 @@
-use Rattle.std.proofs.Common.{refl, arith}
-use Rattle.std.proofs.lemmas.Result.{err_from_is_err_and}
-use Rattle.interleaving_core.specs.declared.events.CoreEvent.TheVariants.{Post}
+use Rattle.std.proofs.Common.{arith}
 use Rattle.interleaving_core.specs.Events.{Posts}
-use Rattle.interleaving_core.proofs.Machines.{allowed, within, refused, has_own}
+use Rattle.interleaving_core.proofs.Machines.{allowed, within, has_own}
 use Rattle.interleaving_core.proofs.MachineEvents.{posts_turn}
 use Rattle.interleaving_core.proofs.state.CoreState.post.Goals as goal
-
-pub may_post-requires : goal.may_post-requires
-may_post-requires c =
-    within c.self.inside _ _ _ c.self.invariant c.self.view_is c.requires c.index.ensures
-
-pub returns-in_err-claim : goal.returns-in_err-claim
-returns-in_err-claim c =
-    let p = err_from_is_err_and c.from_residual.result c.from_residual.ensures.1 in
-    rw p.1 (
-      refl,
-      refused c.self.inside _ _ _ Post c.self.view_is c.requires c.index.ensures
-          c.in_err-claim.ensures,
-    )
 
 pub index_mut-requires : goal.index_mut-requires
 index_mut-requires c =

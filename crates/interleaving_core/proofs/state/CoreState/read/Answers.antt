@@ -1,23 +1,8 @@
 use Rattle.std.proofs.Common.{true, false, refl, arith}
-use Rattle.std.proofs.lemmas.Result.{err_from_is_err_and}
-use Rattle.interleaving_core.specs.declared.events.CoreEvent.TheVariants.{Read}
 use Rattle.interleaving_core.specs.Events.{Reads}
-use Rattle.interleaving_core.proofs.Machines.{allowed, within, refused, list_short}
+use Rattle.interleaving_core.proofs.Machines.{allowed, within, list_short}
 use Rattle.interleaving_core.proofs.MachineEvents.{reads_entry}
 use Rattle.interleaving_core.proofs.state.CoreState.read.Goals as goal
-
-pub may_read-requires : goal.may_read-requires
-may_read-requires c =
-    within c.self.inside _ _ _ c.self.invariant c.self.view_is c.requires c.index.ensures
-
-pub returns-in_err-claim : goal.returns-in_err-claim
-returns-in_err-claim c =
-    let p = err_from_is_err_and c.from_residual.result c.from_residual.ensures.1 in
-    rw p.1 (
-      refl,
-      refused c.self.inside _ _ _ Read c.self.view_is c.requires c.index.ensures
-          c.in_err-claim.ensures,
-    )
 
 pub has_seat-open-requires-clause-turn : goal.has_seat-open-requires-clause-turn
 has_seat-open-requires-clause-turn c =

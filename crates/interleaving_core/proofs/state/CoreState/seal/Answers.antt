@@ -1,23 +1,8 @@
 use Rattle.std.proofs.Common.{refl, arith}
-use Rattle.std.proofs.lemmas.Result.{err_from_is_err_and}
-use Rattle.interleaving_core.specs.declared.events.CoreEvent.TheVariants.{Seal}
 use Rattle.interleaving_core.specs.Events.{Seals}
-use Rattle.interleaving_core.proofs.Machines.{allowed, within, refused, sealed_within}
+use Rattle.interleaving_core.proofs.Machines.{allowed, sealed_within}
 use Rattle.interleaving_core.proofs.MachineEvents.{seals_turn}
 use Rattle.interleaving_core.proofs.state.CoreState.seal.Goals as goal
-
-pub may_seal-requires : goal.may_seal-requires
-may_seal-requires c =
-    within c.self.inside _ _ _ c.self.invariant c.self.view_is c.requires c.index.ensures
-
-pub returns-in_err-turn : goal.returns-in_err-turn
-returns-in_err-turn c =
-    let p = err_from_is_err_and c.from_residual.result c.from_residual.ensures.1 in
-    rw p.1 (
-      refl,
-      refused c.self.inside _ _ _ Seal c.self.view_is c.requires c.index.ensures
-          c.in_err-turn.ensures,
-    )
 
 pub index_mut-requires : goal.index_mut-requires
 index_mut-requires c =

@@ -1,24 +1,9 @@
 use Rattle.std.proofs.Common.{true, false, refl, arith}
 use Rattle.interleaving_core.specs.declared.parts.Phase.TheVariants.{Scan}
-use Rattle.std.proofs.lemmas.Result.{err_from_is_err_and}
-use Rattle.interleaving_core.specs.declared.events.CoreEvent.TheVariants.{Weigh}
 use Rattle.interleaving_core.specs.Events.{Weighs}
-use Rattle.interleaving_core.proofs.Machines.{allowed, within, refused, list_short}
+use Rattle.interleaving_core.proofs.Machines.{allowed, within, list_short}
 use Rattle.interleaving_core.proofs.MachineEvents.{weighs_entry}
 use Rattle.interleaving_core.proofs.state.CoreState.weigh.Goals as goal
-
-pub may_weigh-requires : goal.may_weigh-requires
-may_weigh-requires c =
-    within c.self.inside _ _ _ c.self.invariant c.self.view_is c.requires c.index.ensures
-
-pub returns-in_err-committed : goal.returns-in_err-committed
-returns-in_err-committed c =
-    let p = err_from_is_err_and c.from_residual.result c.from_residual.ensures.1 in
-    rw p.1 (
-      refl,
-      refused c.self.inside _ _ _ Weigh c.self.view_is c.requires c.index.ensures
-          c.in_err-committed.ensures,
-    )
 
 pub has_seat-open-requires-clause-turn : goal.has_seat-open-requires-clause-turn
 has_seat-open-requires-clause-turn c =
