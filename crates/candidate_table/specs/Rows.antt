@@ -7,17 +7,13 @@ use Rattle.place_base.specs.declared.fault.FileFault.{FileFault}
 use Rattle.place_base.specs.declared.fault.FileKind.TheVariants.{Candidates}
 use Rattle.place_base.specs.declared.limits.TheConstants.{LARGEST_CODE, LARGEST_NUMBER, MOST_CANDIDATES, MOST_ENTRIES, SEMICOLON}
 use Rattle.record_files.specs.FirstFaults.{FileRules, duplicate_at, fault_at, fault_if, first_fault, first_of, least_fault, reading_fault, repeat_fault}
-use Rattle.record_files.specs.Form.{Form}
+use Rattle.record_files.specs.Form.{Form, one_header}
 use Rattle.record_files.specs.Numbers.{number_of, value}
 use Rattle.record_files.specs.Rows.{Row, field_at, split}
 
 -- its header and its limit of rows
 abbrev pub candidates_form : Form
-candidates_form = record {
-  file = Candidates;
-  headers = codes "candidate,list" ∷ [];
-  most_rows = MOST_CANDIDATES;
-}
+candidates_form = one_header Candidates (codes "candidate,list") MOST_CANDIDATES
 
 -- the number of a row's candidate
 abbrev pub number_in : Row → ℕ

@@ -1,7 +1,12 @@
 // Files at the edge of each rule, beside the codes 101, 202 and 303.
+ghost use Rattle.std.specs.Prelude.{◌≡◌, ◌≤◌, length, IfOk};
+
 use super::{CandidateNumbers, CandidateTable};
-use place_base::{FaultKind, Finder};
-use record_files::TableStop;
+use place_base::FaultKind::{
+    self, Duplicate, FieldCount, Header, ListTooLong, NotNumber, OutOfRange, UnknownProgramme,
+};
+use place_base::{FileKind, Finder};
+use record_files::{TableStop, duplicate_at};
 use std::alloc::Global;
 use std::test::Fail;
 use std::thread::Threads;
@@ -12,127 +17,123 @@ fn codes<R: Threads>(rt: &R, alloc: Global) -> Result<CandidateTable, TableStop>
     CandidateTable::read(rt, alloc, bytes, 1, &CandidateNumbers::new(alloc))
 }
 
+// A table read, of which no more is known than its type says: a file written out would be computed
+// in each goal.
+fn read<R: Threads>(
+    rt: &R,
+    alloc: Global,
+    bytes: &[u8],
+    codes: &CandidateTable,
+) -> Result<CandidateTable, TableStop>
+    requires { length bytes.now ≤ 1024 }
+    ensures { IfOk result (λ table. length table.numbers ≡ length table.lists) }
+{
+    let table = CandidateTable::read(rt, alloc, bytes, 64, codes)?;
+    Ok(table)
+}
+
+// Whether the table has this candidate at an index, with this list, and finds the number there.
+fn has_candidate(table: &CandidateTable, index: u32, number: u64, list: &[u32]) -> bool
+    requires { length table.now.numbers ≡ length table.now.lists }
+{
+    if index >= table.count() {
+        return false;
+    }
+    let found = table.list(index);
+    table.number_at(index) == number && table.find(number) == Some(index) && found == list
+}
+
 #[test]
 fn numbers_and_lists_stand_in_file_order(rt: HostRuntime) -> Result<(), Fail> {
     let codes = codes(&rt, rt.alloc())?;
     let bytes = b"candidate,list\r\n10000000146,303;0101\r\n\r\n7,\r\n99999999999,202";
-    let table = CandidateTable::read(&rt, rt.alloc(), bytes, 64, &codes)?;
-    assert_eq!(rt; table.count(), 3);
-    let lists: [&[u32]; 3] = [&[2, 0], &[], &[1]];
-    for (index, number) in [10_000_000_146, 7, 99_999_999_999].iter().enumerate() {
-        assert!(rt; index < 3);
-        let candidate = index as u32;
-        assert_eq!(rt; table.number_at(candidate), *number);
-        assert_eq!(rt; table.find(*number), Some(candidate));
-        assert_eq!(rt; table.list(candidate), lists[index]);
+    let table = read(&rt, rt.alloc(), bytes, &codes)?;
+    holds_all(table)
+}
+
+// Fails where the table is another than that of the test's file.
+fn holds_all(table: CandidateTable) -> Result<(), Fail>
+    requires { length table.numbers ≡ length table.lists }
+{
+    let candidates = has_candidate(&table, 0, 10_000_000_146, &[2, 0])
+        && has_candidate(&table, 1, 7, &[])
+        && has_candidate(&table, 2, 99_999_999_999, &[1]);
+    if !candidates || table.count() != 3 || table.find(8).is_some() {
+        return Err(Fail::new("another table"));
     }
-    assert_eq!(rt; table.find(8), None);
-    let (numbers, parts) = table.into_parts();
-    assert_eq!(rt; (numbers.count(), parts.len()), (3, 3));
-    assert_eq!(rt; numbers.find(7), Some(1));
+    let (numbers, lists) = table.into_parts();
+    if numbers.count() != 3 || numbers.find(7) != Some(1) || lists.len() != 3 {
+        return Err(Fail::new("other parts"));
+    }
     Ok(())
 }
 
 // A file, and its fault's line, field, kind and earlier line.
 const FILES: [(&str, u32, u8, FaultKind, u32); 16] = [
-    ("candidates,list\n", 1, 0, FaultKind::Header, 0),
-    ("candidate,list\n1,101,\n", 2, 0, FaultKind::FieldCount, 0),
-    ("candidate,list\n0,x\n", 2, 1, FaultKind::OutOfRange, 0),
-    (
-        "candidate,list\n100000000000,101\n",
-        2,
-        1,
-        FaultKind::OutOfRange,
-        0,
-    ),
-    (
-        "candidate,list\n1,101\n2,\n01,202\n",
-        4,
-        1,
-        FaultKind::Duplicate,
-        2,
-    ),
-    (
-        "candidate,list\n1,101\n1,404\n",
-        3,
-        1,
-        FaultKind::Duplicate,
-        2,
-    ),
-    (
-        "candidate,list\n1,101\n1,101;\n",
-        3,
-        2,
-        FaultKind::NotNumber,
-        0,
-    ),
-    ("candidate,list\n1,0;x\n", 2, 2, FaultKind::OutOfRange, 0),
-    ("candidate,list\n1,x;0\n", 2, 2, FaultKind::NotNumber, 0),
-    (
-        "candidate,list\n1,1000000000\n",
-        2,
-        2,
-        FaultKind::OutOfRange,
-        0,
-    ),
-    (
-        "candidate,list\n1,101;404\n",
-        2,
-        2,
-        FaultKind::UnknownProgramme,
-        0,
-    ),
-    (
-        "candidate,list\n1,404;404\n",
-        2,
-        2,
-        FaultKind::UnknownProgramme,
-        0,
-    ),
+    ("candidates,list\n", 1, 0, Header, 0),
+    ("candidate,list\n1,101,\n", 2, 0, FieldCount, 0),
+    ("candidate,list\n0,x\n", 2, 1, OutOfRange, 0),
+    ("candidate,list\n100000000000,101\n", 2, 1, OutOfRange, 0),
+    ("candidate,list\n1,101\n2,\n01,202\n", 4, 1, Duplicate, 2),
+    ("candidate,list\n1,101\n1,404\n", 3, 1, Duplicate, 2),
+    ("candidate,list\n1,101\n1,101;\n", 3, 2, NotNumber, 0),
+    ("candidate,list\n1,0;x\n", 2, 2, OutOfRange, 0),
+    ("candidate,list\n1,x;0\n", 2, 2, NotNumber, 0),
+    ("candidate,list\n1,1000000000\n", 2, 2, OutOfRange, 0),
+    ("candidate,list\n1,101;404\n", 2, 2, UnknownProgramme, 0),
+    ("candidate,list\n1,404;404\n", 2, 2, UnknownProgramme, 0),
     (
         "candidate,list\n1,\n2,101;202;0101;404\n",
         3,
         2,
-        FaultKind::Duplicate,
+        Duplicate,
         3,
     ),
     (
         "candidate,list\n1,x;0;1;1;1;1;1;1;1;1;1;1;1;1;1;1;1;1;1;1;1;1;1;1;1\n",
         2,
         2,
-        FaultKind::ListTooLong,
+        ListTooLong,
         0,
     ),
     (
         "candidate,list\n1,;;;;;;;;;;;;;;;;;;;;;;;;\n",
         2,
         2,
-        FaultKind::ListTooLong,
+        ListTooLong,
         0,
     ),
     (
         "candidate,list\n1,;;;;;;;;;;;;;;;;;;;;;;;\n",
         2,
         2,
-        FaultKind::NotNumber,
+        NotNumber,
         0,
     ),
 ];
 
 #[test]
 fn the_first_fault_is_told(rt: HostRuntime) -> Result<(), Fail> {
-    let codes = codes(&rt, rt.alloc())?;
-    for (text, line, field, kind, earlier) in FILES {
-        assert!(rt; text.len() < 1024);
-        let fault = match CandidateTable::read(&rt, rt.alloc(), text.as_bytes(), 1, &codes) {
-            Err(TableStop::Fault(fault)) => fault,
-            _ => return Err(Fail::new("no fault")),
-        };
-        assert_eq!(rt;
-            (fault.line, fault.field, fault.kind, fault.earlier),
-            (line, field, kind, earlier),
-            "{text}"
-        );
+    tell_faults(&rt, rt.alloc(), &codes(&rt, rt.alloc())?, &FILES)
+}
+
+// Reads each file beside the codes, and fails where another fault is told.
+fn tell_faults<R: Threads>(
+    rt: &R,
+    alloc: Global,
+    codes: &CandidateTable,
+    files: &[(&str, u32, u8, FaultKind, u32)],
+) -> Result<(), Fail> {
+    for (text, line, field, kind, earlier) in files {
+        let mut wanted = duplicate_at(FileKind::Candidates, *line, *field, *earlier);
+        wanted.kind = *kind;
+        if text.len() > 1024 {
+            return Err(Fail::new("a long text"));
+        }
+        let read = CandidateTable::read(rt, alloc, text.as_bytes(), 1, codes);
+        if read.err() != Some(TableStop::Fault(wanted)) {
+            return Err(Fail::new("another fault"));
+        }
     }
     Ok(())
 }

@@ -38,7 +38,10 @@ impl Model for TypeName {
         × (length (take name.size name.bytes) ≡ name.size)
         × (name.bytes ≡ take name.size name.bytes ++ replicate (LONGEST_NAME - name.size) 0) };
 
-    ghost inverse = { λ text. record { bytes = text ++ replicate (LONGEST_NAME - length text) 0; size = length text } };
+    ghost inverse = { λ text. record {
+      bytes = text ++ replicate (LONGEST_NAME - length text) 0;
+      size = length text;
+    } };
 
     ghost inverse_ok = { λ a h.
         let with_bytes : List ℕ → Inside = λ bytes. record { bytes = bytes; size = a.size } in

@@ -6,17 +6,13 @@ use Rattle.place_base.specs.declared.fault.FileFault.{FileFault}
 use Rattle.place_base.specs.declared.fault.FileKind.TheVariants.{Programmes}
 use Rattle.place_base.specs.declared.limits.TheConstants.{LARGEST_CODE, LARGEST_QUOTA, MOST_PROGRAMMES, MOST_TYPES}
 use Rattle.record_files.specs.FirstFaults.{FileRules, fault_at, fault_if, first_fault, first_of, reading_fault, repeat_fault}
-use Rattle.record_files.specs.Form.{Form}
+use Rattle.record_files.specs.Form.{Form, one_header}
 use Rattle.record_files.specs.Numbers.{number_of, type_name_of, value}
 use Rattle.record_files.specs.Rows.{Row, field_at}
 
 -- its header and its limit of rows
 abbrev pub programmes_form : Form
-programmes_form = record {
-  file = Programmes;
-  headers = codes "programme,type,quota" ∷ [];
-  most_rows = MOST_PROGRAMMES;
-}
+programmes_form = one_header Programmes (codes "programme,type,quota") MOST_PROGRAMMES
 
 -- the code of a row's programme
 abbrev pub code_of : Row → ℕ

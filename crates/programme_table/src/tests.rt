@@ -1,34 +1,70 @@
 // Files at the edge of each rule.
+ghost use Rattle.std.specs.Prelude.{◌≤◌, length};
+
 use super::ProgrammeTable;
-use place_base::{FaultKind, Finder, TypeFinder, TypeName};
-use record_files::TableStop;
+use place_base::FaultKind::{
+    self, BadTypeName, Duplicate, FieldCount, Header, NotNumber, OutOfRange,
+};
+use place_base::{FileKind, Finder, TypeFinder, TypeName};
+use record_files::{TableStop, duplicate_at};
+use std::alloc::Global;
 use std::test::Fail;
+use std::thread::Threads;
+
+// A table read, of which no more is known than its type says: a file written out would be computed
+// in each goal.
+fn read<R: Threads>(
+    rt: &R,
+    alloc: Global,
+    bytes: &[u8],
+    pieces: u32,
+) -> Result<ProgrammeTable, TableStop>
+    requires size { length bytes.now ≤ 1024 }
+    requires pieces { (1 ≤ pieces) × (pieces ≤ 64) }
+{
+    ProgrammeTable::read(rt, alloc, bytes, pieces)
+}
+
+// Whether the table has this programme at an index, and finds its code there.
+fn has_programme(table: &ProgrammeTable, index: u32, code: u32, kind: u32, quota: u32) -> bool {
+    if index >= table.count() {
+        return false;
+    }
+    let row = table.row(index);
+    (row.code.get(), row.kind, row.quota) == (code, kind, quota)
+        && table.number_at(index) == u64::from(code)
+        && table.find(u64::from(code)) == Some(index)
+}
+
+// Whether the table has this type at an index, and finds its name there.
+fn has_type(table: &ProgrammeTable, kind: u32, name: &[u8]) -> bool {
+    match TypeName::new(name) {
+        Some(name) => {
+            kind < table.type_count()
+                && table.type_name(kind) == name
+                && table.find_type(name) == Some(kind)
+        }
+        None => false,
+    }
+}
 
 #[test]
 fn codes_and_types_stand_in_file_order(rt: HostRuntime) -> Result<(), Fail> {
     let bytes = b"programme,type,quota\n0202,EA,0\r\n\n101,SAY,2\n999999999,EA,100000";
-    let table = ProgrammeTable::read(&rt, rt.alloc(), bytes, 4)?;
-    assert_eq!(rt; (table.count(), table.type_count()), (3, 2));
-    for (index, code, kind, quota) in [
-        (0, 202, 0, 0),
-        (1, 101, 1, 2),
-        (2, 999_999_999, 0, 100_000),
-    ] {
-        assert!(rt; index < table.count());
-        let row = table.row(index);
-        assert_eq!(rt; (row.code.get(), row.kind, row.quota), (code, kind, quota));
-        assert_eq!(rt; table.number_at(index), u64::from(code));
-        assert_eq!(rt; table.find(u64::from(code)), Some(index));
+    let table = read(&rt, rt.alloc(), bytes, 4)?;
+    holds_all(&table)
+}
+
+// Fails where the table is another than that of the test's file.
+fn holds_all(table: &ProgrammeTable) -> Result<(), Fail> {
+    let programmes = has_programme(table, 0, 202, 0, 0)
+        && has_programme(table, 1, 101, 1, 2)
+        && has_programme(table, 2, 999_999_999, 0, 100_000);
+    let types = has_type(table, 0, b"EA") && has_type(table, 1, b"SAY");
+    let unknown = table.find(303).is_none() && table.find(1 << 32).is_none();
+    if !programmes || !types || !unknown || table.count() != 3 || table.type_count() != 2 {
+        return Err(Fail::new("another table"));
     }
-    assert_eq!(rt; (table.find(303), table.find(1 << 32)), (None, None));
-    let say = TypeName::new(b"SAY").ok_or("a name")?;
-    assert_eq!(rt; table.find_type(say), Some(1));
-    assert_eq!(rt;
-        table.find_type(TypeName::new(b"TYT").ok_or("a name")?),
-        None
-    );
-    assert_eq!(rt; table.type_name(1).bytes(), b"SAY".as_slice());
-    assert_eq!(rt; table.programmes(rt.alloc())?.len(), 3);
     Ok(())
 }
 
@@ -39,87 +75,71 @@ const MANY_TYPES: &str =
 
 // A file, and its fault's line, field, kind and earlier line.
 const FILES: [(&str, u32, u8, FaultKind, u32); 12] = [
-    ("", 1, 0, FaultKind::Header, 0),
-    ("\nprogramme,type\n", 2, 0, FaultKind::Header, 0),
+    ("", 1, 0, Header, 0),
+    ("\nprogramme,type\n", 2, 0, Header, 0),
     (
         "programme,type,quota\n101,SAY,2\n202,EA,1\n101,EA,3\n",
         4,
         1,
-        FaultKind::Duplicate,
+        Duplicate,
         2,
     ),
     (
         "programme,type,quota\n7,SAY,2\n\n007,EA,1\n7,EA,x\n",
         4,
         1,
-        FaultKind::Duplicate,
+        Duplicate,
         2,
     ),
     (
         "programme,type,quota\n101,SAY,2\n101,say,2\n",
         3,
         2,
-        FaultKind::BadTypeName,
+        BadTypeName,
         0,
     ),
-    (
-        "programme,type,quota\n0,say,x\n",
-        2,
-        1,
-        FaultKind::OutOfRange,
-        0,
-    ),
+    ("programme,type,quota\n0,say,x\n", 2, 1, OutOfRange, 0),
     (
         "programme,type,quota\n1000000000,SAY,2\n",
         2,
         1,
-        FaultKind::OutOfRange,
+        OutOfRange,
         0,
     ),
-    (
-        "programme,type,quota\n1x,SAY,2\n",
-        2,
-        1,
-        FaultKind::NotNumber,
-        0,
-    ),
+    ("programme,type,quota\n1x,SAY,2\n", 2, 1, NotNumber, 0),
     (
         "programme,type,quota\n1,SAY,100000\n2,SAY,100001\n",
         3,
         3,
-        FaultKind::OutOfRange,
+        OutOfRange,
         0,
     ),
-    (
-        "programme,type,quota\n1,SAY,\n",
-        2,
-        3,
-        FaultKind::NotNumber,
-        0,
-    ),
-    (
-        "programme,type,quota\n1,SAY,2,\n",
-        2,
-        0,
-        FaultKind::FieldCount,
-        0,
-    ),
-    (MANY_TYPES, 19, 2, FaultKind::OutOfRange, 0),
+    ("programme,type,quota\n1,SAY,\n", 2, 3, NotNumber, 0),
+    ("programme,type,quota\n1,SAY,2,\n", 2, 0, FieldCount, 0),
+    (MANY_TYPES, 19, 2, OutOfRange, 0),
 ];
 
 #[test]
 fn the_first_fault_is_told(rt: HostRuntime) -> Result<(), Fail> {
-    for (text, line, field, kind, earlier) in FILES {
-        assert!(rt; text.len() < 1024);
-        let fault = match ProgrammeTable::read(&rt, rt.alloc(), text.as_bytes(), 1) {
-            Err(TableStop::Fault(fault)) => fault,
-            _ => return Err(Fail::new("no fault")),
-        };
-        assert_eq!(rt;
-            (fault.line, fault.field, fault.kind, fault.earlier),
-            (line, field, kind, earlier),
-            "{text}"
-        );
+    tell_faults(&rt, rt.alloc(), &FILES)
+}
+
+// Reads each file, and fails where another fault is told.
+fn tell_faults<R: Threads>(
+    rt: &R,
+    alloc: Global,
+    files: &[(&str, u32, u8, FaultKind, u32)],
+) -> Result<(), Fail> {
+    for (text, line, field, kind, earlier) in files {
+        let mut wanted = duplicate_at(FileKind::Programmes, *line, *field, *earlier);
+        wanted.kind = *kind;
+        if text.len() > 1024 {
+            return Err(Fail::new("a long text"));
+        }
+        let read = read(rt, alloc, text.as_bytes(), 1);
+        if read.err() != Some(TableStop::Fault(wanted)) {
+            return Err(Fail::new("another fault"));
+        }
     }
     Ok(())
 }

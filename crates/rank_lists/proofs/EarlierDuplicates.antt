@@ -3,7 +3,7 @@ use Rattle.std.proofs.Common.{◌≡◌, ℕ, ◌<◌, ◌≤◌, List, length, 
 use Rattle.std.proofs.lemmas.Bool.{cond_both}
 use Rattle.std.proofs.lemmas.Bool.Decides.{nat_tests}
 use Rattle.rank_lists.specs.Duplicates.{IsFirstDuplicate, earlier_duplicate}
-use Rattle.rank_lists.specs.Repeats.{NoRepeat, IsFirstRepeat}
+use Rattle.rank_lists.specs.Repeats.{HasNoRepeat, IsFirstRepeat}
 use Rattle.rank_lists.specs.declared.duplicates.Duplicate.TheVariants.{Candidate, Rank}
 use Rattle.rank_lists.specs.declared.repeats.Repeat.{Repeat}
 
@@ -15,7 +15,7 @@ is-not-below a b h = grind (arith, nat_tests)
 
 -- what the first repeat of some numbers is
 abbrev Finds : List ℕ → Option Repeat → Type 0
-Finds xs r = MatchOption r (NoRepeat xs (length xs)) (λ r. IsFirstRepeat xs r.earlier r.later)
+Finds xs r = MatchOption r (HasNoRepeat xs (length xs)) (λ r. IsFirstRepeat xs r.earlier r.later)
 
 pub earlier-first : (candidates ranks : List ℕ) (c r : Option Repeat)
     → length candidates ≡ length ranks → Finds candidates c → Finds ranks r

@@ -13,7 +13,7 @@ use Rattle.record_files.specs.Form.{header_in}
 use Rattle.record_files.specs.Rows.{Row, rows, data_rows}
 use Rattle.record_files.proofs.FirstFaultLemmas.{first_of-none, least_fault-each, least_fault-found}
 use Rattle.rank_lists.specs.Groups.{candidate_group, rank_group}
-use Rattle.rank_lists.specs.Repeats.{NoRepeat, IsFirstRepeat}
+use Rattle.rank_lists.specs.Repeats.{HasNoRepeat, IsFirstRepeat}
 use Rattle.rank_lists.specs.Rows.{ranks_form, ranks_rules, own_rules, reading, meaning, same_candidate, same_rank, ranks_fault, row_at}
 use Rattle.rank_lists.proofs.RowGroups.{HasFields, HasFields-from, candidate_group-same, rank_group-same, same_candidate-group, same_rank-group}
 
@@ -74,7 +74,7 @@ module _ (body : List Row) (n : ℕ) (all : n ≤ length body) (group : Row → 
   earlier-at k i lt below = get_or-take k body i (0, []) below
 
   -- a row that repeats no earlier one
-  repeat-none : (m k : ℕ) (file : FileKind) (line field : ℕ) → NoRepeat (map group (take n body)) m
+  repeat-none : (m k : ℕ) (file : FileKind) (line field : ℕ) → HasNoRepeat (map group (take n body)) m
       → k < m → m ≤ n
       → repeat_fault file line field (same (row_at body k)) (take k body) ≡ None
   repeat-none m k file line field distinct lt le =
@@ -159,13 +159,13 @@ module _ (bytes : List ℕ) (n : ℕ) (within : n ≤ length (data_rows bytes))
       → same_rank (at k) (at i) ≡ true
   from-rank i k a b e = same_rank-group (at k) (at i) (read-fields k b) (read-fields i a) e
 
-  no-candidate : (m k : ℕ) → NoRepeat candidates m → k < m → m ≤ n
+  no-candidate : (m k : ℕ) → HasNoRepeat candidates m → k < m → m ≤ n
       → repeat_fault Ranks (at k).0 2 (same_candidate (at k)) (take k body) ≡ None
   no-candidate m k distinct lt le =
       repeat-none body n within candidate_group same_candidate to-candidate from-candidate m k
       Ranks (at k).0 2 distinct lt le
 
-  no-rank : (m k : ℕ) → NoRepeat ranks m → k < m → m ≤ n
+  no-rank : (m k : ℕ) → HasNoRepeat ranks m → k < m → m ≤ n
       → repeat_fault Ranks (at k).0 3 (same_rank (at k)) (take k body) ≡ None
   no-rank m k distinct lt le =
       repeat-none body n within rank_group same_rank to-rank from-rank m k Ranks
@@ -175,7 +175,7 @@ module _ (bytes : List ℕ) (n : ℕ) (within : n ≤ length (data_rows bytes))
   first_of-both a b g h = rw g h
 
   -- the rows before the first repeat have no fault
-  clear : (m : ℕ) → m ≤ n → NoRepeat candidates m → NoRepeat ranks m
+  clear : (m : ℕ) → m ≤ n → HasNoRepeat candidates m → HasNoRepeat ranks m
       → least_fault (row_fault ranks_rules bytes) m ≡ None
   clear m le c d = least_fault-none _ m (λ k lt.
       let free = own k (omega arith) in
@@ -184,7 +184,7 @@ module _ (bytes : List ℕ) (n : ℕ) (within : n ≤ length (data_rows bytes))
       (first_of-both _ _ (no-candidate m k c lt le) (no-rank m k d lt le))))
 
   -- a row behind clear ones that repeats one of them has the file's first fault
-  stops : (k : ℕ) (f : FileFault) → k < n → NoRepeat candidates k → NoRepeat ranks k
+  stops : (k : ℕ) (f : FileFault) → k < n → HasNoRepeat candidates k → HasNoRepeat ranks k
       → meaning (take k body) (at k) ≡ Some f → ranks_fault bytes ≡ Some f
   stops k f lt c d found =
       let free = own k lt in
@@ -197,7 +197,7 @@ module _ (bytes : List ℕ) (n : ℕ) (within : n ≤ length (data_rows bytes))
   size = length-take-le n body within
 
   -- no repeat at all
-  pub clear-all : NoRepeat candidates (length candidates) → NoRepeat ranks (length ranks)
+  pub clear-all : HasNoRepeat candidates (length candidates) → HasNoRepeat ranks (length ranks)
       → least_fault (row_fault ranks_rules bytes) n ≡ None
   clear-all c d =
       let sizes = length-map (take n body) candidate_group in
@@ -207,7 +207,7 @@ module _ (bytes : List ℕ) (n : ℕ) (within : n ≤ length (data_rows bytes))
       (λ i j below lt. d i j below (omega arith))
 
   -- the first repeat is that of a candidate in a type
-  pub candidate-first : (i k : ℕ) → IsFirstRepeat candidates i k → NoRepeat ranks k
+  pub candidate-first : (i k : ℕ) → IsFirstRepeat candidates i k → HasNoRepeat ranks k
       → ranks_fault bytes ≡ Some (duplicate_at Ranks (at k).0 2 (at i).0)
   candidate-first i k first d =
       let sizes = length-map (take n body) candidate_group in
@@ -218,7 +218,7 @@ module _ (bytes : List ℕ) (n : ℕ) (within : n ≤ length (data_rows bytes))
       stops k (duplicate_at Ranks (at k).0 2 (at i).0) inside first.first d (rw found refl)
 
   -- the first repeat is that of a rank in a type
-  pub rank-first : (i k : ℕ) → IsFirstRepeat ranks i k → NoRepeat candidates (k + 1)
+  pub rank-first : (i k : ℕ) → IsFirstRepeat ranks i k → HasNoRepeat candidates (k + 1)
       → ranks_fault bytes ≡ Some (duplicate_at Ranks (at k).0 3 (at i).0)
   rank-first i k first c =
       let sizes = length-map (take n body) rank_group in

@@ -12,7 +12,7 @@ use Rattle.record_files.specs.Rows.{Row}
 use Rattle.rank_lists.specs.Groups.{name_number, candidate_group, rank_group}
 use Rattle.rank_lists.specs.Rows.{candidate_in, type_in, rank_in}
 use Rattle.rank_lists.specs.Table.{Standing, standing_of, standing_in, standings, in_type}
-use Rattle.rank_lists.specs.Repeats.{NoRepeat}
+use Rattle.rank_lists.specs.Repeats.{HasNoRepeat}
 use Rattle.rank_lists.specs.Rows.{row_at}
 use Rattle.rank_lists.proofs.Counts.{copies, one_if, one_if-same, one_if-other, one_if-cases}
 use Rattle.rank_lists.proofs.Standings.{Each}
@@ -121,7 +121,7 @@ module _ (names : List (List ℕ)) (numbers : List ℕ) where
             (λ no. rest)
 
     -- no number stands twice where no group does
-    pub once-of : (x : ℕ) (rows : List Row) → NoRepeat (map group rows) (length rows)
+    pub once-of : (x : ℕ) (rows : List Row) → HasNoRepeat (map group rows) (length rows)
         → copies x (of_rows rows) ≤ 1
     once-of x [] h = omega arith
     once-of x (row ∷ rows) h =
@@ -156,13 +156,13 @@ module _ (names : List (List ℕ)) (numbers : List ℕ) where
 
   -- no candidate stands twice in a type
   pub candidates-once : (kind x : ℕ) (rows : List Row)
-      → NoRepeat (map candidate_group rows) (length rows)
+      → HasNoRepeat (map candidate_group rows) (length rows)
       → copies x (map (λ s. s.candidate) (in_type kind (standings names numbers rows))) ≤ 1
   candidates-once kind x rows h =
       once-of (λ s. s.candidate) candidate_group kind candidate-group x rows h
 
   -- no rank stands twice in a type
-  pub ranks-once : (kind x : ℕ) (rows : List Row) → NoRepeat (map rank_group rows) (length rows)
+  pub ranks-once : (kind x : ℕ) (rows : List Row) → HasNoRepeat (map rank_group rows) (length rows)
       → copies x (map (λ s. s.rank) (in_type kind (standings names numbers rows))) ≤ 1
   ranks-once kind x rows h = once-of (λ s. s.rank) rank_group kind rank-group x rows h
 

@@ -14,7 +14,7 @@ use Rattle.record_files.proofs.FirstFaultLemmas.{first_of-none, least_fault-foun
 use Rattle.rank_lists.specs.Duplicates.{IsFirstDuplicate, duplicate_of}
 use Rattle.rank_lists.specs.Growth.{HasRows, given_in}
 use Rattle.rank_lists.specs.Groups.{candidate_group, rank_group}
-use Rattle.rank_lists.specs.Repeats.{NoRepeat, IsFirstRepeat}
+use Rattle.rank_lists.specs.Repeats.{HasNoRepeat, IsFirstRepeat}
 use Rattle.rank_lists.specs.Rows.{ranks_form, ranks_rules, own_rules, reading, ranks_fault, row_at}
 use Rattle.rank_lists.specs.Table.{IsSound, table_with, ranks_table}
 use Rattle.rank_lists.specs.Turns.{AreAllTurns, known_keys}
@@ -95,11 +95,11 @@ module _ (names : List (List ℕ)) (numbers : List ℕ) (bytes : List ℕ) (tabl
   duplicate-first (Candidate r) h =
       candidate-first bytes g.count g.within g.header g.none r.earlier r.later
       (subst (λ xs. IsFirstRepeat xs r.earlier r.later) g.rows_are.candidates h.0)
-      (subst (λ xs. NoRepeat xs r.later) g.rows_are.ranks h.1)
+      (subst (λ xs. HasNoRepeat xs r.later) g.rows_are.ranks h.1)
   duplicate-first (Rank r) h =
       rank-first bytes g.count g.within g.header g.none r.earlier r.later
       (subst (λ xs. IsFirstRepeat xs r.earlier r.later) g.rows_are.ranks h.0)
-      (subst (λ xs. NoRepeat xs (r.later + 1)) g.rows_are.candidates h.1)
+      (subst (λ xs. HasNoRepeat xs (r.later + 1)) g.rows_are.candidates h.1)
 
   -- the rows of a duplicate are rows of the file
   pub duplicate-within : (d : Duplicate)
@@ -122,13 +122,13 @@ module _ (names : List (List ℕ)) (numbers : List ℕ) (bytes : List ℕ) (tabl
       (omega arith, omega arith)
 
   module _ (h : IsFirstDuplicate table.candidates table.ranks None) where
-    one-candidate : NoRepeat (map candidate_group (take g.count body))
+    one-candidate : HasNoRepeat (map candidate_group (take g.count body))
         (length (map candidate_group (take g.count body)))
-    one-candidate = subst (λ xs. NoRepeat xs (length xs)) g.rows_are.candidates h.0
+    one-candidate = subst (λ xs. HasNoRepeat xs (length xs)) g.rows_are.candidates h.0
 
-    one-rank : NoRepeat (map rank_group (take g.count body))
+    one-rank : HasNoRepeat (map rank_group (take g.count body))
         (length (map rank_group (take g.count body)))
-    one-rank = subst (λ xs. NoRepeat xs (length xs)) g.rows_are.ranks h.1
+    one-rank = subst (λ xs. HasNoRepeat xs (length xs)) g.rows_are.ranks h.1
 
     clear : least_fault (row_fault ranks_rules bytes) g.count ≡ None
     clear = clear-all bytes g.count g.within g.header g.none one-candidate one-rank
@@ -171,14 +171,14 @@ module _ (names : List (List ℕ)) (numbers : List ℕ) (bytes : List ℕ) (tabl
       fields : (k : ℕ) → k < length body → HasFields (row_at body k)
       fields k lt = let all = s.1 in read-fields bytes g.count g.within g.header g.none k (omega arith)
 
-      once-candidate : NoRepeat (map candidate_group body) (length body)
-      once-candidate = subst (λ rows. NoRepeat (map candidate_group rows) (length rows)) whole
-          (subst (λ n. NoRepeat (map candidate_group (take g.count body)) n)
+      once-candidate : HasNoRepeat (map candidate_group body) (length body)
+      once-candidate = subst (λ rows. HasNoRepeat (map candidate_group rows) (length rows)) whole
+          (subst (λ n. HasNoRepeat (map candidate_group (take g.count body)) n)
           (length-map (take g.count body) candidate_group) one-candidate)
 
-      once-rank : NoRepeat (map rank_group body) (length body)
-      once-rank = subst (λ rows. NoRepeat (map rank_group rows) (length rows)) whole
-          (subst (λ n. NoRepeat (map rank_group (take g.count body)) n)
+      once-rank : HasNoRepeat (map rank_group body) (length body)
+      once-rank = subst (λ rows. HasNoRepeat (map rank_group rows) (length rows)) whole
+          (subst (λ n. HasNoRepeat (map rank_group (take g.count body)) n)
           (length-map (take g.count body) rank_group) one-rank)
 
       module _ (few : length numbers ≤ INDEXES) where

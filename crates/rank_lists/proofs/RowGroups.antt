@@ -1,6 +1,6 @@
 -- A row without a fault of its own has a candidate, a type name and a rank within their limits,
 -- so two such rows are in the same group exactly where the tests for duplicates say so.
-use Rattle.std.proofs.Common.{◌≡◌, ℕ, ◌<◌, ◌≤◌, ◌==◌, ◌&&◌, List, Bool, true, false, nat_le, not, length, refl, ap, arith, Option, Some, None, Result, Ok, Err}
+use Rattle.std.proofs.Common.{◌≡◌, ℕ, ◌<◌, ◌≤◌, ◌==◌, ◌&&◌, List, Bool, true, false, nat_le, not, ap, arith, bytes_eq, Option, Some, None, Result, Ok, Err}
 use Rattle.std.proofs.lemmas.Bool.{cond_both, and_parts}
 use Rattle.std.proofs.lemmas.Bool.Decides.{nat_tests}
 use Rattle.std.proofs.lemmas.Slice.Eq.{bytes_eq-Decides}
@@ -73,44 +73,48 @@ eq-true a b e = grind (arith, nat_tests)
 true-eq : (a b : ℕ) → (a == b) ≡ true → a ≡ b
 true-eq a b e = grind (arith, nat_tests)
 
+-- equal names have one number
+name-number : (row other : Row) → bytes_eq (type_in row) (type_in other) ≡ true
+    → name_number (type_in row) ≡ name_number (type_in other)
+name-number row other e = ap name_number ((bytes_eq-Decides (type_in row) (type_in other)).0 e)
+
+-- and names of one number are equal
+number-name : (row other : Row) → HasFields row → HasFields other
+    → name_number (type_in row) ≡ name_number (type_in other)
+    → bytes_eq (type_in row) (type_in other) ≡ true
+number-name row other g h e =
+    (bytes_eq-Decides (type_in row) (type_in other)).1 (IsName-same _ _ g.name h.name e)
+
 -- rows that rank the same candidate in the same type are in one group
 pub candidate_group-same : (row other : Row) → same_candidate row other ≡ true
     → candidate_group other ≡ candidate_group row
 candidate_group-same row other h =
     let parts = and_parts _ _ h in
-    let candidates : candidate_in row ≡ candidate_in other = true-eq _ _ parts.0 in
-    let names : type_in row ≡ type_in other =
-    (bytes_eq-Decides (type_in row) (type_in other)).0 parts.1 in
-    let numbers : name_number (type_in row) ≡ name_number (type_in other) = ap name_number names in
+    let same = true-eq (candidate_in row) (candidate_in other) parts.0 in
+    let names = name-number row other parts.1 in
     omega arith
 
 pub rank_group-same : (row other : Row) → same_rank row other ≡ true
     → rank_group other ≡ rank_group row
 rank_group-same row other h =
     let parts = and_parts _ _ h in
-    let ranks : rank_in row ≡ rank_in other = true-eq _ _ parts.0 in
-    let names : type_in row ≡ type_in other =
-    (bytes_eq-Decides (type_in row) (type_in other)).0 parts.1 in
-    let numbers : name_number (type_in row) ≡ name_number (type_in other) = ap name_number names in
+    let same = true-eq (rank_in row) (rank_in other) parts.0 in
+    let names = name-number row other parts.1 in
     omega arith
 
 -- rows of one group rank the same candidate in the same type
 pub same_candidate-group : (row other : Row) → HasFields row → HasFields other
     → candidate_group other ≡ candidate_group row → same_candidate row other ≡ true
 same_candidate-group row other g h e =
-    let low : candidate_in row ≤ LARGEST_NUMBER = g.candidate in
-    let high : candidate_in other ≤ LARGEST_NUMBER = h.candidate in
-    let candidates : candidate_in row ≡ candidate_in other = omega arith in
-    let numbers : name_number (type_in row) ≡ name_number (type_in other) = omega arith in
-    let names : type_in row ≡ type_in other = IsName-same _ _ g.name h.name numbers in
-    both-and _ _ (eq-true _ _ candidates) ((bytes_eq-Decides (type_in row) (type_in other)).1 names)
+    let low = g.candidate in
+    let high = h.candidate in
+    both-and _ _ (eq-true (candidate_in row) (candidate_in other) (omega arith))
+    (number-name row other g h (omega arith))
 
 pub same_rank-group : (row other : Row) → HasFields row → HasFields other
     → rank_group other ≡ rank_group row → same_rank row other ≡ true
 same_rank-group row other g h e =
-    let low : rank_in row ≤ LARGEST_RANK = g.rank in
-    let high : rank_in other ≤ LARGEST_RANK = h.rank in
-    let ranks : rank_in row ≡ rank_in other = omega arith in
-    let numbers : name_number (type_in row) ≡ name_number (type_in other) = omega arith in
-    let names : type_in row ≡ type_in other = IsName-same _ _ g.name h.name numbers in
-    both-and _ _ (eq-true _ _ ranks) ((bytes_eq-Decides (type_in row) (type_in other)).1 names)
+    let low = g.rank in
+    let high = h.rank in
+    both-and _ _ (eq-true (rank_in row) (rank_in other) (omega arith))
+    (number-name row other g h (omega arith))

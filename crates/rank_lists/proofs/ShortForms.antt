@@ -3,13 +3,13 @@ use Rattle.std.proofs.Common.{◌≡◌, ℕ, ◌/◌, ◌<◌, ◌≤◌, List,
 use Rattle.std.specs.Prelude.{slice_index, IsPermutation}
 use Rattle.std.proofs.lemmas.List.{get_or-map, length-map}
 use Rattle.rank_lists.specs.declared.keys.TheConstants.{PLACES}
-use Rattle.rank_lists.specs.Repeats.{NoRepeat, NeighboursDiffer}
+use Rattle.rank_lists.specs.Repeats.{HasNoRepeat, HasUnequalNeighbours}
 use Rattle.rank_lists.proofs.Counts.{copies, copies-permutation, copies-twice, copies-differ, Rises}
 
 pub short-distinct : (form : ℕ → ℕ) (placed sorted : List ℕ)
     → IsPermutation (map (λ p. form (p / PLACES)) placed) sorted → Rises sorted
-    → NeighboursDiffer sorted (length sorted)
-    → NoRepeat (map (λ p. p / PLACES) placed) (length placed)
+    → HasUnequalNeighbours sorted (length sorted)
+    → HasNoRepeat (map (λ p. p / PLACES) placed) (length placed)
 short-distinct form placed sorted p up differ i j below lt same =
     let short = map (λ p. form (p / PLACES)) placed in
     let number : (k : ℕ) → k < length placed

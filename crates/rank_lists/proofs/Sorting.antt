@@ -9,7 +9,7 @@ use Rattle.std.proofs.lemmas.List.{get_or-map, length-map}
 use Rattle.std.proofs.lemmas.List.Elements.{Contains-get_or}
 use Rattle.rank_lists.specs.declared.keys.TheConstants.{PLACES}
 use Rattle.rank_lists.specs.Placed.{HasPlaces}
-use Rattle.rank_lists.specs.Repeats.{NoRepeat, IsFirstRepeat, IsPair, IsLeastOfPairs, IsLeastPair}
+use Rattle.rank_lists.specs.Repeats.{HasNoRepeat, IsFirstRepeat, IsPair, IsLeastOfPairs, IsLeastPair}
 use Rattle.rank_lists.specs.declared.repeats.Repeat.{Repeat}
 use Rattle.rank_lists.proofs.Counts.{copies, copies-permutation, copies-twice, copies-placed, Rises}
 
@@ -142,7 +142,7 @@ module _ (placed sorted : List ℕ) (is : HasPlaces placed) (p : IsPermutation p
 
   -- the least of the pairs is the first repeat
   pub first-repeat : (r : Option Repeat) → IsLeastPair sorted (length sorted) r
-      → MatchOption r (NoRepeat (numbers_of placed) (length (numbers_of placed)))
+      → MatchOption r (HasNoRepeat (numbers_of placed) (length (numbers_of placed)))
       (λ r. IsFirstRepeat (numbers_of placed) r.earlier r.later)
   first-repeat None none = λ i j below lt same.
       let sizes = length-map placed (λ n. n / PLACES) in

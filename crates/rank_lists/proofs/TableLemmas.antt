@@ -11,7 +11,7 @@ use Rattle.rank_lists.specs.declared.keys.TheConstants.{INDEXES}
 use Rattle.place_base.specs.declared.limits.TheConstants.{LARGEST_RANK}
 use Rattle.rank_lists.specs.Groups.{candidate_group, rank_group}
 use Rattle.rank_lists.specs.Table.{Standing, standings, in_type, by_rank, turns_of, ranks_of, RankTable, table_of, order_at, ranks_at}
-use Rattle.rank_lists.specs.Repeats.{NoRepeat}
+use Rattle.rank_lists.specs.Repeats.{HasNoRepeat}
 use Rattle.rank_lists.specs.Rows.{row_at}
 use Rattle.rank_lists.specs.Table.{IsSound}
 use Rattle.rank_lists.specs.Turns.{AreTurns, AreAllTurns, known_keys}
@@ -50,9 +50,20 @@ module _ (names : List (List ℕ)) (numbers : List ℕ) (rows : List Row)
   ranks-size : length table.ranks ≡ length names
   ranks-size = length-map-range_with_len (ranks_of all) 0 (length names)
 
+  -- two columns that have the same in each type
+  same-column : (column other : List (List ℕ)) (in_kind : ℕ → List ℕ)
+      → length column ≡ length names → length other ≡ length names
+      → ((kind : ℕ) → kind < length names → slice_index_or column kind [] ≡ in_kind kind)
+      → ((kind : ℕ) → kind < length names → slice_index_or other kind [] ≡ in_kind kind)
+      → column ≡ other
+  same-column column other in_kind size size' here there =
+      same_lists column other (omega arith) (λ kind d lt.
+      get_or_default column kind d [] lt ∙ here kind (omega arith)
+      ∙ sym (there kind (omega arith)) ∙ get_or_default other kind [] d (omega arith))
+
   module _ (fields : (k : ℕ) → k < length rows → HasFields (row_at rows k))
-      (one_candidate : NoRepeat (map candidate_group rows) (length rows))
-      (one_rank : NoRepeat (map rank_group rows) (length rows)) where
+      (one_candidate : HasNoRepeat (map candidate_group rows) (length rows))
+      (one_rank : HasNoRepeat (map rank_group rows) (length rows)) where
     -- a standing within the limits
     record IsGood (s : Standing) : Type 0 where
       candidate : s.candidate < length numbers
@@ -169,22 +180,13 @@ module _ (names : List (List ℕ)) (numbers : List ℕ) (rows : List Row)
     all-turns given orders ranks size keys t =
         let orders_size = t.orders_size in
         let ranks_size = t.ranks_size in
-        let whole = orders-size in
-        let whole' = ranks-size in (
-          same_lists orders table.orders (omega arith) (λ kind d lt.
-              get_or_default orders kind d [] lt
-              ∙ (turns-are kind (known_keys numbers (slice_index_or given kind []))
-              (slice_index_or orders kind []) (slice_index_or ranks kind [])
-              (keys kind (omega arith)) (t.turns kind (omega arith))).0
-              ∙ sym (order-at kind (omega arith))
-              ∙ get_or_default table.orders kind [] d (omega arith)),
-          same_lists ranks table.ranks (omega arith) (λ kind d lt.
-              get_or_default ranks kind d [] lt
-              ∙ (turns-are kind (known_keys numbers (slice_index_or given kind []))
-              (slice_index_or orders kind []) (slice_index_or ranks kind [])
-              (keys kind (omega arith)) (t.turns kind (omega arith))).1
-              ∙ sym (ranks-at kind (omega arith))
-              ∙ get_or_default table.ranks kind [] d (omega arith)),
+        let are = λ (kind : ℕ) (lt : kind < length names). turns-are kind
+        (known_keys numbers (slice_index_or given kind [])) (slice_index_or orders kind [])
+        (slice_index_or ranks kind []) (keys kind lt) (t.turns kind (omega arith)) in (
+          same-column orders table.orders order_in (omega arith) orders-size
+              (λ kind lt. (are kind lt).0) order-at,
+          same-column ranks table.ranks ranks_in (omega arith) ranks-size
+              (λ kind lt. (are kind lt).1) ranks-at,
         )
 
     -- the table meets what a market asks

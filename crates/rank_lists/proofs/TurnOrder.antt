@@ -92,8 +92,11 @@ is-equal a b h = grind (arith, nat_tests)
 -- each element stands in its list
 each-stands : (ss : List Standing) → Each (StandsIn ss) ss
 each-stands [] = tt
-each-stands (s ∷ ss) = ((0, omega arith, refl), Each-weaker (StandsIn ss) (StandsIn (s ∷ ss))
-    (λ t there. let inside = there.1 in (suc there.0, omega arith, there.2)) ss (each-stands ss))
+each-stands (s ∷ ss) = (
+  (0, omega arith, refl),
+  Each-weaker (StandsIn ss) (StandsIn (s ∷ ss))
+      (λ t there. let inside = there.1 in (suc there.0, omega arith, there.2)) ss (each-stands ss),
+)
 
 -- what is found for each place is the list
 filter_map-places : (f : ℕ → Option Standing) (o : ℕ) (ss : List Standing) (d : Standing)
@@ -108,44 +111,44 @@ filter_map-places f o (s ∷ ss) d h =
 
 module _ (ss : List Standing) (rise : (i j : ℕ) → i < j → j < length (map (λ s. s.rank) (sorted ss))
     → slice_index (map (λ s. s.rank) (sorted ss)) i < slice_index (map (λ s. s.rank) (sorted ss)) j)
-    where
-  -- as many are better than a standing as stand before it when sorted
-  count-at : (k : ℕ) (s : Standing) → k < length (sorted ss) → slice_index_or (sorted ss) k s ≡ s
-      → better_count ss s ≡ k
-  count-at k s lt here =
-      let ranks = map (λ t. t.rank) (sorted ss) in
-      let size = length-map (sorted ss) (λ t. t.rank) in
-      let rank : slice_index ranks k ≡ s.rank = get_or-map (λ t. t.rank) (sorted ss) k s 0 lt
-      ∙ ap (λ t. t.rank) here in
-      better_count-copies s ss ∙ sym (copies-sorted (λ t. better s.rank t.rank) 1 ss)
-      ∙ ap (copies 1) (map-ranks s.rank (sorted ss))
-      ∙ ap (λ r. copies 1 (map (better r) ranks)) (sym rank)
-      ∙ better-before ranks k rise (omega arith)
+  where
+    -- as many are better than a standing as stand before it when sorted
+    count-at : (k : ℕ) (s : Standing) → k < length (sorted ss) → slice_index_or (sorted ss) k s ≡ s
+        → better_count ss s ≡ k
+    count-at k s lt here =
+        let ranks = map (λ t. t.rank) (sorted ss) in
+        let size = length-map (sorted ss) (λ t. t.rank) in
+        let rank : slice_index ranks k ≡ s.rank = get_or-map (λ t. t.rank) (sorted ss) k s 0 lt
+        ∙ ap (λ t. t.rank) here in
+        better_count-copies s ss ∙ sym (copies-sorted (λ t. better s.rank t.rank) 1 ss)
+        ∙ ap (copies 1) (map-ranks s.rank (sorted ss))
+        ∙ ap (λ r. copies 1 (map (better r) ranks)) (sym rank)
+        ∙ better-before ranks k rise (omega arith)
 
-  -- each standing has its place when sorted
-  places : Each (StandsIn (sorted ss)) ss
-  places = sorted-Each-back (StandsIn (sorted ss)) ss (each-stands (sorted ss))
+    -- each standing has its place when sorted
+    places : Each (StandsIn (sorted ss)) ss
+    places = sorted-Each-back (StandsIn (sorted ss)) ss (each-stands (sorted ss))
 
-  stands : Each (StandsIn ss) (sorted ss)
-  stands = sorted-Each (StandsIn ss) ss (each-stands ss)
+    stands : Each (StandsIn ss) (sorted ss)
+    stands = sorted-Each (StandsIn ss) ss (each-stands ss)
 
-  -- the standing of a turn
-  turn-at : (k : ℕ) (d : Standing) → k < length (sorted ss)
-      → turn_in ss k ≡ Some (slice_index_or (sorted ss) k d)
-  turn-at k d lt =
-      let s = slice_index_or (sorted ss) k d in
-      let here : slice_index_or (sorted ss) k s ≡ s = get_or_default (sorted ss) k s d lt in
-      let only = λ (t : Standing) (there : StandsIn (sorted ss) t) (e : (better_count ss t == k) ≡ true).
-      (let place : there.0 ≡ k = sym (count-at there.0 t there.1 there.2) ∙ equal _ _ e in
-      sym there.2 ∙ ap (λ i. slice_index_or (sorted ss) i t) place
-      ∙ get_or_default (sorted ss) k t d lt) in
-      find-only (λ t. better_count ss t == k) ss s
-      (Each-weaker (StandsIn (sorted ss)) (λ t. (better_count ss t == k) ≡ true → t ≡ s) only ss places)
-      (Each-at (StandsIn ss) (sorted ss) stands k d lt) (is-equal _ _ (count-at k s lt here))
+    -- the standing of a turn
+    turn-at : (k : ℕ) (d : Standing) → k < length (sorted ss)
+        → turn_in ss k ≡ Some (slice_index_or (sorted ss) k d)
+    turn-at k d lt =
+        let s = slice_index_or (sorted ss) k d in
+        let here : slice_index_or (sorted ss) k s ≡ s = get_or_default (sorted ss) k s d lt in
+        let only = λ (t : Standing) (there : StandsIn (sorted ss) t) (e : (better_count ss t == k) ≡ true).
+        (let place : there.0 ≡ k = sym (count-at there.0 t there.1 there.2) ∙ equal _ _ e in
+        sym there.2 ∙ ap (λ i. slice_index_or (sorted ss) i t) place
+        ∙ get_or_default (sorted ss) k t d lt) in
+        find-only (λ t. better_count ss t == k) ss s
+        (Each-weaker (StandsIn (sorted ss)) (λ t. (better_count ss t == k) ≡ true → t ≡ s) only ss places)
+        (Each-at (StandsIn ss) (sorted ss) stands k d lt) (is-equal _ _ (count-at k s lt here))
 
-  -- the standings by rising rank
-  pub by_rank-sorted : (d : Standing) → by_rank ss ≡ sorted ss
-  by_rank-sorted d =
-      ap (λ n. filter_map (turn_in ss) (range_with_len 0 n)) (sym (length-sorted ss))
-      ∙ filter_map-places (turn_in ss) 0 (sorted ss) d (λ k lt.
-      (let n : 0 + k ≡ k = omega arith in ap (turn_in ss) n) ∙ turn-at k d lt)
+    -- the standings by rising rank
+    pub by_rank-sorted : (d : Standing) → by_rank ss ≡ sorted ss
+    by_rank-sorted d =
+        ap (λ n. filter_map (turn_in ss) (range_with_len 0 n)) (sym (length-sorted ss))
+        ∙ filter_map-places (turn_in ss) 0 (sorted ss) d (λ k lt.
+        (let n : 0 + k ≡ k = omega arith in ap (turn_in ss) n) ∙ turn-at k d lt)

@@ -1,6 +1,6 @@
 -- The first row that repeats an earlier one.
 use Rattle.std.specs.Prelude.{ℕ, ◌+◌, List, length, nat_lt, if◌then◌else◌, Option, Some, None}
-use Rattle.rank_lists.specs.Repeats.{NoRepeat, IsFirstRepeat}
+use Rattle.rank_lists.specs.Repeats.{HasNoRepeat, IsFirstRepeat}
 use Rattle.rank_lists.specs.declared.repeats.Repeat.{Repeat}
 use Rattle.rank_lists.specs.declared.duplicates.Duplicate.{Duplicate}
 use Rattle.rank_lists.specs.declared.duplicates.Duplicate.TheVariants.{Candidate, Rank}
@@ -14,11 +14,11 @@ duplicate_of (Rank repeat) = (repeat, 3)
 -- candidate first, if there is one
 abbrev pub IsFirstDuplicate : List ℕ → List ℕ → Option Duplicate → Type 0
 IsFirstDuplicate candidates ranks None =
-    NoRepeat candidates (length candidates) × NoRepeat ranks (length ranks)
+    HasNoRepeat candidates (length candidates) × HasNoRepeat ranks (length ranks)
 IsFirstDuplicate candidates ranks (Some (Candidate repeat)) =
-    IsFirstRepeat candidates repeat.earlier repeat.later × NoRepeat ranks repeat.later
+    IsFirstRepeat candidates repeat.earlier repeat.later × HasNoRepeat ranks repeat.later
 IsFirstDuplicate candidates ranks (Some (Rank repeat)) =
-    IsFirstRepeat ranks repeat.earlier repeat.later × NoRepeat candidates (repeat.later + 1)
+    IsFirstRepeat ranks repeat.earlier repeat.later × HasNoRepeat candidates (repeat.later + 1)
 
 -- the one in the earlier row; in one row the candidate comes first
 abbrev pub earlier_duplicate : Option Repeat → Option Repeat → Option Duplicate

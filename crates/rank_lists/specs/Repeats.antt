@@ -4,15 +4,15 @@ use Rattle.rank_lists.specs.declared.keys.TheConstants.{PLACES}
 use Rattle.rank_lists.specs.declared.repeats.Repeat.{Repeat}
 
 -- no number among the first ones repeats an earlier one
-abbrev pub NoRepeat : List ℕ → ℕ → Type 0
-NoRepeat xs n = (i j : ℕ) → i < j → j < n → slice_index xs i ≢ slice_index xs j
+abbrev pub HasNoRepeat : List ℕ → ℕ → Type 0
+HasNoRepeat xs n = (i j : ℕ) → i < j → j < n → slice_index xs i ≢ slice_index xs j
 
 -- the number at the later place is the first that repeats an earlier one, which stands at the other
 pub record IsFirstRepeat (xs : List ℕ) (earlier later : ℕ) : Type 0 where
   pub order : earlier < later
   pub within : later < length xs
   pub same : slice_index xs earlier ≡ slice_index xs later
-  pub first : NoRepeat xs later
+  pub first : HasNoRepeat xs later
 
 -- two neighbours, each a number with its place behind it, have the same number
 abbrev pub IsPair : List ℕ → ℕ → Type 0
@@ -39,5 +39,5 @@ earlier_repeat None other = other
 earlier_repeat (Some least) other = if nat_le least.later other.later then least else other
 
 -- no two neighbours among the first numbers are equal
-abbrev pub NeighboursDiffer : List ℕ → ℕ → Type 0
-NeighboursDiffer sorted n = (k : ℕ) → k + 1 < n → slice_index sorted k ≢ slice_index sorted (k + 1)
+abbrev pub HasUnequalNeighbours : List ℕ → ℕ → Type 0
+HasUnequalNeighbours sorted n = (k : ℕ) → k + 1 < n → slice_index sorted k ≢ slice_index sorted (k + 1)

@@ -4,17 +4,13 @@ use Rattle.place_base.specs.declared.fault.FileFault.{FileFault}
 use Rattle.place_base.specs.declared.fault.FileKind.TheVariants.{Ranks}
 use Rattle.place_base.specs.declared.limits.TheConstants.{LARGEST_NUMBER, LARGEST_RANK, MOST_RANKS}
 use Rattle.record_files.specs.FirstFaults.{FileRules, first_of, reading_fault, repeat_fault, first_fault}
-use Rattle.record_files.specs.Form.{Form}
+use Rattle.record_files.specs.Form.{Form, one_header}
 use Rattle.record_files.specs.Numbers.{number_of, type_name_of, value}
 use Rattle.record_files.specs.Rows.{Row, field_at}
 
 -- its header and its limit of rows
 abbrev pub ranks_form : Form
-ranks_form = record {
-  file = Ranks;
-  headers = codes "candidate,type,rank" ∷ [];
-  most_rows = MOST_RANKS;
-}
+ranks_form = one_header Ranks (codes "candidate,type,rank") MOST_RANKS
 
 -- the number of the candidate in a row
 abbrev pub candidate_in : Row → ℕ

@@ -11,3 +11,7 @@ pub(crate) const INDEXES: u64 = 1 << 32;
 
 /// More than any rank.
 pub(crate) const RANKS: u64 = 1 << 27;
+
+/// More than any candidate or rank together with a type: with a place behind it, a word of 128 bits
+/// holds it.
+pub(crate) const GROUPS: u128 = 1 << 102;

@@ -1,8 +1,8 @@
 // Numbers in order, and the first of them that stands twice.
-ghost use Rattle.std.specs.Prelude.{◌≡◌, ℕ, ◌+◌, ◌*◌, ◌/◌, ◌%◌, ◌<◌, ◌++◌, ◌∷◌, [], length, map, ◌^◌, Some, IsTrue, OnOk, IfOk, MatchOption};
-ghost use Rattle.rank_lists.specs.Repeats.{IsFirstRepeat, NoRepeat, IsLeastPair, NeighboursDiffer, earlier_repeat};
+ghost use Rattle.std.specs.Prelude.{◌≡◌, ℕ, ◌+◌, ◌*◌, ◌/◌, ◌%◌, ◌<◌, ◌++◌, ◌∷◌, [], length, map, Some, IsTrue, OnOk, IfOk, MatchOption};
+ghost use Rattle.rank_lists.specs.Repeats.{IsFirstRepeat, HasNoRepeat, IsLeastPair, HasUnequalNeighbours, earlier_repeat};
 
-use crate::keys::PLACES;
+use crate::keys::{GROUPS, PLACES};
 use std::alloc::{AllocError, Global};
 use std::marker::Model;
 
@@ -51,7 +51,7 @@ impl Repeats {
     /// Adds a number.
     pub(crate) fn push(&mut self, number: u128) -> Result<(), AllocError>
         requires room { length self.old < PLACES }
-        requires small { number < 2 ^ 102 }
+        requires small { number < GROUPS }
         ensures { OnOk result (self.new ≡ self.old ++ number ∷ []) }
     {
         let place = self.placed.len() as u128;
@@ -61,7 +61,7 @@ impl Repeats {
 
     /// The first place at which a number stands that stands earlier too, with that earlier place.
     pub(crate) fn first_repeat(self, alloc: Global) -> Result<Option<Repeat>, AllocError>
-        ensures { IfOk result (λ first. MatchOption first (NoRepeat self (length self))
+        ensures { IfOk result (λ first. MatchOption first (HasNoRepeat self (length self))
             (λ r. IsFirstRepeat self r.earlier r.later)) }
     {
         // Mostly all numbers differ, which their short forms tell sooner.
@@ -77,7 +77,7 @@ impl Repeats {
 // Whether the short forms of all numbers differ, and so the numbers themselves.
 fn are_distinct(alloc: Global, placed: &[u128]) -> Result<bool, AllocError>
     ensures { IfOk result (λ distinct. IsTrue distinct
-        → NoRepeat (map (λ p. p / PLACES) placed.now) (length placed.now)) }
+        → HasNoRepeat (map (λ p. p / PLACES) placed.now) (length placed.now)) }
 {
     let mut short = short_forms(alloc, placed)?;
     short.sort_unstable();
@@ -107,7 +107,7 @@ fn short_form(number: u128) -> u64
 
 // Whether no two neighbours are equal.
 fn neighbours_differ(sorted: &[u64]) -> bool
-    ensures { IsTrue result → NeighboursDiffer sorted.now (length sorted.now) }
+    ensures { IsTrue result → HasUnequalNeighbours sorted.now (length sorted.now) }
 {
     for index in 1..sorted.len() {
         if sorted[index - 1] == sorted[index] {

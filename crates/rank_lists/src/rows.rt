@@ -3,13 +3,13 @@
 // Rows are gathered by themselves: which of them repeats an earlier one is found afterwards, by
 // sorting what they say.
 
-ghost use Rattle.std.specs.Prelude.{◌≡◌, ◌+◌, ◌*◌, ◌^◌, ◌≤◌, ◌<◌, ℕ, List, [], ◌∷◌, ◌++◌, length, IfOk, OnOk};
+ghost use Rattle.std.specs.Prelude.{◌≡◌, ◌+◌, ◌*◌, ◌≤◌, ◌<◌, ℕ, List, [], ◌∷◌, ◌++◌, length, IfOk, OnOk};
 ghost use Rattle.record_files.specs.Rows.{Row};
 ghost use Rattle.rank_lists.specs.Groups.{name_number as number_of_name};
 ghost use Rattle.rank_lists.specs.Growth.{HasRows, IsFieldsOf, with_rank};
 
 use crate::fields::read_fields;
-use crate::keys::{NUMBERS, PLACES, RANKS};
+use crate::keys::{GROUPS, NUMBERS, PLACES, RANKS};
 use crate::repeats::Repeats;
 use crate::row::Fields;
 use crate::turns::GivenRanks;
@@ -112,7 +112,7 @@ fn name_number(bytes: &[u8]) -> u64
 // A candidate and a type as one number.
 fn candidate_in_type(name: u64, candidate: u64) -> u128
     ensures value { result ≡ name * NUMBERS + candidate }
-    ensures small { result < 2 ^ 102 }
+    ensures small { result < GROUPS }
 {
     u128::from(name) * u128::from(NUMBERS) + u128::from(candidate)
 }
@@ -120,7 +120,7 @@ fn candidate_in_type(name: u64, candidate: u64) -> u128
 // A rank and a type as one number.
 fn rank_in_type(name: u64, rank: u32) -> u128
     ensures value { result ≡ name * RANKS + rank }
-    ensures small { result < 2 ^ 102 }
+    ensures small { result < GROUPS }
 {
     u128::from(name) * u128::from(RANKS) + u128::from(rank)
 }

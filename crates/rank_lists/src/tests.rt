@@ -1,11 +1,14 @@
 // Files at the edge of each rule, beside the type SAY and the candidates 1, 2 and 3.
 
-ghost use Rattle.std.specs.Prelude.{[], ◌∷◌};
+ghost use Rattle.std.specs.Prelude.{◌≡◌, ◌≤◌, [], ◌∷◌, length, IfOk};
 
 use crate::RankLists;
-use place_base::{FaultKind, Finder, TypeFinder, TypeName};
-use record_files::TableStop;
+use place_base::FaultKind::{self, BadTypeName, Duplicate, FieldCount, NotNumber, OutOfRange};
+use place_base::{FileKind, Finder, TypeFinder, TypeName};
+use record_files::{TableStop, duplicate_at};
+use std::alloc::Global;
 use std::test::Fail;
+use std::thread::Threads;
 
 #[derive(Drop)]
 struct Candidates;
@@ -50,63 +53,89 @@ impl TypeFinder for OneType {
     }
 }
 
+// Lists read, of which no more is known than how many types and candidates there are: a file written
+// out would be computed in each goal.
+fn read<R: Threads>(
+    rt: &R,
+    alloc: Global,
+    bytes: &[u8],
+    say: &OneType,
+) -> Result<RankLists, TableStop>
+    requires { length bytes.now ≤ 1024 }
+    ensures types { IfOk result (λ lists. length lists.orders ≡ 1) }
+    ensures candidates { IfOk result (λ lists. lists.candidates ≡ 3) }
+{
+    RankLists::read(rt, alloc, bytes, 64, say, &Candidates)
+}
+
 #[test]
 fn turn_orders_rise_by_rank(rt: HostRuntime) -> Result<(), Fail> {
     let say = OneType(TypeName::new(b"SAY").ok_or("a name")?);
     let bytes = b"candidate,type,rank\r\n2,SAY,9\n3,SAY,0004\n9,SAY,1\n1,TYT,4\n3,EA,9\n\n99,TYT,9";
-    let lists = RankLists::read(&rt, rt.alloc(), bytes, 64, &say, &Candidates)?;
-    assert_eq!(rt; lists.turn_order(0), [2, 1].as_slice());
-    assert_eq!(rt; lists.rank_of(0, 0), None);
-    assert_eq!(rt; lists.rank_of(0, 1), Some(9));
-    assert_eq!(rt; lists.rank_of(0, 2), Some(4));
+    let lists = read(&rt, rt.alloc(), bytes, &say)?;
+    holds_all(lists)
+}
+
+// Fails where the lists are other than those of the test's file.
+fn holds_all(lists: RankLists) -> Result<(), Fail>
+    requires types { length lists.orders ≡ 1 }
+    requires candidates { lists.candidates ≡ 3 }
+{
+    let ranks = lists.rank_of(0, 0).is_none()
+        && lists.rank_of(0, 1) == Some(9)
+        && lists.rank_of(0, 2) == Some(4);
+    if !ranks || lists.turn_order(0) != [2, 1].as_slice() {
+        return Err(Fail::new("another turn order"));
+    }
     let parts = lists.into_parts();
-    assert_eq!(rt; (parts.orders.len(), parts.ranks.len()), (1, 1));
+    if parts.orders.len() != 1 || parts.ranks.len() != 1 {
+        return Err(Fail::new("other parts"));
+    }
     Ok(())
 }
 
 // The rows of a file, and its fault's line, field, kind and earlier line.
 const FILES: [(&str, u32, u8, FaultKind, u32); 14] = [
-    ("1,SAY", 2, 0, FaultKind::FieldCount, 0),
-    ("0,SAY,+5", 2, 1, FaultKind::OutOfRange, 0),
-    ("1,say,+5", 2, 2, FaultKind::BadTypeName, 0),
-    ("1,SAY,+5", 2, 3, FaultKind::NotNumber, 0),
-    ("1,SAY,100000000", 2, 3, FaultKind::OutOfRange, 0),
-    (
-        "1,SAY,1\n2,SAY,2\n7,SAY,3\n3,SAY,1",
-        5,
-        3,
-        FaultKind::Duplicate,
-        2,
-    ),
-    (
-        "1,SAY,1\n2,SAY,2\n3,SAY,3\n02,SAY,30",
-        5,
-        2,
-        FaultKind::Duplicate,
-        3,
-    ),
-    ("1,SAY,1\n2,SAY,2\n2,SAY,1", 4, 2, FaultKind::Duplicate, 3),
-    ("9,TYT,1\n9,EA,1\n9,TYT,2", 4, 2, FaultKind::Duplicate, 2),
-    ("9,TYT,1\n8,TYT,2\n7,TYT,01", 4, 3, FaultKind::Duplicate, 2),
-    ("1,SAY,1\n2,SAY,1\n1,SAY,2", 3, 3, FaultKind::Duplicate, 2),
-    ("1,SAY,1\n1,SAY,2\n2,SAY,1", 3, 2, FaultKind::Duplicate, 2),
-    ("1,SAY,1\n\n1,SAY,2\nx", 4, 2, FaultKind::Duplicate, 2),
-    ("1,SAY,1\nx\n1,SAY,2", 3, 0, FaultKind::FieldCount, 0),
+    ("1,SAY", 2, 0, FieldCount, 0),
+    ("0,SAY,+5", 2, 1, OutOfRange, 0),
+    ("1,say,+5", 2, 2, BadTypeName, 0),
+    ("1,SAY,+5", 2, 3, NotNumber, 0),
+    ("1,SAY,100000000", 2, 3, OutOfRange, 0),
+    ("1,SAY,1\n2,SAY,2\n7,SAY,3\n3,SAY,1", 5, 3, Duplicate, 2),
+    ("1,SAY,1\n2,SAY,2\n3,SAY,3\n02,SAY,30", 5, 2, Duplicate, 3),
+    ("1,SAY,1\n2,SAY,2\n2,SAY,1", 4, 2, Duplicate, 3),
+    ("9,TYT,1\n9,EA,1\n9,TYT,2", 4, 2, Duplicate, 2),
+    ("9,TYT,1\n8,TYT,2\n7,TYT,01", 4, 3, Duplicate, 2),
+    ("1,SAY,1\n2,SAY,1\n1,SAY,2", 3, 3, Duplicate, 2),
+    ("1,SAY,1\n1,SAY,2\n2,SAY,1", 3, 2, Duplicate, 2),
+    ("1,SAY,1\n\n1,SAY,2\nx", 4, 2, Duplicate, 2),
+    ("1,SAY,1\nx\n1,SAY,2", 3, 0, FieldCount, 0),
 ];
 
 #[test]
 fn the_first_fault_is_refused(rt: HostRuntime) -> Result<(), Fail> {
     let say = OneType(TypeName::new(b"SAY").ok_or("a name")?);
-    for (rows, line, field, kind, earlier) in FILES {
-        let mut bytes = Vec::from_slice(rt.alloc(), b"candidate,type,rank\n")?;
+    tell_faults(&rt, rt.alloc(), say, &FILES)
+}
+
+// Reads each file's rows behind the header, and fails where another fault is told.
+fn tell_faults<R: Threads>(
+    rt: &R,
+    alloc: Global,
+    say: OneType,
+    files: &[(&str, u32, u8, FaultKind, u32)],
+) -> Result<(), Fail> {
+    for (rows, line, field, kind, earlier) in files {
+        let mut wanted = duplicate_at(FileKind::Ranks, *line, *field, *earlier);
+        wanted.kind = *kind;
+        let mut bytes = Vec::from_slice(alloc, b"candidate,type,rank\n")?;
         bytes.extend_from_slice(rows.as_bytes())?;
-        assert!(rt; bytes.len() < 1000);
-        match RankLists::read(&rt, rt.alloc(), &bytes, 1, &say, &Candidates) {
-            Err(TableStop::Fault(fault)) => {
-                assert_eq!(rt; (fault.line, fault.field), (line, field));
-                assert_eq!(rt; (fault.kind, fault.earlier), (kind, earlier));
-            }
-            _ => return Err(Fail::from("a fault was wanted")),
+        if bytes.len() > 1024 {
+            return Err(Fail::new("a long text"));
+        }
+        let read = RankLists::read(rt, alloc, &bytes, 1, &say, &Candidates);
+        if read.err() != Some(TableStop::Fault(wanted)) {
+            return Err(Fail::new("another fault"));
         }
     }
     Ok(())

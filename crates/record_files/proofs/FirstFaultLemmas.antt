@@ -57,12 +57,6 @@ fault_behind-few rules header earlier row none =
     (fault_at rules.form.file row.0 0 TooManyRows)) _ long.1 in
     leb-false rules.form.most_rows (length earlier) (fault_if-none _ _ few.0)
 
--- what taking a row comes to, where its answer is known
-pub IsRowTaken-at : (fault : Option FileFault) (before grown : Type 0) (found answer : Option FileFault)
-    → found ≡ answer → IsRowTaken fault before grown found → IsRowTaken fault before grown answer
-IsRowTaken-at fault before grown found answer e taken =
-    subst (IsRowTaken fault before grown) e taken
-
 -- where the least of some faults is not there, none of them is
 pub least_fault-each : (fault : ℕ → Option FileFault) (n : ℕ) → least_fault fault n ≡ None → (k : ℕ)
     → k < n → fault k ≡ None
@@ -179,3 +173,29 @@ module _ (rules : FileRules) (bytes : List ℕ) where
       ∙ length-drop k (data_rows bytes) in
       let all : k ≡ length (data_rows bytes) = omega arith in
       (rw r.header (subst (λ n. least_fault (row_fault rules bytes) n ≡ None) all r.none), all)
+
+  -- what taking the next row over comes to, under the file's header
+  module _ (k : ℕ) (row : Row) (left : List Row) (h : Header) (kept grown : Type 0)
+      (found : Option FileFault) (read : IsReadTo rules bytes k (row ∷ left)) (same : h ≡ header)
+      (taken : IsRowTaken (fault_behind rules h (before k) row) kept grown found) where
+    -- a fault is the file's first
+    pub row-stops : (f : FileFault) → found ≡ Some f
+        → (first_fault rules bytes ≡ Some f) × StopsAt rules bytes k f × kept
+    row-stops f e =
+        let told = subst (IsRowTaken (fault_behind rules h (before k) row) kept grown) e taken in
+        let stop = IsReadTo-stops k row left f read
+        (ap (λ h. fault_behind rules h (before k) row) (sym same) ∙ told.0) in
+        (stop.0, stop.1, told.1)
+
+    -- with none the row is passed
+    pub row-passes : found ≡ None
+        → (k < rules.form.most_rows) × IsReadTo rules bytes (k + 1) left × grown
+    row-passes e =
+        let told = subst (IsRowTaken (fault_behind rules h (before k) row) kept grown) e taken in
+        let few = fault_behind-few rules h (before k) row told.0 in
+        let size = IsReadTo-length k (row ∷ left) read in (
+          omega arith,
+          IsReadTo-next k row left read
+              (ap (λ h. fault_behind rules h (before k) row) (sym same) ∙ told.0),
+          told.1,
+        )

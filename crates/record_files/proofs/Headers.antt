@@ -1,12 +1,11 @@
 -- A first row that is one of a form's headers.
-use Rattle.std.proofs.Common.{◌≡◌, ℕ, List, [], ◌∷◌, None, Some, bytes_eq, get_or, length, refl, sym, ap, ◌∙◌, arith, unwrap_or}
+use Rattle.std.proofs.Common.{◌≡◌, ℕ, List, [], ◌∷◌, None, Some, bytes_eq, get_or, length, refl, sym, ap, ◌∙◌, unwrap_or}
 use Rattle.std.proofs.lemmas.List.Quantifiers.{position-Some}
 use Rattle.std.proofs.lemmas.Slice.Eq.{bytes_eq-Decides}
 use Rattle.place_base.specs.declared.limits.TheConstants.{COMMA}
 use Rattle.record_files.specs.FirstFaults.{first_row_fault, long_fault}
 use Rattle.record_files.specs.Form.{Form, IsHeaderOf, header_in, version_of}
 use Rattle.record_files.specs.Rows.{Row, fields_of, split}
-use Rattle.record_files.specs.declared.form.Header.{Header}
 
 -- a short row that is the header of a version is read as that header
 pub header-read : (form : Form) (row : Row) (behind : List Row) (version fields : ℕ)

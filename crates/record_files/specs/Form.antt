@@ -1,5 +1,5 @@
 -- The form of a file.
-use Rattle.std.specs.Prelude.{◌≡◌, ◌<◌, ℕ, List, [], length, bytes_eq, position, slice_index_or, unwrap_or, Option}
+use Rattle.std.specs.Prelude.{◌≡◌, ◌<◌, ℕ, List, [], ◌∷◌, length, bytes_eq, position, slice_index_or, unwrap_or, Option}
 use Rattle.place_base.specs.declared.fault.FileKind.{FileKind}
 use Rattle.place_base.specs.declared.limits.TheConstants.{COMMA}
 use Rattle.record_files.specs.Rows.{Row, fields_of, split}
@@ -10,6 +10,11 @@ pub record Form : Type 0 where
   pub file : FileKind
   pub headers : List (List ℕ)
   pub most_rows : ℕ
+
+-- the form of a file that may have one header
+abbrev pub one_header : FileKind → List ℕ → ℕ → Form
+one_header file header most_rows =
+    record { file = file; headers = header ∷ []; most_rows = most_rows }
 
 -- which of the headers a row is, counted from 0
 abbrev pub version_of : Form → Row → Option ℕ

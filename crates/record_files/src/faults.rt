@@ -23,11 +23,8 @@ pub fn duplicate_at(file: FileKind, line: u32, field: u8, earlier: u32) -> FileF
     ensures { result ≡ duplicate_at file line field earlier }
 {
     FileFault {
-        file,
-        line,
-        field,
-        kind: FaultKind::Duplicate,
         earlier,
+        ..fault_at(file, line, field, FaultKind::Duplicate)
     }
 }
 

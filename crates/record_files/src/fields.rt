@@ -1,5 +1,5 @@
 // Numbers and type names in fields.
-ghost use Rattle.std.specs.Prelude.{◌≡◌, ◌^◌, ◌≤◌, length, min, MatchOption, true, false};
+ghost use Rattle.std.specs.Prelude.{◌≡◌, ◌≤◌, length, min, MatchOption, true, false};
 ghost use Rattle.record_files.specs.Numbers.{number_of, all_digits, type_name_of, value};
 
 use place_base::{FaultKind, TypeName};
@@ -32,7 +32,7 @@ pub fn number(field: &[u8], low: u64, high: u64) -> Result<u64, FaultKind>
 // The value of digits, or 2^64 where it is larger; `None` where a byte is no digit.
 fn capped_value(field: &[u8]) -> Option<u128>
     ensures { MatchOption result (all_digits field.now ≡ false)
-        (λ v. (all_digits field.now ≡ true) × (v ≡ min (value field.now) (2 ^ 64))) }
+        (λ v. (all_digits field.now ≡ true) × (v ≡ min (value field.now) PAST)) }
 {
     if field.len() > SHORT {
         return long_value(field);
@@ -63,7 +63,7 @@ fn short_value(field: &[u8]) -> Option<u64>
 // As `capped_value`, for words of any length.
 fn long_value(field: &[u8]) -> Option<u128>
     ensures { MatchOption result (all_digits field.now ≡ false)
-        (λ v. (all_digits field.now ≡ true) × (v ≡ min (value field.now) (2 ^ 64))) }
+        (λ v. (all_digits field.now ≡ true) × (v ≡ min (value field.now) PAST)) }
 {
     let mut sum = 0u128;
     for byte in field {

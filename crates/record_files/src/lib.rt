@@ -8,8 +8,10 @@ mod faults;
 mod form;
 // Numbers and type names in fields.
 mod fields;
-// What is read by rows, and the reading of all rows of a file.
+// What is read by rows.
 mod row_table;
+// The reading of all rows of a file.
+mod reading;
 // The texts of rows.
 mod row_texts;
 // Rows and their fields.
@@ -20,7 +22,8 @@ mod table_stop;
 pub use faults::{duplicate_at, fault_at, in_field};
 pub use fields::{number, type_name};
 pub use form::{FileForm, Header};
-pub use row_table::{RowTable, RowsRead, read_rows, read_table};
+pub use reading::{RowsRead, read_rows, read_table};
+pub use row_table::RowTable;
 pub use row_texts::{Field, put_row_1, put_row_2, put_row_3, put_row_4};
 pub use rows::{RecordRow, Records, RowPart, find_byte};
 pub use table_stop::TableStop;

@@ -34,7 +34,8 @@ impl<'a> Model for RecordRow<'a> {
 
     ghost view = { λ row. (row.line, row.bytes.now) };
 
-    ghost invariant = { λ row. (length row.bytes.now ≤ LARGEST_FILE) × IsCutAt row.bytes.now row.cuts.ends row.cuts.count };
+    ghost invariant = { λ row. (length row.bytes.now ≤ LARGEST_FILE)
+        × IsCutAt row.bytes.now row.cuts.ends row.cuts.count };
 }
 
 impl<'a> RecordRow<'a> {
@@ -161,7 +162,8 @@ impl<'a> Model for Records<'a> {
 
     ghost view = { λ r. rows_left r.done r.line r.rest.now };
 
-    ghost invariant = { λ r. (r.line + length r.rest.now ≤ 2 ^ 31 + 1) × (length r.rest.now ≤ LARGEST_FILE) };
+    ghost invariant = { λ r. (r.line + length r.rest.now ≤ 2 ^ 31 + 1)
+        × (length r.rest.now ≤ LARGEST_FILE) };
 }
 
 impl<'a> Records<'a> {

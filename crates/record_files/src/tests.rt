@@ -105,7 +105,11 @@ fn numbers_and_names(rt: HostRuntime) {
 
 #[test]
 fn first_rows(rt: HostRuntime) {
-    let form = FileForm::new(FileKind::Ranks, &[b"candidate,type,rank", b"candidate,rank"], 2);
+    let form = FileForm::new(
+        FileKind::Ranks,
+        &[b"candidate,type,rank", b"candidate,rank"],
+        2,
+    );
     for (bytes, read) in [
         ("", Err(FaultKind::Header)),
         ("candidate,type", Err(FaultKind::Header)),
@@ -140,7 +144,10 @@ fn shapes_of_rows(rt: HostRuntime) -> Result<(), Fail> {
         line.extend_from_slice(b"\r\n")?;
         assert!(rt; line.len() < 2000);
         let row = Records::of_bytes(&line).next().expect(&rt, "a row");
-        assert_eq!(rt; form.shape_fault(3, index, &row).map(|fault| fault.kind), kind);
+        assert_eq!(rt;
+            form.shape_fault(3, index, &row).map(|fault| fault.kind),
+            kind
+        );
     }
     Ok(())
 }

@@ -1,6 +1,6 @@
 use Rattle.std.proofs.Common.{length, subst, IsPermutation}
 use Rattle.std.proofs.lemmas.List.Sorted.{IsNonDecreasingBy-from_sort}
-use Rattle.rank_lists.specs.Repeats.{NeighboursDiffer}
+use Rattle.rank_lists.specs.Repeats.{HasUnequalNeighbours}
 use Rattle.rank_lists.proofs.Counts.{Rises}
 use Rattle.rank_lists.proofs.ShortForms.{short-distinct}
 use Rattle.rank_lists.proofs.repeats.are_distinct.Goals as goal
@@ -13,6 +13,6 @@ returns c = λ differ.
     let forms = c.in_ok-short.ensures {u = tt} in
     let permutation = subst (λ short. IsPermutation short sorted) forms.1
     c.sort_unstable.ensures.permutation in
-    let apart = subst (λ xs. NeighboursDiffer xs (length xs)) c.deref.ensures.value
+    let apart = subst (λ xs. HasUnequalNeighbours xs (length xs)) c.deref.ensures.value
     (c.neighbours_differ.ensures differ) in
     short-distinct forms.0 c.args.placed.now sorted permutation up apart

@@ -1,4 +1,4 @@
-use Rattle.std.proofs.Common.{◌≡◌, ◌<◌, ◌≤◌, ◌+◌, ◌∙◌, ℕ, Bool, Bor, List, [], Some, None, true, false, ap, bytes_eq, get_or, length, map, position, refl, subst, sym, arith, ⊎_elim}
+use Rattle.std.proofs.Common.{◌≡◌, ◌<◌, ◌≤◌, ◌∙◌, ℕ, Bool, Bor, List, [], Some, None, true, false, ap, bytes_eq, get_or, length, map, position, refl, subst, sym, arith, ⊎_elim}
 use Rattle.std.proofs.lemmas.Bool.{cases_lt, lt-ltb}
 use Rattle.std.proofs.lemmas.Bool.Decides.{nat_tests}
 use Rattle.std.proofs.lemmas.List.{get_or-map, length-map}

@@ -10,22 +10,16 @@ use Rattle.programme_table.specs.Table.{IsTable, Programmes, kind_in}
 use Rattle.programme_table.specs.declared.row.ProgrammeRow.{ProgrammeRow}
 use Rattle.programme_table.proofs.table.ProgrammeTable.add.Goals as goal
 
+-- a table of its parts
+abbrev parts : List ProgrammeRow → List (ℕ × ℕ) → List (List ℕ) → Programmes
+parts rows codes names = record { rows = rows; codes = codes; names = names }
+
 -- what the table was, and what it has become
 abbrev before : goal.After-unwrap-2 → Programmes
-before c = record {
-  rows = c.self.inside.rows.items;
-  codes = c.self.inside.codes.entries;
-  names =
-      c.self.inside.names.keys;
-}
+before c = parts c.self.inside.rows.items c.self.inside.codes.entries c.self.inside.names.keys
 
 abbrev after : goal.After-unwrap-2 → Programmes
-after c = record {
-  rows = c.push.new.self.items;
-  codes = c.insert.new.self.entries;
-  names =
-      c.insert_full.new.self.keys;
-}
+after c = parts c.push.new.self.items c.insert.new.self.entries c.insert_full.new.self.keys
 
 free : (c : goal.After-unwrap-2)
     → clash (before c) c.args.fields.now ≡ None
@@ -63,7 +57,7 @@ added c =
     ∙ ap (λ (rows : List ProgrammeRow). rows ++ with_kind c.unwrap-kind.result.0 ∷ [])
     c.reserve-3.ensures.items
     ∙ ap (λ (kind : ℕ). t.rows ++ with_kind kind ∷ []) kind in
-    λ j. record { rows = rows j; codes = codes j; names = names j }
+    λ j. parts (rows j) (codes j) (names j)
 
 pub invariant_of-self-2 : goal.invariant_of-self-2
 invariant_of-self-2 c =

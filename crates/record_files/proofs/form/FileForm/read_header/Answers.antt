@@ -1,4 +1,4 @@
-use Rattle.std.proofs.Common.{◌≡◌, ◌∙◌, List, ℕ, None, Some, bytes_eq, position, sym, subst}
+use Rattle.std.proofs.Common.{◌≡◌, ◌∙◌, List, None, Some, bytes_eq, position, sym, subst}
 use Rattle.record_files.proofs.Headers.{header-read}
 use Rattle.record_files.specs.FirstFaults.{first_row_fault, long_fault}
 use Rattle.record_files.specs.Form.{Form, IsHeaderOf, header_in, version_of}

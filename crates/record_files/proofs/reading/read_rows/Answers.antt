@@ -1,10 +1,14 @@
-use Rattle.std.proofs.Common.{◌≡◌, ◌∷◌, None, Some, sym, ap, subst, ◌∙◌, arith, drop, take, take_all}
-use Rattle.record_files.proofs.FirstFaultLemmas.{IsReadTo-begin, IsReadTo-ends, IsReadTo-length, IsReadTo-next, IsReadTo-stops, IsReadTo-take, IsRowTaken-at, fault_behind-few, header-stops}
-use Rattle.record_files.specs.FirstFaults.{fault_behind, first_row_fault}
+use Rattle.std.proofs.Common.{◌≡◌, List, None, Some, sym, ap, subst, ◌∙◌, arith, drop, take_all}
+use Rattle.record_files.proofs.FirstFaultLemmas.{IsReadTo-begin, IsReadTo-ends, IsReadTo-length, IsReadTo-take, header-stops, row-passes, row-stops}
+use Rattle.record_files.specs.FirstFaults.{first_row_fault}
 use Rattle.record_files.specs.Form.{Form, header_in}
 use Rattle.record_files.specs.ReadTo.{IsReadTo}
-use Rattle.record_files.specs.Rows.{data_rows, rows}
-use Rattle.record_files.proofs.row_table.read_rows.Goals as goal
+use Rattle.record_files.specs.Rows.{Row, data_rows, rows}
+use Rattle.record_files.proofs.reading.read_rows.Goals as goal
+
+header-is : {form form' : Form} {rows rows' : List Row} → form ≡ form' → rows ≡ rows'
+    → header_in form rows ≡ header_in form' rows'
+header-is e f = λ j. header_in (e j) (f j)
 
 pub returns-in-Err : goal.returns-in-Err
 returns-in-Err g c =
@@ -35,40 +39,30 @@ returns-in-Some-2 g c =
     let rules = g.T.RowTable.rules c.args.beside.now in
     let bytes = c.args.bytes.now in
     let count = c.rows.count in
-    let row = c.in-Some.row in
     let left = c.next.new.self in
     let read = subst (IsReadTo rules bytes count) c.in-Some.ensures c.rows.invariant.read in
-    let earlier = take count (data_rows bytes) in
-    let header : c.in-Ok.header ≡ header_in rules.form (rows bytes) = c.in-Ok.ensures.result.1
-    ∙ (λ j. header_in (c.form-form.ensures j) (c.of_bytes-records.ensures j)) in
-    let taken = IsRowTaken-at _ _ _ _ _ c.in-Some-2.is (c.in_ok-fault.ensures {u = tt} earlier
-    c.rows.invariant.has (IsReadTo-length rules bytes count (row ∷ left) read)) in
-    let stop = IsReadTo-stops rules bytes count row left c.in-Some-2.fault read
-    (ap (λ h. fault_behind rules h earlier row) (sym header) ∙ taken.0) in
-    (stop.0, (count, stop.1, taken.1))
+    let stop = row-stops rules bytes count c.in-Some.row left c.in-Ok.header _ _ _ read
+    (c.in-Ok.ensures.result.1 ∙ header-is c.form-form.ensures c.of_bytes-records.ensures)
+    (c.in_ok-fault.ensures {u = tt} _ c.rows.invariant.has (IsReadTo-length rules bytes count _ read))
+    c.in-Some-2.fault c.in-Some-2.is in
+    (stop.0, (count, stop.1, stop.2))
 
 pub rows-preserved : goal.rows-preserved
 rows-preserved g c =
     let rules = g.T.RowTable.rules c.args.beside.now in
     let bytes = c.args.bytes.now in
     let count = c.rows.count in
-    let row = c.in-Some.row in
-    let left = c.next.new.self in
     let read = subst (IsReadTo rules bytes count) c.in-Some.ensures c.rows.invariant.read in
-    let earlier = take count (data_rows bytes) in
-    let header : c.in-Ok.header ≡ header_in rules.form (rows bytes) = c.in-Ok.ensures.result.1
-    ∙ (λ j. header_in (c.form-form.ensures j) (c.of_bytes-records.ensures j)) in
-    let size = IsReadTo-length rules bytes count (row ∷ left) read in
-    let taken = IsRowTaken-at _ _ _ _ _ c.in_default-2.is (c.in_ok-fault.ensures {u = tt} earlier
-    c.rows.invariant.has size) in
-    let none = ap (λ h. fault_behind rules h earlier row) (sym header) ∙ taken.0 in
-    let few = fault_behind-few rules c.in-Ok.header earlier row taken.0 in
+    let passed = row-passes rules bytes count c.in-Some.row c.next.new.self c.in-Ok.header _ _ _ read
+    (c.in-Ok.ensures.result.1 ∙ header-is c.form-form.ensures c.of_bytes-records.ensures)
+    (c.in_ok-fault.ensures {u = tt} _ c.rows.invariant.has (IsReadTo-length rules bytes count _ read))
+    c.in_default-2.is in
     let most = ap (λ (form : Form). form.most_rows) c.form-form.ensures in
     record {
-      few = omega arith;
-      read = IsReadTo-next rules bytes count row left read none;
+      few = omega (arith, passed.0, most);
+      read = passed.1;
       has = subst (λ all. g.T.RowTable.has_rows c.args.beside.now all c.read_row.new.table)
-          (sym (IsReadTo-take rules bytes count row left read)) taken.1;
+          (sym (IsReadTo-take rules bytes count c.in-Some.row c.next.new.self read)) passed.2;
     }
 
 pub returns : goal.returns

@@ -1,7 +1,7 @@
 use Rattle.std.proofs.Common.{◌≤◌, length, take}
 use Rattle.record_files.specs.ReadTo.{IsReadTo}
 use Rattle.record_files.specs.Rows.{data_rows}
-use Rattle.record_files.proofs.row_table.read_rows.Given as goal
+use Rattle.record_files.proofs.reading.read_rows.Given as goal
 
 -- the table has the rows so far, which have no fault
 abbrev pub invariant-rows : goal.invariant-rows
