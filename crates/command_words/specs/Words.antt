@@ -8,7 +8,7 @@ use Rattle.command_words.specs.declared.words.Command.{Command}
 use Rattle.command_words.specs.declared.words.Command.TheVariants.{Place}
 use Rattle.command_words.specs.declared.words.WordsFault.{WordsFault}
 use Rattle.command_words.specs.declared.words.WordsFault.TheVariants.{NoCommand, UnknownCommand, WordCount, BadNumber}
-use Rattle.command_words.specs.declared.words.TheConstants.{WORKERS, MOST_WORKERS}
+use Rattle.command_words.specs.declared.words.TheConstants.{WORKERS, MAX_WORKERS}
 
 -- a line of the grammar
 pub record CommandForm : Type 0 where
@@ -35,7 +35,7 @@ workers_in (Err kind) place = Err (BadNumber place)
 -- what stands behind the option's word, from this place on: one number
 abbrev pub number_behind : List (List ℕ) → ℕ → Result ℕ WordsFault
 number_behind [] place = Err (WordCount place)
-number_behind (word ∷ []) place = workers_in (number_of word 1 MOST_WORKERS) place
+number_behind (word ∷ []) place = workers_in (number_of word 1 MAX_WORKERS) place
 number_behind (word ∷ other ∷ more) place = Err (WordCount (place + 1))
 
 -- the number of workers that the words behind a command's own give, from this place on: none, or the

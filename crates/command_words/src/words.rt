@@ -11,7 +11,7 @@ use record_files::number;
 pub const WORKERS: u32 = 4;
 
 /// The most workers that the words may ask for.
-pub const MOST_WORKERS: u32 = 64;
+pub const MAX_WORKERS: u32 = 64;
 
 /// What the words of a command line ask for.
 ///
@@ -110,7 +110,7 @@ fn read_number(words: &[String], place: u32) -> Result<u32, WordsFault>
     if !behind.is_empty() {
         return Err(WordsFault::WordCount(place + 1));
     }
-    match number(word.as_bytes(), 1, u64::from(MOST_WORKERS)) {
+    match number(word.as_bytes(), 1, u64::from(MAX_WORKERS)) {
         Ok(workers) => Ok(workers as u32),
         Err(_) => Err(WordsFault::BadNumber(place)),
     }
