@@ -1,9 +1,10 @@
 #!/usr/bin/env python3
 """Times the program beside plain Rust on the same files: run.py SIZE..
 
-A size is one of small, middle, full and unlisted. Each market is made once under bench/out. For each program the time,
-the peak memory and the time of each phase are printed, and the ratio of the program to plain Rust. A phase ends where
-the program opens its next file, or writes its first byte; it is seen from outside, the same way for both programs.
+A size is one of small, middle, full and unlisted. Each market is made once under bench/out. The program runs with one
+worker and with four. For each run the wall time, the processor time, the peak memory and the wall time of each phase are
+printed, and the ratios to plain Rust, which has one thread. A phase ends where the program opens its next file, or writes
+its first byte; it is seen from outside, the same way for both programs.
 """
 import os
 import shutil
@@ -60,12 +61,28 @@ def open_file(pid, files):
     return at
 
 
-def timed(command, files):
-    """The output file, the seconds of all, the peak in MB, and the seconds of each phase."""
-    printed = os.path.join(OUT, "printed-" + os.path.basename(command))
+class Run:
+    """What a run came to: its output file, seconds of all and of the processors, peak in MB, phases, status."""
+
+    def __init__(self, printed, wall, usage, phases, status):
+        self.printed, self.wall, self.phases, self.status = printed, wall, phases, status
+        self.cpu, self.peak = usage.ru_utime + usage.ru_stime, usage.ru_maxrss / 1024
+
+    def text(self):
+        with open(self.printed, "rb") as printed:
+            return printed.read()
+
+    def line(self, name):
+        phases = " ".join("%.2f" % seconds for seconds in self.phases)
+        figures = (name, self.status, self.wall, self.cpu, self.peak, phases)
+        return "  %s status %d: wall %.2f s, processors %.2f s, peak %.0f MB, phases %s" % figures
+
+
+def timed(command, files, *words):
+    printed = os.path.join(OUT, "printed-" + "-".join([os.path.basename(command), *words]))
     with open(printed, "wb") as out:
         start = time.monotonic()
-        child = subprocess.Popen([command, "place", *files], stdout=out, stderr=subprocess.DEVNULL)
+        child = subprocess.Popen([command, "place", *files, *words], stdout=out, stderr=subprocess.DEVNULL)
         starts = [None] * len(files)
         while True:
             done, status, usage = os.wait4(child.pid, os.WNOHANG)
@@ -81,7 +98,7 @@ def timed(command, files):
     starts.append(now)
     known = [moment for moment in starts if moment is not None]
     phases = [after - before for before, after in zip(known, known[1:])]
-    return printed, now, usage.ru_maxrss / 1024, phases, os.waitstatus_to_exitcode(status)
+    return Run(printed, now, usage, phases, os.waitstatus_to_exitcode(status))
 
 
 def main():
@@ -93,14 +110,15 @@ def main():
     subprocess.run(["rustc", "-O", "-o", PLAIN, os.path.join(HERE, "plain.rs")], check=True)
     for size in sys.argv[1:] or ["small", "middle"]:
         files = files_of(size)
-        ours = timed(PROGRAM, files)
+        one = timed(PROGRAM, files, "--workers", "1")
+        four = timed(PROGRAM, files, "--workers", "4")
         plain = timed(PLAIN, files)
-        same = open(ours[0], "rb").read() == open(plain[0], "rb").read()
+        same = one.text() == plain.text() == four.text()
         print("%s: %s" % (size, "the same text" if same else "ANOTHER TEXT"))
-        for name, run in (("place", ours), ("plain", plain)):
-            phases = " ".join("%.2f" % seconds for seconds in run[3])
-            print("  %s status %d: %.2f s, peak %.0f MB, phases %s" % (name, run[4], run[1], run[2], phases))
-        print("  ratio of times %.2f" % (ours[1] / plain[1]))
+        for name, run in (("one worker", one), ("four workers", four), ("plain", plain)):
+            print(run.line(name))
+        print("  processors, one worker to plain %.2f" % (one.cpu / plain.cpu))
+        print("  wall, four workers to one %.2f, to plain %.2f" % (four.wall / one.wall, four.wall / plain.wall))
 
 
 main()
