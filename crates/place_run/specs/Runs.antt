@@ -71,7 +71,7 @@ abbrev pub IsWordsStop : {T : Type 0} → Result T Stop → Type 0
 IsWordsStop result = (refused : WordsFault) × IsErrOf result (Words refused)
 
 -- The run: there is an answer to the words, and it was written.
-pub record IsRun {K : Type 0} (written : K → Option (List ℕ)) (faults : K → ℕ)
+pub record IsAnsweredRun {K : Type 0} (written : K → Option (List ℕ)) (faults : K → ℕ)
     (told : Option Files) (words : List (List ℕ)) (status : Status) (old new : K)
     (before now tally_before tally_now : ℕ) : Type 0 where
   pub answer : Result Answer Stop

@@ -3,7 +3,7 @@ ghost use Rattle.std.specs.Prelude.{◌≡◌, ◌≤◌};
 ghost use Rattle.command_words.specs.Words.{command_of, texts};
 ghost use Rattle.place_edges.specs.Causes.{Rose};
 ghost use Rattle.run_frame.specs.Lines.{IsNoted};
-ghost use Rattle.place_run.specs.Runs.{HasCause, IsComplete, IsConstant, IsFinished, IsRun, IsWordsRefusal, LeavesSink, PrintsWorstStable};
+ghost use Rattle.place_run.specs.Runs.{HasCause, IsComplete, IsConstant, IsFinished, IsAnsweredRun, IsWordsRefusal, LeavesSink, PrintsWorstStable};
 ghost use Rattle.place_run.specs.Says.{MayOpen};
 ghost use Rattle.place_run.specs.Statuses.{status_line};
 
@@ -42,7 +42,7 @@ pub fn run_words<R: Threads + Sync, H: Shelf, K: Sink, N: Sink, G: Gate>(
 
     // Over the bytes that were read, which are those held where the shelf tells them, the status,
     // the text and its promise are those of the words. Each file is read once.
-    ensures run { IsRun K.written K.faults (H.files shelf.old) (texts words.now) result
+    ensures run { IsAnsweredRun K.written K.faults (H.files shelf.old) (texts words.now) result
         out.old out.new (H.faults shelf.old) (H.faults shelf.new)
         (H.tally shelf.old) (H.tally shelf.new) }
 
