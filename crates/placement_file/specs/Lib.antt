@@ -1,0 +1,2 @@
+-- the text of a placement
+pub mod Texts
