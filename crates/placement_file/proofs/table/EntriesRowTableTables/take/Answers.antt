@@ -5,7 +5,8 @@ use Rattle.placement_file.proofs.table.EntriesRowTableTables.take.Goals as goal
 
 -- a candidate that was looked up by the number of its word
 looked-up : (candidates : List ℕ) (number given index : ℕ) → given ≡ number
-    → Some index ≡ position (nat_eq given) candidates → position (nat_eq number) candidates ≡ Some index
+    → Some index ≡ position (nat_eq given) candidates
+    → position (nat_eq number) candidates ≡ Some index
 looked-up candidates number given index e found =
     ap (λ (n : ℕ). position (nat_eq n) candidates) (sym e) ∙ sym found
 
@@ -17,7 +18,8 @@ returns-in-Some-index g c = λ earlier row has says.
     let index = c.in-Some.index in
     let found = looked-up candidates c.args.fields.number c.get.result index c.get.ensures.value
     c.in-Some.ensures in
-    let within = entry-within programmes candidates earlier row entries c.args.fields has says index found in
+    let within = entry-within programmes candidates earlier row entries c.args.fields has says index
+    found in
     let known = sym (get_or_read entries index c.index.result.now within c.index.ensures None)
     ∙ c.in-Some-index.is in (
       meaning-repeated programmes candidates earlier row entries c.args.fields has says index found
@@ -33,7 +35,8 @@ returns-in-Err g c = λ earlier row has says.
     let index = c.in-Some.index in
     let found = looked-up candidates c.args.fields.number c.get.result index c.get.ensures.value
     c.in-Some.ensures in
-    let within = entry-within programmes candidates earlier row entries c.args.fields has says index found in
+    let within = entry-within programmes candidates earlier row entries c.args.fields has says index
+    found in
     let free = sym (get_or_read entries index c.index.result.now within c.index.ensures None)
     ∙ c.in_default-index.is in (
       meaning-new programmes candidates earlier row entries c.args.fields has says index found free
@@ -49,7 +52,8 @@ returns g c = λ earlier row has says.
     let index = c.in-Some.index in
     let found = looked-up candidates c.args.fields.number c.get.result index c.get.ensures.value
     c.in-Some.ensures in
-    let within = entry-within programmes candidates earlier row entries c.args.fields has says index found in
+    let within = entry-within programmes candidates earlier row entries c.args.fields has says index
+    found in
     let free = sym (get_or_read entries index c.index.result.now within c.index.ensures None)
     ∙ c.in_default-index.is in (
       meaning-new programmes candidates earlier row entries c.args.fields has says index found free
