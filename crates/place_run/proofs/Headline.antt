@@ -24,7 +24,8 @@ use Rattle.run_frame.specs.declared.stop.FileStop.TheVariants as unread
 use Rattle.place_run.specs.Runs.{IsAnswering, IsReading}
 use Rattle.place_run.specs.Says.{Answer, and_then, answered, done, opened, tables_read, tables_said}
 use Rattle.place_run.specs.Tables.{HasNoFault, Tables, ThreeFiles, candidates_said, codes_in, fault_or, judged, numbers_in, problem_of, programmes_said, ranks_said, tables_in}
-use Rattle.place_run.specs.commands.Place.{AreThree, IsPlaced, IsWorstStableText, placement_of, placement_text}
+use Rattle.placement_file.specs.Texts.{placement_text}
+use Rattle.place_run.specs.commands.Place.{AreThree, IsPlaced, IsWorstStableText, placement_of}
 use Rattle.place_run.specs.declared.status.Stop.{Stop}
 use Rattle.place_run.specs.declared.status.Stop.TheVariants.{File, Words}
 use Rattle.place_run.proofs.Judging.{judged-short, judged-long}

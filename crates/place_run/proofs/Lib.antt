@@ -3,6 +3,5 @@ pub mod Headline
 pub mod Judging
 pub mod LineTexts
 pub mod Markets
-pub mod PlacementTexts
 pub mod Readings
 pub mod TableFaults

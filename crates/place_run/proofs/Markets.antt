@@ -20,7 +20,8 @@ use Rattle.candidate_table.specs.Table.{IsPreferenceList, numbers_of}
 use Rattle.rank_lists.specs.Table.{RankTable, ranks_table}
 use Rattle.rank_lists.specs.Table.{IsSound}
 use Rattle.place_run.specs.Tables.{Tables, problem_of, problem_with}
-use Rattle.place_run.specs.commands.Place.{IsPlaced, placement_of, placement_text}
+use Rattle.placement_file.specs.Texts.{placement_text}
+use Rattle.place_run.specs.commands.Place.{IsPlaced, placement_of}
 
 -- a ranks file gives an order to each type
 pub types-in-ranks : (names : List (List ℕ)) (numbers bytes : List ℕ)

@@ -17,7 +17,8 @@ use Rattle.place_run.specs.Says.{KeepsPromise, Answer, files_read, first_file, n
 use Rattle.place_run.specs.Statuses.{ended, status_of}
 use Rattle.place_run.specs.Stops.{is_free}
 use Rattle.place_run.specs.Tables.{HasNoFault, ThreeFiles, codes_in, numbers_in, problem_of, tables_in}
-use Rattle.place_run.specs.commands.Place.{AreThree, IsWorstStableText, placement_text}
+use Rattle.placement_file.specs.Texts.{placement_text}
+use Rattle.place_run.specs.commands.Place.{AreThree, IsWorstStableText}
 use Rattle.place_run.specs.declared.status.Status.{Status}
 use Rattle.place_run.specs.declared.status.Status.TheVariants as ends
 use Rattle.place_run.specs.declared.status.Stop.{Stop}

@@ -1,12 +1,11 @@
 // The placement of three files.
-ghost use Rattle.std.specs.Prelude.{◌≡◌, ◌<◌, ◌≤◌, ◌++◌, ℕ, IfOk, OnOk, Option, length};
-ghost use Rattle.command_words.specs.Words.{command_of, texts};
+
+ghost use Rattle.std.specs.Prelude.{◌≡◌, ◌≤◌, IfOk, Ok, length};
+ghost use Rattle.command_words.specs.Words.{texts};
 ghost use Rattle.command_words.specs.declared.words.Command.TheVariants as command;
-ghost use Rattle.std.specs.Prelude.{Ok};
-ghost use Rattle.market.specs.Stability.{held_by};
 ghost use Rattle.place_run.specs.Runs.{IsAnswering};
 ghost use Rattle.place_run.specs.Says.{MayOpenTables};
-ghost use Rattle.place_run.specs.commands.Place.{IsPlaced, candidate_row, placement_text as placement_text_of};
+ghost use Rattle.place_run.specs.commands.Place.{IsPlaced};
 
 use crate::answer::Answer;
 use crate::inputs::Inputs;
@@ -14,9 +13,8 @@ use crate::placing::placement_by;
 use crate::problem::Problem;
 use crate::status::Stop;
 use gate_workers::Gate;
-use place_base::Finder;
 use place_edges::Shelf;
-use record_files::{Field, put_row_2};
+use placement_file::placement_text;
 use stable_laws::worst_stable;
 use std::alloc::{AllocError, Global};
 use std::thread::Threads;
@@ -59,52 +57,4 @@ fn placed_text<R: Threads + Sync, G: Gate>(
     let placement = placement_by(rt, alloc, &problem.market, workers, gate)?;
     let held = placement.held();
     placement_text(alloc, held, &problem.programmes, &problem.numbers)
-}
-
-// The text of a placement: what each candidate holds, as an index of a programme.
-fn placement_text<P: Finder, C: Finder>(
-    alloc: Global,
-    held: &[Option<u32>],
-    programmes: &P,
-    candidates: &C,
-) -> Result<Vec<u8>, AllocError>
-    requires candidates { length held.now ≡ length (C.numbers candidates.now) }
-    requires programmes { (i p : ℕ) → held_by held.now i ≡ Option.Some p
-        → p < length (P.numbers programmes.now) }
-    ensures { IfOk result (λ text. text.items
-        ≡ placement_text_of (P.numbers programmes.now) (C.numbers candidates.now) held.now) }
-{
-    let mut bytes = Vec::new(alloc);
-    put_row_2(
-        &mut bytes,
-        Field::Text(b"candidate"),
-        Field::Text(b"programme"),
-    )?;
-    // its clause says that the candidates' indexes fit 32 bits
-    let _count = candidates.count();
-    for (index, programme) in held.iter().enumerate() {
-        let number = candidates.number_at(index as u32);
-        put_candidate(&mut bytes, number, *programme, programmes)?;
-    }
-    Ok(bytes)
-}
-
-// Appends the row of a candidate.
-fn put_candidate<P: Finder>(
-    out: &mut Vec<u8>,
-    number: u64,
-    held: Option<u32>,
-    programmes: &P,
-) -> Result<(), AllocError>
-    requires { (p : ℕ) → held ≡ Option.Some p → p < length (P.numbers programmes.now) }
-    ensures { OnOk result
-        (out.new.items ≡ out.old.items ++ candidate_row (P.numbers programmes.now) (number, held)) }
-{
-    match held {
-        Some(programme) => {
-            let code = programmes.number_at(programme);
-            put_row_2(out, Field::Number(number), Field::Number(code))
-        }
-        None => put_row_2(out, Field::Number(number), Field::Text(b"-")),
-    }
 }

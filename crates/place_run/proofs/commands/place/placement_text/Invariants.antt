@@ -1,9 +1,0 @@
-use Rattle.std.proofs.Common.{◌≡◌}
-use Rattle.place_run.proofs.PlacementTexts.{text_to}
-use Rattle.place_run.proofs.commands.place.placement_text.Given as goal
-
--- the header and the rows of the candidates before this one were written
-abbrev pub invariant-loop-index : goal.invariant-loop-index
-invariant-loop-index g l =
-    l.bytes.items ≡ text_to (g.P.Finder.numbers l.programmes) (g.C.Finder.numbers l.candidates)
-    l.held l.index
