@@ -38,8 +38,8 @@ number_behind [] place = Err (WordCount place)
 number_behind (word ∷ []) place = workers_in (number_of word 1 MAX_WORKERS) place
 number_behind (word ∷ other ∷ more) place = Err (WordCount (place + 1))
 
--- the number of workers that the words behind a command's own give, from this place on: none, or the
--- option and a number
+-- the number of workers that the words behind a command's own give, from this place on: none,
+-- or the option and a number
 abbrev pub workers_of : List (List ℕ) → ℕ → Result ℕ WordsFault
 workers_of [] place = Ok WORKERS
 workers_of (word ∷ more) place =

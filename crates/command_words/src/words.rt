@@ -18,8 +18,8 @@ pub const MAX_WORKERS: u32 = 64;
 /// File names are no part of it: they stand at fixed places of the words.
 #[derive(Clone, Copy, Debug, PartialEq, Eq)]
 pub enum Command {
-    /// The placement of three files, by this number of workers, 1 to 64. It also bounds the parts in
-    /// which each file may be read; the outcome does not depend on it.
+    /// The placement of three files, by this number of workers, 1 to 64. It also bounds the
+    /// parts in which each file may be read; the outcome does not depend on it.
     Place(u32),
 }
 

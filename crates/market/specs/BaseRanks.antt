@@ -20,6 +20,6 @@ abbrev pub worst_of : List (Option ℕ) → Option ℕ
 worst_of [] = None
 worst_of (rank ∷ ranks) = worse_of rank (worst_of ranks)
 
--- the base rank of p: the worst rank among its holders, or none where it has no holder
+-- the base rank of p: the worst rank among its holders, or none where no holder has one
 unfoldable pub base_rank : Problem → List (Option ℕ) → ℕ → Option ℕ
 base_rank m held p = worst_of (map (rank_of m (kind_of m p)) (holders_of held p))

@@ -1,6 +1,6 @@
 -- In a stable placement a full entry's programme has as many holders as its quota, and each has a
--- better rank than the candidate: the candidate finds it acceptable and prefers it to what is held, so
--- a free seat or a holder of worse rank would make the two block the placement.
+-- better rank than the candidate: the candidate finds it acceptable and prefers it to what is
+-- held, so a free seat or a holder of worse rank would make the two block the placement.
 use Rattle.std.proofs.Common.{◌≡◌, ℕ, ◌<◌, ◌≤◌, Bool, true, false, List, length, Option, Some, None, refl, sym, ap, ◌∙◌, arith, get_or, take, inl, inr, ⊎_elim}
 use Rattle.std.specs.Prelude.{if◌then◌else◌, slice_index, ◌==◌}
 use Rattle.std.specs.List.{list_any}

@@ -1,4 +1,5 @@
--- The base rank is the rank of a holder, and no holder has a worse one: by induction on the candidates.
+-- The base rank is the rank of a holder, and no holder has a worse one: by induction on the
+-- candidates.
 use Rattle.std.proofs.Common.{◌≡◌, ℕ, zero, suc, ◌+◌, ◌<◌, ◌≤◌, Bool, true, false, List, length, Option, Some, None, inl, inr, refl, sym, ap, ◌∙◌, subst, arith, max, ◌⊎◌, ⊎_elim}
 use Rattle.std.specs.Prelude.{if◌then◌else◌}
 use Rattle.std.proofs.lemmas.Bool.{cases_Bool, cases_lt, false≢true}

@@ -6,7 +6,8 @@ use Rattle.market.specs.Stability.{held_by, IsBetter}
 use Rattle.reports.specs.Reasons.{entry_at, reason_of}
 use Rattle.reports.specs.declared.reasons.Reason.TheVariants.{Full}
 
--- programme p has as many holders as its quota, and each has a better rank in its type than candidate i
+-- programme p has as many holders as its quota, and each has a better rank in its type than
+-- candidate i
 pub record IsFilledByBetter (m : Problem) (held : List (Option ℕ)) (i p : ℕ) : Type 0 where
   pub full : count_of p held ≡ quota_of m p
   pub better : (j : ℕ) → held_by held j ≡ Some p

@@ -13,8 +13,9 @@ abbrev pub stands_before : List ℕ → Option ℕ → ℕ → Bool
 stands_before list None place = false
 stands_before list (Some p) place = list_any (λ q. q == p) (take place list)
 
--- the reason of programme p at a place of a candidate's list: it is held; else a programme before it
--- is held; else the candidate has no rank in its type; else it is full, with this base rank
+-- the reason of programme p at a place of a candidate's list: it is held; else a programme
+-- before it is held; else the candidate has no rank in its type; else it is full, with this
+-- base rank
 abbrev pub reason_by : Problem → ℕ → Option ℕ → ℕ → ℕ → Option ℕ → Reason
 reason_by m i held place p base =
     if is_programme p held then Placed

@@ -25,7 +25,8 @@ impl Model for BaseRanks {
 }
 
 /// The base ranks of a placement whose programmes are those of the market; nothing but memory is
-/// refused. A holder without a rank in the programme's score type is counted, and sets no base rank.
+/// refused. A holder without a rank in the programme's score type is counted, and sets no base
+/// rank.
 pub fn base_ranks(
     alloc: Global,
     market: &Market,
@@ -52,7 +53,8 @@ pub fn base_ranks(
 }
 
 impl BaseRanks {
-    /// The worst rank among the holders of a programme, None exactly where nobody holds it.
+    /// The worst rank among the holders of a programme, None where no holder has a rank in its
+    /// score type; where each holder has one, None exactly where nobody holds it.
     pub fn base(&self, programme: u32) -> Option<u32>
         requires { programme < length self.now.bases }
         ensures { result ≡ base_of self.now programme }

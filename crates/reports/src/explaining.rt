@@ -9,7 +9,8 @@ ghost use Rattle.reports.specs.Reasons.{entry_at, reason_of, stands_before};
 use crate::{BaseRanks, Reason};
 use market::{Market, Placement};
 
-/// The reason of the entry at a place of a candidate's list, beside the base ranks of the placement.
+/// The reason of the entry at a place of a candidate's list, beside the base ranks of the
+/// placement.
 pub fn reason(
     market: &Market,
     placement: &Placement,

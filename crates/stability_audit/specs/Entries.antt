@@ -21,8 +21,8 @@ pub record IsFirstEntry (m : Problem) (held : List (Option ℕ)) (i p : ℕ) : T
   pub first : (q : ℕ) → place_of q (list_of m i) < place_of p (list_of m i)
       → IsBlocking m held i q → ⊥
 
--- what a look through the candidate's list gives: the first entry with which it blocks, or none where
--- it blocks with no programme
+-- what a look through the candidate's list gives: the first entry with which it blocks, or none
+-- where it blocks with no programme
 abbrev pub IsLookedThrough : Problem → List (Option ℕ) → ℕ → Option ℕ → Type 0
 IsLookedThrough m held i (Some p) = IsFirstEntry m held i p
 IsLookedThrough m held i None = (p : ℕ) → IsBlocking m held i p → ⊥

@@ -19,14 +19,15 @@ pub record IsFirstOverQuota (m : Problem) (held : List (Option ℕ)) (p : ℕ) :
   pub over : IsOverQuota m held p
   pub first : (q : ℕ) → q < p → IsOverQuota m held q → ⊥
 
--- no programme is over its quota, and this is the first candidate who holds one that is not acceptable
+-- no programme is over its quota, and this is the first candidate who holds one that is not
+-- acceptable
 pub record IsFirstNotAcceptable (m : Problem) (held : List (Option ℕ)) (i : ℕ) : Type 0 where
   pub quotas : (p : ℕ) → IsOverQuota m held p → ⊥
   pub unacceptable : HoldsAcceptable m held i → ⊥
   pub first : (j : ℕ) → j < i → HoldsAcceptable m held j
 
--- all hold what is acceptable and no programme is over its quota; the pair blocks, no earlier candidate
--- blocks with any programme, nor this one with a programme listed before
+-- all hold what is acceptable and no programme is over its quota; the pair blocks, no earlier
+-- candidate blocks with any programme, nor this one with a programme listed before
 pub record IsFirstBlocking (m : Problem) (held : List (Option ℕ)) (i p : ℕ) : Type 0 where
   pub quotas : (q : ℕ) → IsOverQuota m held q → ⊥
   pub acceptable : (j : ℕ) → HoldsAcceptable m held j
@@ -35,8 +36,8 @@ pub record IsFirstBlocking (m : Problem) (held : List (Option ℕ)) (i p : ℕ) 
   pub first_entry : (q : ℕ) → place_of q (list_of m i) < place_of p (list_of m i)
       → IsBlocking m held i q → ⊥
 
--- this is the first verdict, in this order: programmes over their quota, candidates who hold a programme
--- that is not acceptable, blocking pairs by candidate and list, stable
+-- this is the first verdict, in this order: programmes over their quota, candidates who hold a
+-- programme that is not acceptable, blocking pairs by candidate and list, stable
 abbrev pub IsVerdict : Problem → List (Option ℕ) → Verdict → Type 0
 IsVerdict m held Stable = IsStable m held
 IsVerdict m held (OverQuota p) = IsFirstOverQuota m held p

@@ -1,4 +1,5 @@
--- The chain finds the first line of the table with the word, and the table's lines stand for the grammar's.
+-- The chain finds the first line of the table with the word, and the table's lines stand for
+-- the grammar's.
 use Rattle.std.proofs.Common.{◌≡◌, Bool, true, false, cond, List, [], ◌∷◌, map, find, Some, refl, sym, ap, ◌∙◌, rules, tests}
 use Rattle.std.specs.Option.{option_map}
 use Rattle.std.specs.Str.{bytes_eq}

@@ -11,7 +11,9 @@ unfolding quota_of
 returns-then-quota-held c =
     let p = c.loop-programme.programme in
     let quota = ap (λ (q : Prog). q.quota) c.programme-quota.ensures in
-    let held = c.held.ensures ∙ c.requires.bases.holders p (subst (λ (n : ℕ). p < n) c.programme_count-programme-end.ensures c.loop-programme-test.true) in
+    let within = subst (λ (n : ℕ). p < n) c.programme_count-programme-end.ensures
+        c.loop-programme-test.true in
+    let held = c.held.ensures ∙ c.requires.bases.holders p within in
     record { over = omega arith; first = c.loop-programme.invariant }
 
 pub loop-programme-preserved : goal.loop-programme-preserved
@@ -19,7 +21,9 @@ unfolding quota_of
 loop-programme-preserved c q l over =
     let p = c.loop-programme.programme in
     let quota = ap (λ (q : Prog). q.quota) c.programme-quota.ensures in
-    let held = c.held.ensures ∙ c.requires.bases.holders p (subst (λ (n : ℕ). p < n) c.programme_count-programme-end.ensures c.loop-programme-test.true) in
+    let within = subst (λ (n : ℕ). p < n) c.programme_count-programme-end.ensures
+        c.loop-programme-test.true in
+    let held = c.held.ensures ∙ c.requires.bases.holders p within in
     ⊎_elim
     (λ less. c.loop-programme.invariant q less over)
     (λ past.
