@@ -1,20 +1,46 @@
 // Runs over files in memory, which a reader can check by hand.
-ghost use Rattle.std.specs.Prelude.{◌≤◌, ◌<◌};
+ghost use Rattle.std.specs.Prelude.{◌≡◌, ◌≤◌, ◌<◌, IfOk, length};
 
+// Files with a fault.
 mod faulty_files;
+// Gates that count turns.
+mod gates;
+// Markets that are placed.
+mod worked_markets;
 
 use self::faulty_files::FAULTY;
+use self::gates::{Draws, DrawsInPairs};
+use self::worked_markets::{
+    CHAIN_CANDIDATES, CHAIN_PLACED, CHAIN_PROGRAMMES, CHAIN_RANKS, MARKETS,
+};
+use crate::inputs::Inputs;
+use crate::problem::Problem;
+use crate::status::Stop;
 use crate::{Status, run_words};
 use command_words::WordsFault;
-use gate_workers::OpenGate;
+use gate_workers::{Gate, OpenGate};
+use market::{Placer, Steps};
 use place_edges::{MemShelf, MemSink, SureShelf, SureSink};
 use record_files::{Field, put_row_2, put_row_3};
+use round_rerun::Rounds;
 use std::alloc::{AllocError, Global};
+use std::marker::Brand;
 use std::process::Abort;
+use std::sync::ledger::{Blank, Ledger};
 use std::test::Fail;
 use std::thread::Threads;
 
 const PLACE: [&str; 4] = ["place", "p", "c", "r"];
+
+const BY_TWO: [&str; 6] = ["place", "p", "c", "r", "--workers", "2"];
+
+// The same by one worker, by two, by as many as when the words say nothing, and by the most.
+const PLACE_BY: [&[&str]; 4] = [
+    &["place", "p", "c", "r", "--workers", "1"],
+    &BY_TWO,
+    &PLACE,
+    &["place", "p", "c", "r", "--workers", "64"],
+];
 
 // The files of the freed seat: the first candidate is best in both types, takes both seats, and is
 // cut.
@@ -58,19 +84,18 @@ fn shelf(alloc: Global, files: &[(&str, &[u8])]) -> Result<MemShelf, AllocError>
     Ok(shelf)
 }
 
-// Runs these words over this shelf.
+// Runs these words over this shelf, with this gate.
 fn run(
     rt: &(impl Threads + Sync),
     alloc: Global,
     texts: &[&str],
     mut shelf: MemShelf,
+    gate: &impl Gate,
 ) -> Result<Ran, AllocError> {
     let mut out = MemSink::new(alloc, 16, 65_536)?;
     let mut notes = MemSink::new(alloc, 16, 65_536)?;
     let words = words(alloc, texts)?;
-    let status = run_words(
-        rt, alloc, &words, &mut shelf, &mut out, &mut notes, &OpenGate,
-    );
+    let status = run_words(rt, alloc, &words, &mut shelf, &mut out, &mut notes, gate);
     Ok(Ran {
         status,
         out,
@@ -80,16 +105,18 @@ fn run(
     })
 }
 
-// Runs these words over this shelf, and compares the number of the status, both texts, how often
-// the shelf failed, and how often it was called: a file of one piece has an open and two takes.
+// Runs these words over this shelf, with this gate, and compares the number of the status, both
+// texts, how often the shelf failed, and how often it was called: a file of one piece has an open
+// and two takes.
 fn ends(
     rt: &(impl Threads + Sync + Abort),
     alloc: Global,
     texts: &[&str],
     shelf: MemShelf,
+    gate: &impl Gate,
     (code, out, note, faults, calls): (u8, &[u8], &[u8], u64, u64),
 ) -> Result<Status, Fail> {
-    let ran = run(rt, alloc, texts, shelf)?;
+    let ran = run(rt, alloc, texts, shelf, gate)?;
     assert_eq!(rt; ran.status.code(), code);
     assert_eq!(rt; ran.out.bytes(), out);
     assert_eq!(rt; ran.notes.bytes(), note);
@@ -97,114 +124,114 @@ fn ends(
     Ok(ran.status)
 }
 
-// Programmes, candidates and ranks, and what is placed.
-const MARKETS: [(&[u8], &[u8], &[u8], &[u8]); 12] = [
-    // An exchange: both candidates want the other's programme, and hold the one in which their rank
-    // is better.
-    (
-        PROGRAMMES,
-        b"candidate,list\n1,101;201\n2,201;101\n",
-        b"candidate,type,rank\n2,SAY,1\n1,SAY,2\n1,EA,1\n2,EA,2\n",
-        b"candidate,programme\n1,201\n2,101\n",
-    ),
-    (PROGRAMMES, CANDIDATES, RANKS, PLACED),
-    // One cut leads to the next: three rounds.
-    (
-        b"programme,type,quota\n11,A,1\n12,A,1\n21,B,1\n",
-        b"candidate,list\n1,11;21\n2,21;11;12\n3,12\n",
-        b"candidate,type,rank\n1,A,1\n2,A,2\n3,A,3\n1,B,1\n2,B,2\n3,B,3\n",
-        b"candidate,programme\n1,11\n2,21\n3,12\n",
-    ),
-    // Headers alone.
-    (
-        b"programme,type,quota\n",
-        b"candidate,list\n",
-        b"candidate,type,rank\n",
-        b"candidate,programme\n",
-    ),
-    // No seat.
-    (
-        b"programme,type,quota\n101,SAY,0\n",
-        b"candidate,list\n1,101\n",
-        b"candidate,type,rank\n1,SAY,1\n",
-        b"candidate,programme\n1,-\n",
-    ),
-    // No rank at all.
-    (
-        b"programme,type,quota\n101,SAY,1\n",
-        b"candidate,list\n1,101\n",
-        b"candidate,type,rank\n",
-        b"candidate,programme\n1,-\n",
-    ),
-    // No rank, and an empty list.
-    (
-        b"programme,type,quota\n101,SAY,1\n",
-        b"candidate,list\n1,101\n2,\n",
-        b"candidate,type,rank\n2,SAY,1\n",
-        b"candidate,programme\n1,-\n2,-\n",
-    ),
-    // Ranks of an unknown candidate and in an unknown type.
-    (
-        PROGRAMMES,
-        CANDIDATES,
-        b"candidate,type,rank\n1,SAY,1\n2,SAY,2\n1,EA,1\n2,EA,2\n99,SAY,7\n1,TYT,1\n",
-        PLACED,
-    ),
-    // A list of 24 entries.
-    (
-        TWENTY_FIVE_PROGRAMMES,
-        b"candidate,list\n1,1;2;3;4;5;6;7;8;9;10;11;12;13;14;15;16;17;18;19;20;21;22;23;24\n",
-        b"candidate,type,rank\n1,A,1\n",
-        b"candidate,programme\n1,1\n",
-    ),
-    // A byte order mark, lines that end in CR LF, an empty line, no last LF.
-    (
-        b"\xef\xbb\xbfprogramme,type,quota\r\n\r\n101,SAY,1\r\n201,EA,1",
-        CANDIDATES,
-        RANKS,
-        PLACED,
-    ),
-    // The limits of numbers and of a type name, and leading zeros.
-    (
-        b"programme,type,quota\n999999999,ABCDEFG8,100000\n7,EA,007\n",
-        b"candidate,list\n99999999999,0007;0999999999\n",
-        b"candidate,type,rank\n99999999999,ABCDEFG8,99999999\n",
-        b"candidate,programme\n99999999999,999999999\n",
-    ),
-    // Five score types.
-    (
-        b"programme,type,quota\n102210277,SAY,2\n103910169,EA,1\n105510032,SOZ,1\n106510077,DIL,1\n\
-        202110455,TYT,1\n",
-        b"candidate,list\n10000000146,102210277;103910169\n\
-        10000000238,103910169;105510032;202110455\n10000000320,102210277;202110455\n\
-        10000000412,106510077\n",
-        b"candidate,type,rank\n10000000146,SAY,1204\n10000000146,EA,3310\n10000000146,TYT,2050\n\
-        10000000238,EA,5121\n10000000238,SOZ,877\n10000000238,TYT,40211\n10000000320,SAY,98004\n\
-        10000000320,TYT,61200\n10000000412,TYT,15000\n10000000412,DIL,412\n",
-        b"candidate,programme\n10000000146,102210277\n10000000238,103910169\n\
-        10000000320,102210277\n10000000412,106510077\n",
-    ),
-];
+// The words of `place`, four of them.
+fn place_words(alloc: Global) -> Result<Vec<String>, AllocError>
+    ensures { IfOk result (λ words. length words.items ≡ 4) }
+{
+    let place = String::from_str(alloc, "place")?;
+    let programmes = String::from_str(alloc, "p")?;
+    let candidates = String::from_str(alloc, "c")?;
+    let ranks = String::from_str(alloc, "r")?;
+    Ok(vec![in alloc; place, programmes, candidates, ranks]?)
+}
 
-// Each three files are placed so.
-fn are_placed(
+// The rounds, the cuts and the turns of these files, which two workers place.
+fn counts_of<R: Threads + Sync>(
+    rt: &R,
+    alloc: Global,
+    shelf: MemShelf,
+) -> Result<(u32, u32, u64), Stop> {
+    counts_by::<R, Brand>(rt, alloc, shelf, Blank::new(1))
+}
+
+// The same with a counter of turns of any ledger.
+fn counts_by<R: Threads + Sync, L: Ledger>(
+    rt: &R,
+    alloc: Global,
+    mut shelf: MemShelf,
+    blank: Blank,
+) -> Result<(u32, u32, u64), Stop>
+    requires ledger { (blank.name ≡ L.name) × (blank.parts ≡ L.parts) × (0 < blank.parts) }
+{
+    let words = place_words(alloc)?;
+    let inputs = Inputs::read(rt, alloc, &words, &mut shelf, 2)?;
+    let problem = Problem::build(rt, alloc, inputs, 2)?;
+    let mut turns = Steps::<L>::new(blank);
+    let outcome = Rounds::new(2, &OpenGate).place(rt, alloc, &problem.market, &mut turns)?;
+    Ok((outcome.rounds, outcome.cuts, outcome.turns))
+}
+
+// Each three files have so many rounds, cuts and turns.
+fn are_counted(
     rt: &(impl Threads + Sync + Abort),
     alloc: Global,
-    markets: &[(&[u8], &[u8], &[u8], &[u8])],
+    markets: &[(&[u8], &[u8], &[u8], &[u8], (u32, u32, u64))],
 ) -> Result<(), Fail> {
-    for (programmes, candidates, ranks, placed) in markets {
+    for (programmes, candidates, ranks, _placed, counts) in markets {
         let shelf = shelf(
             alloc,
             &[("p", *programmes), ("c", *candidates), ("r", *ranks)],
         )?;
-        ends(rt, alloc, &PLACE, shelf, (0, *placed, b"", 0, 9))?;
+        let found = counts_of(rt, alloc, shelf);
+        assert_eq!(rt; found.ok(), Some(*counts));
     }
     Ok(())
 }
 
 #[test]
-fn files_without_a_fault_are_placed(rt: HostRuntime) -> Result<(), Fail> {
-    are_placed(&rt, rt.alloc(), &MARKETS)
+fn only_what_a_cut_changed_is_run_again(rt: HostRuntime) -> Result<(), Fail> {
+    are_counted(&rt, rt.alloc(), &MARKETS)
+}
+
+// These words place each three files so, and their workers draw so many turns.
+fn are_placed(
+    rt: &(impl Threads + Sync + Abort),
+    alloc: Global,
+    texts: &[&str],
+    markets: &[(&[u8], &[u8], &[u8], &[u8], (u32, u32, u64))],
+) -> Result<(), Fail> {
+    for (programmes, candidates, ranks, placed, (_rounds, _cuts, turns)) in markets {
+        let shelf = shelf(
+            alloc,
+            &[("p", *programmes), ("c", *candidates), ("r", *ranks)],
+        )?;
+        let gate = Draws::none();
+        ends(rt, alloc, texts, shelf, &gate, (0, *placed, b"", 0, 9))?;
+        assert_eq!(rt; gate.several(), *turns);
+    }
+    Ok(())
+}
+
+#[test]
+fn files_without_a_fault_are_placed_by_any_number_of_workers(rt: HostRuntime) -> Result<(), Fail> {
+    for texts in PLACE_BY {
+        are_placed(&rt, rt.alloc(), texts, &MARKETS)?;
+    }
+    Ok(())
+}
+
+const CHAIN: [(&str, &[u8]); 3] = [
+    ("p", CHAIN_PROGRAMMES),
+    ("c", CHAIN_CANDIDATES),
+    ("r", CHAIN_RANKS),
+];
+
+#[test]
+fn two_workers_draw_the_turns_of_three_rounds_side_by_side(rt: HostRuntime) -> Result<(), Fail> {
+    let alloc = rt.alloc();
+    let gate = DrawsInPairs::none();
+    let shelf = shelf(alloc, &CHAIN)?;
+    ends(
+        &rt,
+        alloc,
+        &BY_TWO,
+        shelf,
+        &gate,
+        (0, CHAIN_PLACED, b"", 0, 9),
+    )?;
+    assert_eq!(rt; gate.several(), 11);
+    assert!(rt; !gate.has_given_up());
+    Ok(())
 }
 
 const BAD_CANDIDATES: &[u8] = b"candidate,list\nx,101\n";
@@ -229,10 +256,11 @@ fn calls_for(file: &[u8]) -> u64
     if file.is_empty() { 2 } else { 3 }
 }
 
-// Each three files have this first fault.
+// These words find in each three files this first fault.
 fn are_faulty(
     rt: &(impl Threads + Sync + Abort),
     alloc: Global,
+    texts: &[&str],
     files: &[(&[u8], &[u8], &[u8], &[u8])],
 ) -> Result<(), Fail> {
     for (programmes, candidates, ranks, note) in files {
@@ -241,18 +269,28 @@ fn are_faulty(
             &[("p", *programmes), ("c", *candidates), ("r", *ranks)],
         )?;
         let calls = calls_until(note, [*programmes, *candidates, *ranks]);
-        ends(rt, alloc, &PLACE, shelf, (3, b"", *note, 0, calls))?;
+        ends(
+            rt,
+            alloc,
+            texts,
+            shelf,
+            &OpenGate,
+            (3, b"", *note, 0, calls),
+        )?;
     }
     Ok(())
 }
 
 #[test]
 fn the_first_fault_of_three_files_is_noted(rt: HostRuntime) -> Result<(), Fail> {
-    are_faulty(&rt, rt.alloc(), &FAULTY)
+    for texts in PLACE_BY {
+        are_faulty(&rt, rt.alloc(), texts, &FAULTY)?;
+    }
+    Ok(())
 }
 
 // Words that are no command: their status, and its line.
-const REFUSED: [(&[&str], WordsFault, &[u8]); 9] = [
+const REFUSED: [(&[&str], WordsFault, &[u8]); 13] = [
     (&[], WordsFault::NoCommand, b"words NoCommand 0\n"),
     (
         &["plan"],
@@ -281,9 +319,29 @@ const REFUSED: [(&[&str], WordsFault, &[u8]); 9] = [
         b"words WordCount 5\n",
     ),
     (
-        &["place", "p", "c", "r", "--workers", "2"],
+        &["place", "p", "c", "r", "--worker", "2"],
         WordsFault::WordCount(5),
         b"words WordCount 5\n",
+    ),
+    (
+        &["place", "p", "c", "r", "--workers"],
+        WordsFault::WordCount(6),
+        b"words WordCount 6\n",
+    ),
+    (
+        &["place", "p", "c", "r", "--workers", "2", "x"],
+        WordsFault::WordCount(7),
+        b"words WordCount 7\n",
+    ),
+    (
+        &["place", "p", "c", "r", "--workers", "0"],
+        WordsFault::BadNumber(6),
+        b"words BadNumber 6\n",
+    ),
+    (
+        &["place", "p", "c", "r", "--workers", "65"],
+        WordsFault::BadNumber(6),
+        b"words BadNumber 6\n",
     ),
     (
         &["place", "p", "c", "r", "-h", "x", "y"],
@@ -300,7 +358,7 @@ fn are_refused(
 ) -> Result<(), Fail> {
     for (texts, refused, note) in words {
         let shelf = shelf(alloc, &[])?;
-        let status = ends(rt, alloc, texts, shelf, (2, b"", *note, 0, 0))?;
+        let status = ends(rt, alloc, texts, shelf, &OpenGate, (2, b"", *note, 0, 0))?;
         assert_eq!(rt; status, Status::Words(*refused));
     }
     Ok(())
@@ -353,6 +411,7 @@ fn are_lacking(
             alloc,
             &PLACE,
             shelf,
+            &OpenGate,
             (*code, b"", *note, *faults, *calls),
         )?;
     }
@@ -375,6 +434,7 @@ fn a_read_that_fails_within_a_file_is_a_read_fault(rt: HostRuntime) -> Result<()
         rt.alloc(),
         &PLACE,
         shelf,
+        &OpenGate,
         (4, b"", b"read fault\n", 1, 5),
     )?;
     assert_eq!(rt; status, Status::ReadFault);
@@ -474,7 +534,7 @@ fn a_line_may_have_1024_bytes_in_each_file(rt: HostRuntime) -> Result<(), Fail> 
             "fault ranks line 2 field 0 F10 LineTooLong earlier 0\n",
         ),
     ] {
-        let ran = run(&rt, alloc, &PLACE, long_lines(alloc, sizes)?)?;
+        let ran = run(&rt, alloc, &PLACE, long_lines(alloc, sizes)?, &OpenGate)?;
         assert_eq!(rt; ran.notes.bytes(), note.as_bytes());
     }
     Ok(())
@@ -506,7 +566,7 @@ fn a_programmes_file_may_have_60_000_rows(rt: HostRuntime) -> Result<(), Fail> {
     ] {
         let mut shelf = shelf(alloc, &FREED_SEAT)?;
         shelf.add(String::from_str(alloc, "p")?, many_programmes(alloc, rows)?)?;
-        let ran = run(&rt, alloc, &PLACE, shelf)?;
+        let ran = run(&rt, alloc, &PLACE, shelf, &OpenGate)?;
         assert_eq!(rt; ran.notes.bytes(), note.as_bytes());
     }
     Ok(())
@@ -593,6 +653,13 @@ fn five_thousand_candidates_are_placed_by_twenty_thousand_ranks(
         put_row_2(&mut placed, Field::Number(index + 1), code)?;
     }
     // the ranks are taken in more than one piece
-    ends(&rt, alloc, &PLACE, shelf, (0, &placed, b"", 0, 12))?;
+    ends(
+        &rt,
+        alloc,
+        &PLACE,
+        shelf,
+        &OpenGate,
+        (0, &placed, b"", 0, 12),
+    )?;
     Ok(())
 }
