@@ -11,11 +11,7 @@ use std::alloc::{AllocError, Global};
 use std::test::Fail;
 
 // What the two candidates of the exchange hold.
-fn held(
-    alloc: Global,
-    first: Option<u32>,
-    second: Option<u32>,
-) -> Result<Placement, AllocError>
+fn held(alloc: Global, first: Option<u32>, second: Option<u32>) -> Result<Placement, AllocError>
     requires first { IfSome first (λ p. p < 2) }
     requires second { IfSome second (λ p. p < 2) }
     ensures held { IfOk result (λ p. p ≡ first ∷ second ∷ []) }
@@ -33,9 +29,15 @@ fn each_holds_the_second_wish(rt: HostRuntime) -> Result<(), Fail> {
     let bases = base_ranks(alloc, &market, &placement)?;
     assert_eq!(rt; (bases.base(0), bases.held(0)), (Some(1), 1));
     assert_eq!(rt; (bases.base(1), bases.held(1)), (Some(1), 1));
-    assert_eq!(rt; reason(&market, &placement, &bases, 0, 0), Reason::Full(Some(1)));
+    assert_eq!(rt;
+        reason(&market, &placement, &bases, 0, 0),
+        Reason::Full(Some(1))
+    );
     assert_eq!(rt; reason(&market, &placement, &bases, 0, 1), Reason::Placed);
-    assert_eq!(rt; reason(&market, &placement, &bases, 1, 0), Reason::Full(Some(1)));
+    assert_eq!(rt;
+        reason(&market, &placement, &bases, 1, 0),
+        Reason::Full(Some(1))
+    );
     assert_eq!(rt; reason(&market, &placement, &bases, 1, 1), Reason::Placed);
     Ok(())
 }
@@ -51,7 +53,13 @@ fn one_holds_the_first_wish_and_one_nothing(rt: HostRuntime) -> Result<(), Fail>
     assert_eq!(rt; (bases.base(1), bases.held(1)), (None, 0));
     assert_eq!(rt; reason(&market, &placement, &bases, 0, 0), Reason::Placed);
     assert_eq!(rt; reason(&market, &placement, &bases, 0, 1), Reason::Below);
-    assert_eq!(rt; reason(&market, &placement, &bases, 1, 0), Reason::Full(None));
-    assert_eq!(rt; reason(&market, &placement, &bases, 1, 1), Reason::Full(Some(2)));
+    assert_eq!(rt;
+        reason(&market, &placement, &bases, 1, 0),
+        Reason::Full(None)
+    );
+    assert_eq!(rt;
+        reason(&market, &placement, &bases, 1, 1),
+        Reason::Full(Some(2))
+    );
     Ok(())
 }

@@ -10,11 +10,7 @@ use std::alloc::{AllocError, Global};
 use std::test::Fail;
 
 // What two candidates hold.
-fn held(
-    alloc: Global,
-    first: Option<u32>,
-    second: Option<u32>,
-) -> Result<Placement, AllocError>
+fn held(alloc: Global, first: Option<u32>, second: Option<u32>) -> Result<Placement, AllocError>
     requires first { IfSome first (λ p. p < 2) }
     requires second { IfSome second (λ p. p < 2) }
     ensures held { IfOk result (λ p. p ≡ first ∷ second ∷ []) }
@@ -31,7 +27,10 @@ fn both_placements_of_the_exchange_are_stable(rt: HostRuntime) -> Result<(), Fai
     let first_wishes = held(alloc, Some(0), Some(1))?;
     assert_eq!(rt; audit(&rt, alloc, &market, &first_wishes)?, Verdict::Stable);
     let second_wishes = held(alloc, Some(1), Some(0))?;
-    assert_eq!(rt; audit(&rt, alloc, &market, &second_wishes)?, Verdict::Stable);
+    assert_eq!(rt;
+        audit(&rt, alloc, &market, &second_wishes)?,
+        Verdict::Stable
+    );
     Ok(())
 }
 
@@ -40,11 +39,20 @@ fn the_first_fault_of_a_placement_is_told(rt: HostRuntime) -> Result<(), Fail> {
     let alloc = rt.alloc();
     let market = examples::exchange(alloc)?;
     let seat_left = held(alloc, Some(0), None)?;
-    assert_eq!(rt; audit(&rt, alloc, &market, &seat_left)?, Verdict::Blocking(1, 1));
+    assert_eq!(rt;
+        audit(&rt, alloc, &market, &seat_left)?,
+        Verdict::Blocking(1, 1)
+    );
     let one_seat_twice = held(alloc, Some(0), Some(0))?;
-    assert_eq!(rt; audit(&rt, alloc, &market, &one_seat_twice)?, Verdict::OverQuota(0));
+    assert_eq!(rt;
+        audit(&rt, alloc, &market, &one_seat_twice)?,
+        Verdict::OverQuota(0)
+    );
     let market = examples::freed_seat(alloc)?;
     let unlisted = held(alloc, None, Some(0))?;
-    assert_eq!(rt; audit(&rt, alloc, &market, &unlisted)?, Verdict::NotAcceptable(1));
+    assert_eq!(rt;
+        audit(&rt, alloc, &market, &unlisted)?,
+        Verdict::NotAcceptable(1)
+    );
     Ok(())
 }

@@ -12,7 +12,7 @@ returns-then-quota-held c =
     let p = c.loop-programme.programme in
     let quota = ap (λ (q : Prog). q.quota) c.programme-quota.ensures in
     let within = subst (λ (n : ℕ). p < n) c.programme_count-programme-end.ensures
-        c.loop-programme-test.true in
+    c.loop-programme-test.true in
     let held = c.held.ensures ∙ c.requires.bases.holders p within in
     record { over = omega arith; first = c.loop-programme.invariant }
 
@@ -22,7 +22,7 @@ loop-programme-preserved c q l over =
     let p = c.loop-programme.programme in
     let quota = ap (λ (q : Prog). q.quota) c.programme-quota.ensures in
     let within = subst (λ (n : ℕ). p < n) c.programme_count-programme-end.ensures
-        c.loop-programme-test.true in
+    c.loop-programme-test.true in
     let held = c.held.ensures ∙ c.requires.bases.holders p within in
     ⊎_elim
     (λ less. c.loop-programme.invariant q less over)
