@@ -1,5 +1,5 @@
 // Rows of a text, in an array.
-ghost use Rattle.std.specs.Prelude.{◌≡◌, ◌+◌, ◌-◌, ◌≤◌, ◌++◌, ◌∷◌, [], length};
+ghost use Rattle.std.specs.Prelude.{◌≡◌, ◌+◌, ◌≤◌, ◌++◌, ◌∷◌, [], length};
 ghost use Rattle.record_files.specs.Texts.{IsShort, row_text, text_of};
 
 use crate::row_texts::{Field, field_text};
@@ -7,7 +7,7 @@ use itoa::Buffer;
 use place_base::limits::{COMMA, LF};
 use std::marker::Model;
 
-/// How many bytes a row buffer holds.
+// How many bytes a row buffer holds.
 const SIZE: usize = 4096;
 
 /// A text of at most 4,096 bytes, which takes no memory.
