@@ -1,6 +1,6 @@
 -- The entries of the rows read grow as the rows do, and what is wrong with a row beside the earlier
 -- rows is what is wrong with it beside their entries.
-use Rattle.std.proofs.Common.{◌≡◌, ◌≢◌, ◌<◌, ◌≤◌, ℕ, ◌⊎◌, inl, inr, None, Some, Option, List, [], ◌∷◌, ◌++◌, map, length, get_or, slice_set, replicate, find, position, nat_eq, eqb, true, false, is_none, ◌==◌, refl, sym, ap, ◌∙◌, arith}
+use Rattle.std.proofs.Common.{zero, suc, ◌≡◌, ◌≢◌, ◌<◌, ◌≤◌, ℕ, ◌⊎◌, inl, inr, None, Some, Option, List, [], ◌∷◌, ◌++◌, map, length, get_or, slice_set, replicate, find, position, nat_eq, eqb, true, false, is_none, ◌==◌, refl, sym, ap, ◌∙◌, arith}
 use Rattle.std.specs.List.{IsDistinct}
 use Rattle.std.specs.Option.{option_map, option_and_then, option_or}
 use Rattle.std.proofs.lemmas.Bool.{cases_lt, eqb-false, eqb-true, ne_eqb}
@@ -9,6 +9,7 @@ use Rattle.std.proofs.lemmas.List.{get_or-map, get_or_read, get_or-set_other, ge
 use Rattle.std.proofs.lemmas.List.Folds.{find-append}
 use Rattle.std.proofs.lemmas.List.Quantifiers.{position-Some}
 use Rattle.std.proofs.lemmas.Map.Keys.{apart_from_distinct}
+use Rattle.market.specs.Stability.{held_by}
 use Rattle.place_base.specs.declared.fault.FaultKind.TheVariants.{UnknownCandidate}
 use Rattle.place_base.specs.declared.fault.FileFault.{FileFault}
 use Rattle.place_base.specs.declared.fault.FileKind.TheVariants.{Placement}
@@ -55,11 +56,13 @@ set-one {B = B} f g candidates i n x distinct within is new same =
         by (inl (t, e)) =
             ap (λ h. get_or (slice_set (map f candidates) i x) h d) e
             ∙ get_or-set_same (map f candidates) i x d wide ∙ new ∙ ap g (sym is)
-            ∙ sym (get_or-map g candidates i 0 d within) ∙ ap (λ h. get_or (map g candidates) h d) (sym e)
+            ∙ sym (get_or-map g candidates i 0 d within)
+            ∙ ap (λ h. get_or (map g candidates) h d) (sym e)
         by (inr (t, e)) =
             get_or-set_other (map f candidates) i k x d e
             ∙ get_or-map f candidates k 0 d inside
-            ∙ same (get_or candidates k 0) (λ h. entries-differ candidates i k distinct within inside e (h ∙ sym is))
+            ∙ same (get_or candidates k 0)
+            (λ h. entries-differ candidates i k distinct within inside e (h ∙ sym is))
             ∙ sym (get_or-map g candidates k 0 d inside)
 
 -- no rows give no candidate anything
@@ -80,8 +83,28 @@ pub held-entries : (programmes : List ℕ) (rows : List Row) (candidates : List 
     → map programme_held (map (entry_in programmes rows) candidates)
     ≡ map (held_in programmes rows) candidates
 held-entries programmes rows [] = refl
-held-entries programmes rows (c ∷ cs) = (λ j. held-entry programmes (find (λ row. c == number_in row) rows) j
-    ∷ held-entries programmes rows cs j)
+held-entries programmes rows (c ∷ cs) =
+    let first = held-entry programmes (find (λ row. c == number_in row) rows) in
+    let rest = held-entries programmes rows cs in
+    λ j. first j ∷ rest j
+
+-- a programme that a candidate holds is in the list
+programme-listed : (programmes : List ℕ) (row : Option Row) (p : ℕ)
+    → option_and_then (programme_in programmes) row ≡ Some p → p < length programmes
+programme-listed programmes None p holds = cc
+programme-listed programmes (Some row) p holds = by (code_in row) holds
+  where
+    by : (code : Option ℕ) → programme_of programmes code ≡ Some p → p < length programmes
+    by None found = cc
+    by (Some code) found = (position-Some (nat_eq code) programmes p 0 found).0
+
+-- so are those that the candidates of a placement hold
+pub held-listed : (programmes : List ℕ) (rows : List Row) (candidates : List ℕ) (i p : ℕ)
+    → held_by (map (held_in programmes rows) candidates) i ≡ Some p → p < length programmes
+held-listed programmes rows [] i p holds = cc
+held-listed programmes rows (c ∷ cs) zero p holds =
+    programme-listed programmes (find (λ row. c == number_in row) rows) p holds
+held-listed programmes rows (c ∷ cs) (suc i) p holds = held-listed programmes rows cs i p holds
 
 -- a row of another candidate gives this one nothing
 entry-other : (programmes : List ℕ) (rows : List Row) (row : Row) (number : ℕ)
@@ -92,7 +115,8 @@ entry-other programmes rows row number other =
     let absent : same row ≡ false = ne_eqb number (number_in row) other in
     let last : find same (row ∷ []) ≡ None = rw absent refl in
     ap (option_map (held_of programmes))
-    (sym (find-append same rows (row ∷ []) ∙ ap (option_or (find same rows)) last ∙ or-none (find same rows)))
+    (sym (find-append same rows (row ∷ []) ∙ ap (option_or (find same rows)) last
+    ∙ or-none (find same rows)))
   where
     or-none : (r : Option Row) → option_or r None ≡ r
     or-none None = refl
@@ -106,7 +130,8 @@ entry-own programmes rows row free =
     let same = λ (r : Row). number_in row == number_in r in
     let last : find same (row ∷ []) ≡ Some row = rw (eqb-same (number_in row)) refl in
     ap (option_map (held_of programmes))
-    (find-append same rows (row ∷ []) ∙ ap (λ r. option_or r (find same (row ∷ []))) (absent (find same rows) free) ∙ last)
+    (find-append same rows (row ∷ [])
+    ∙ ap (λ r. option_or r (find same (row ∷ []))) (absent (find same rows) free) ∙ last)
   where
     absent : (r : Option Row) → option_map (held_of programmes) r ≡ None → r ≡ None
     absent None e = refl
@@ -117,7 +142,8 @@ entry-own programmes rows row free =
 
 -- a repeated candidate is told by the line of what the earlier row gives
 repeated : (programmes : List ℕ) (line : ℕ) (row : Option Row)
-    → option_map (λ held. duplicate_at Placement line 1 held.line) (option_map (held_of programmes) row)
+    → option_map (λ held. duplicate_at Placement line 1 held.line)
+    (option_map (held_of programmes) row)
     ≡ option_map (λ other. duplicate_at Placement line 1 other.0) row
 repeated programmes line None = refl
 repeated programmes line (Some row) = refl
@@ -169,7 +195,8 @@ module _ (programmes candidates : List ℕ) (rows : List Row) (row : Row)
       ∙ (λ j. first_of
       (fault_if (is_none (position (nat_eq (number_in row)) candidates))
       (fault_at Placement row.0 1 UnknownCandidate))
-      (first_of (repeated programmes row.0 (find (λ other. number_in row == number_in other) rows) j)
+      (first_of
+      (repeated programmes row.0 (find (λ other. number_in row == number_in other) rows) j)
       (unknown_fault programmes row.0 (code_in row))))
 
   -- a candidate whom an earlier row gives something

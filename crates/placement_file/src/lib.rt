@@ -13,3 +13,6 @@ mod texts;
 
 pub use table::read_placement;
 pub use texts::placement_text;
+
+#[cfg(test)]
+mod tests;

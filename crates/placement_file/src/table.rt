@@ -1,5 +1,6 @@
 // The rows of a placement file, candidate by candidate.
-ghost use Rattle.std.specs.Prelude.{◌≡◌, ◌≤◌, length, map, replicate, None, Some, IfOk, MatchResult};
+ghost use Rattle.std.specs.Prelude.{◌≡◌, ◌≤◌, ◌<◌, ℕ, Option, length, map, replicate, None, Some, IfOk, MatchResult};
+ghost use Rattle.market.specs.Stability.{held_by};
 ghost use Rattle.record_files.specs.ReadTo.{IsFileRead};
 ghost use Rattle.placement_file.specs.Growth.{programme_held};
 ghost use Rattle.placement_file.specs.Rows.{placement_fault, unknown_fault};
@@ -25,6 +26,37 @@ pub struct Tables<'a, P, C> {
 #[derive(Drop)]
 pub struct Entries {
     items: Vec<Option<Held>>,
+}
+
+/// The placement of a file of at most 2^30 bytes beside the programmes' codes and the candidates'
+/// numbers: for each candidate the index of the programme held, none without a row or beside `-`;
+/// `Fault` exactly where the file has a first fault, and then it carries it.
+pub fn read_placement<P: Finder, C: Finder>(
+    alloc: Global,
+    bytes: &[u8],
+    programmes: &P,
+    candidates: &C,
+) -> Result<Vec<Option<u32>>, TableStop>
+    requires { length bytes.now ≤ LARGEST_FILE }
+    ensures read { IsFileRead
+        (placement_fault (P.numbers programmes.now) (C.numbers candidates.now) bytes.now)
+        (λ held. held.items
+        ≡ placement_in (P.numbers programmes.now) (C.numbers candidates.now) bytes.now) result }
+
+    // It has an entry for each candidate, and the programmes held are in the list.
+    ensures candidates { IfOk result (λ held.
+        length held.items ≡ length (C.numbers candidates.now)) }
+    ensures programmes { IfOk result (λ held. (i p : ℕ) → held_by held.items i ≡ Option.Some p
+        → p < length (P.numbers programmes.now)) }
+{
+    let items = no_entries(alloc, candidates.count())?;
+    let tables = Tables {
+        programmes,
+        candidates,
+    };
+    let read = read_table(alloc, bytes, &tables, Entries { items })?;
+    let held = programmes_held(alloc, &read.items)?;
+    Ok(held)
 }
 
 impl<'a, P: Finder, C: Finder> RowTable<Tables<'a, P, C>> for Entries {
@@ -98,31 +130,6 @@ fn find_programme<P: Finder>(
         Some(programme) => Ok(Some(programme)),
         None => Err(fault_at(FileKind::Placement, line, 2, FaultKind::UnknownProgramme)),
     }
-}
-
-/// The placement of a file of at most 2^30 bytes beside the programmes' codes and the candidates'
-/// numbers: for each candidate the index of the programme held, none without a row or beside `-`;
-/// `Fault` exactly where the file has a first fault, and then it carries it.
-pub fn read_placement<P: Finder, C: Finder>(
-    alloc: Global,
-    bytes: &[u8],
-    programmes: &P,
-    candidates: &C,
-) -> Result<Vec<Option<u32>>, TableStop>
-    requires { length bytes.now ≤ LARGEST_FILE }
-    ensures { IsFileRead
-        (placement_fault (P.numbers programmes.now) (C.numbers candidates.now) bytes.now)
-        (λ held. held.items
-        ≡ placement_in (P.numbers programmes.now) (C.numbers candidates.now) bytes.now) result }
-{
-    let items = no_entries(alloc, candidates.count())?;
-    let tables = Tables {
-        programmes,
-        candidates,
-    };
-    let read = read_table(alloc, bytes, &tables, Entries { items })?;
-    let held = programmes_held(alloc, &read.items)?;
-    Ok(held)
 }
 
 // So many entries, to which no row gave anything.
