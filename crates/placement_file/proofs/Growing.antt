@@ -5,7 +5,7 @@ use Rattle.std.specs.List.{IsDistinct}
 use Rattle.std.specs.Option.{option_map, option_and_then, option_or}
 use Rattle.std.proofs.lemmas.Bool.{cases_lt, eqb-false, eqb-true, ne_eqb}
 use Rattle.std.proofs.lemmas.Bool.Decides.{eqb_tells, nat_tests}
-use Rattle.std.proofs.lemmas.List.{get_or-map, get_or-set_other, get_or-set_same, length-map, length-set, same_lists}
+use Rattle.std.proofs.lemmas.List.{get_or-map, get_or_read, get_or-set_other, get_or-set_same, length-map, length-set, same_lists}
 use Rattle.std.proofs.lemmas.List.Folds.{find-append}
 use Rattle.std.proofs.lemmas.List.Quantifiers.{position-Some}
 use Rattle.std.proofs.lemmas.Map.Keys.{apart_from_distinct}
@@ -151,9 +151,15 @@ repeated programmes line (Some row) = refl
 module _ (programmes candidates : List ℕ) (rows : List Row) (row : Row)
     (entries : List (Option Held)) (fields : Fields)
     (has : HasRows programmes candidates rows entries) (says : IsFieldsOf row fields)
-    (index : ℕ) (found : position (nat_eq fields.number) candidates ≡ Some index) where
+    (number index : ℕ) (same_number : number ≡ fields.number)
+    (looked_up : Some index ≡ position (nat_eq number) candidates)
+    (entry : Option Held) (read : entry ≡ get_or entries index entry) where
+  -- the candidate's index
+  found : position (nat_eq fields.number) candidates ≡ Some index
+  found = ap (λ (n : ℕ). position (nat_eq n) candidates) (sym same_number) ∙ sym looked_up
+
   -- the candidate has an entry
-  pub entry-within : index < length entries
+  entry-within : index < length entries
   entry-within =
       let place = position-Some (nat_eq fields.number) candidates index 0 found in
       omega (
@@ -164,17 +170,18 @@ module _ (programmes candidates : List ℕ) (rows : List Row) (row : Row)
       )
 
   -- what stands at the candidate's index is what the earlier rows give the candidate
-  entry-is : get_or entries index None ≡ entry_in programmes rows (number_in row)
+  entry-is : entry ≡ entry_in programmes rows (number_in row)
   entry-is =
       let place = position-Some (nat_eq fields.number) candidates index 0 found in
       let same : get_or candidates index 0 ≡ number_in row =
       sym (eqb-true fields.number (get_or candidates index 0) place.1) ∙ says.number in
-      ap (λ (all : List (Option Held)). get_or all index None) has.entries_are
+      get_or_read entries index entry entry-within read None
+      ∙ ap (λ (all : List (Option Held)). get_or all index None) has.entries_are
       ∙ get_or-map (entry_in programmes rows) candidates index 0 None place.0
       ∙ ap (entry_in programmes rows) same
 
   -- what is wrong with a row beside the earlier rows is what is wrong with it beside their entries
-  clash-meaning : clash programmes candidates (get_or entries index None) fields
+  clash-meaning : clash programmes candidates entry fields
       ≡ meaning programmes candidates rows row
   clash-meaning =
       let line = says.line in
@@ -193,27 +200,27 @@ module _ (programmes candidates : List ℕ) (rows : List Row) (row : Row)
       (unknown_fault programmes row.0 (code_in row))))
 
   -- a candidate whom an earlier row gives something
-  pub meaning-repeated : (held : Held) (fault : FileFault) → get_or entries index None ≡ Some held
+  pub meaning-repeated : (held : Held) (fault : FileFault) → entry ≡ Some held
       → fault ≡ duplicate_at Placement fields.line 1 held.line
       → meaning programmes candidates rows row ≡ Some fault
   meaning-repeated held fault known told =
       sym clash-meaning ∙ known-clash ∙ ap (λ f. Some f) (sym told)
     where
-      known-clash : clash programmes candidates (get_or entries index None) fields
+      known-clash : clash programmes candidates entry fields
           ≡ Some (duplicate_at Placement fields.line 1 held.line)
       known-clash = rw (found, known) refl
 
   -- a candidate to whom no earlier row gives anything
-  pub meaning-new : get_or entries index None ≡ None
+  pub meaning-new : entry ≡ None
       → meaning programmes candidates rows row ≡ unknown_fault programmes fields.line fields.code
   meaning-new free = sym clash-meaning ∙ new-clash
     where
-      new-clash : clash programmes candidates (get_or entries index None) fields
+      new-clash : clash programmes candidates entry fields
           ≡ unknown_fault programmes fields.line fields.code
       new-clash = rw (found, free) refl
 
   -- one more row of such a candidate
-  pub HasRows-next : (programme : Option ℕ) → get_or entries index None ≡ None
+  pub HasRows-next : (programme : Option ℕ) → entry ≡ None
       → programme ≡ programme_of programmes fields.code
       → HasRows programmes candidates (rows ++ row ∷ [])
       (slice_set entries index (Some (record { line = fields.line; programme = programme })))

@@ -26,8 +26,8 @@ abbrev pub entry_in : List ℕ → List Row → ℕ → Option Held
 entry_in programmes rows number =
     option_map (held_of programmes) (find (λ row. number == number_in row) rows)
 
--- what is wrong with fields beside the programmes' codes, the candidates' numbers and what an earlier
--- row gives the candidate
+-- what is wrong with fields beside the programmes' codes, the candidates' numbers and what an
+-- earlier row gives the candidate
 abbrev pub clash : List ℕ → List ℕ → Option Held → Fields → Option FileFault
 clash programmes candidates entry fields =
     first_of

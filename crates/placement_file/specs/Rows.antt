@@ -44,7 +44,8 @@ unknown_fault programmes line None = None
 unknown_fault programmes line (Some code) =
     fault_if (is_none (position (nat_eq code) programmes)) (fault_at Placement line 2 UnknownProgramme)
 
--- what is wrong with a row beside the programmes' codes, the candidates' numbers and the earlier rows
+-- what is wrong with a row beside the programmes' codes, the candidates' numbers and the earlier
+-- rows
 abbrev pub meaning : List ℕ → List ℕ → List Row → Row → Option FileFault
 meaning programmes candidates earlier row =
     first_of

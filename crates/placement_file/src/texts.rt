@@ -7,8 +7,8 @@ use place_base::Finder;
 use record_files::{Field, put_row_2};
 use std::alloc::{AllocError, Global};
 
-/// The text of a placement beside the programmes' codes and the candidates' numbers: a header, and a
-/// row for each candidate in order, with the code of the programme held or `-`.
+/// The text of a placement beside the programmes' codes and the candidates' numbers: a header, and
+/// a row for each candidate in order, with the code of the programme held or `-`.
 ///
 /// `held` has for each candidate the index of the programme held, or none.
 pub fn placement_text<P: Finder, C: Finder>(

@@ -8,6 +8,8 @@ mod faults;
 mod form;
 // Numbers and type names in fields.
 mod fields;
+// Rows of a text, in an array.
+mod row_buffer;
 // What is read by rows.
 mod row_table;
 // The reading of all rows of a file.
@@ -23,6 +25,7 @@ pub use faults::{duplicate_at, fault_at, in_field};
 pub use fields::{number, type_name};
 pub use form::{FileForm, Header};
 pub use reading::{RowsRead, read_rows, read_table};
+pub use row_buffer::RowBuffer;
 pub use row_table::RowTable;
 pub use row_texts::{Field, put_row_1, put_row_2, put_row_3, put_row_4};
 pub use rows::{RecordRow, Records, RowPart, find_byte};

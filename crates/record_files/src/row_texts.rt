@@ -1,6 +1,6 @@
 // The texts of rows.
 ghost use Rattle.std.specs.Prelude.{◌≡◌, ◌+◌, ◌≤◌, ◌++◌, ◌∷◌, [], OnOk, OnErr, length, vec_len, vec_capacity};
-ghost use Rattle.record_files.specs.Texts.{text_of, row_text};
+ghost use Rattle.record_files.specs.Texts.{IsShort, text_of, row_text};
 
 use itoa::Buffer;
 use place_base::limits::{COMMA, LF};
@@ -94,8 +94,9 @@ pub fn put_row_4(
 }
 
 // The text of a field.
-fn field_text<'a>(field: Field<'a>, buffer: &'a mut Buffer) -> &'a [u8]
-    ensures { result.now ≡ text_of field.entry }
+pub(crate) fn field_text<'a>(field: Field<'a>, buffer: &'a mut Buffer) -> &'a [u8]
+    ensures text { result.now ≡ text_of field.entry }
+    ensures short { IsShort field.entry → length result.now ≤ 20 }
 {
     match field {
         Field::Number(number) => buffer.format(number).as_bytes(),

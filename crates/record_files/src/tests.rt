@@ -1,7 +1,7 @@
 // Rows, fields and faults of files.
 use crate::{
-    Field, FileForm, Records, RowPart, number, put_row_1, put_row_2, put_row_3, put_row_4,
-    type_name,
+    Field, FileForm, Records, RowBuffer, RowPart, number, put_row_1, put_row_2, put_row_3,
+    put_row_4, type_name,
 };
 use place_base::{FaultKind, FileKind};
 use std::test::Fail;
@@ -165,4 +165,25 @@ fn texts_of_rows(rt: HostRuntime) -> Result<(), Fail> {
         b"900\n900,-\n-,,900\n-,900,900,-\n".as_slice()
     );
     Ok(())
+}
+
+#[test]
+fn rows_of_a_buffer(rt: HostRuntime) {
+    let (number, text) = (Field::Number(u64::MAX), Field::Text(b"-"));
+    let mut buffer = RowBuffer::new();
+    assert_eq!(rt; buffer.room(), 4096);
+    buffer.put_row_4(text, text, number, number);
+    buffer.clear();
+    buffer.put_row_4(number, text, Field::Text(b""), number);
+    buffer.put_row_4(
+        text,
+        Field::Number(0),
+        text,
+        Field::Text(b"NEITHER_LAST_ONE"),
+    );
+    assert_eq!(rt;
+        buffer.bytes(),
+        b"18446744073709551615,-,,18446744073709551615\n-,0,-,NEITHER_LAST_ONE\n".as_slice()
+    );
+    assert_eq!(rt; buffer.room(), 4096 - 45 - 23);
 }
