@@ -175,6 +175,7 @@ fn rows_of_a_buffer(rt: HostRuntime) {
     buffer.put_row_4(text, text, number, number);
     buffer.clear();
     buffer.put_row_4(number, text, Field::Text(b""), number);
+    assert_eq!(rt; buffer.room(), 4096 - 45);
     buffer.put_row_4(
         text,
         Field::Number(0),
