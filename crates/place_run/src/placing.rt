@@ -5,7 +5,7 @@ ghost use Rattle.market.specs.Mechanism.{mechanism_placement};
 
 use gate_workers::Gate;
 use market::{Market, Placement, Steps};
-use round_rerun::place_rounds;
+use round_rerun::Rounds;
 use std::alloc::{AllocError, Global};
 use std::marker::Brand;
 use std::sync::ledger::{Blank, Ledger};
@@ -39,6 +39,6 @@ fn uncounted<R: Threads + Sync, G: Gate, L: Ledger>(
     ensures { IfOk result (λ placement. placement ≡ mechanism_placement market.now) }
 {
     let mut turns = Steps::<L>::new(blank);
-    let outcome = place_rounds(rt, alloc, workers, gate, market, &mut turns)?;
+    let outcome = Rounds::new(workers, gate).run(rt, alloc, market, &mut turns)?;
     Ok(outcome.placement)
 }
