@@ -1,6 +1,6 @@
-use Rattle.std.proofs.Common.{◌≡◌, ◌∙◌, Some, sym, ap, arith}
+use Rattle.std.proofs.Common.{◌∙◌, Some, sym, ap, arith}
 use Rattle.rank_lists.proofs.Reading.{fault-of-duplicate, fault-of-stop, table-of-turns}
-use Rattle.rank_lists.proofs.table.RankLists.read.Goals as goal
+use Rattle.rank_lists.proofs.table.RankLists.read_in_order.Goals as goal
 
 pub returns-in-Some : goal.returns-in-Some
 returns-in-Some g c =

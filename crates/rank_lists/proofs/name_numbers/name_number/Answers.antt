@@ -1,7 +1,7 @@
 use Rattle.std.proofs.Common.{◌≡◌, ◌+◌, ◌-◌, ◌*◌, ◌^◌, ◌<◌, ◌≤◌, suc, length, drop, get_or, arith, ap, ◌∙◌, ◌∷◌}
 use Rattle.std.proofs.Math.Seq.{drop-cons}
 use Rattle.rank_lists.proofs.Names.{name-fits, short-name}
-use Rattle.rank_lists.proofs.rows.name_number.Goals as goal
+use Rattle.rank_lists.proofs.name_numbers.name_number.Goals as goal
 
 pub overflow_mul-number : goal.overflow_mul-number
 overflow_mul-number c =

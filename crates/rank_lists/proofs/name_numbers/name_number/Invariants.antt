@@ -1,6 +1,6 @@
 use Rattle.std.proofs.Common.{◌≡◌, ◌-◌, ◌^◌, ◌<◌, ◌≤◌, length, drop}
 use Rattle.rank_lists.specs.Groups.{name_number}
-use Rattle.rank_lists.proofs.rows.name_number.Given as goal
+use Rattle.rank_lists.proofs.name_numbers.name_number.Given as goal
 
 -- the number of the bytes taken so far, from the back
 abbrev pub invariant-bytes : goal.invariant-bytes

@@ -1,6 +1,6 @@
 use Rattle.std.proofs.Common.{◌≡◌, ℕ, ◌<◌, [], length}
 use Rattle.std.specs.Prelude.{slice_index_or}
-use Rattle.rank_lists.proofs.rows.RankRows.new.Given as goal
+use Rattle.rank_lists.proofs.turns.no_ranks.Given as goal
 
 -- so many types without ranks
 abbrev pub invariant-loop : goal.invariant-loop
