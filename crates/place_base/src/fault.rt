@@ -54,7 +54,7 @@ pub enum FaultKind {
     LineTooLong,
     /// The file has more than 2^30 bytes.
     FileTooLong,
-    /// A candidate is not in the candidates file. No file that is read yet can have this fault.
+    /// A candidate of a placement or registrations file is not in the candidates file.
     UnknownCandidate,
     /// A seat is not `G` or `R` beside a programme, or not `-` beside none.
     BadSeat,
