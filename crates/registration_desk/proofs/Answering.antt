@@ -1,6 +1,6 @@
 -- What the words ask for is said over the bytes that were read: a report, a stop of the files, or a
 -- refusal of memory or of words.
-use Rattle.std.proofs.Common.{◌≡◌, ◌∙◌, ℕ, ◌≤◌, List, Option, Some, Result, Ok, Err, refl, sym, ap, subst, inl, inr, arith, ⊎_elim}
+use Rattle.std.proofs.Common.{◌≡◌, ◌∙◌, ℕ, List, Option, Some, Result, Ok, Err, refl, sym, ap, subst, inl, inr, arith, ⊎_elim}
 use Rattle.place_base.specs.declared.fault.FileKind.TheVariants as file
 use Rattle.place_edges.specs.Shelf.{Files}
 use Rattle.run_frame.proofs.Readings.{causes-ok}

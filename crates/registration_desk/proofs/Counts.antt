@@ -1,6 +1,6 @@
 -- How many replies are of each kind is a function of the placement and the requests: each reply
 -- tells what the placement says of its candidate, and the registrations are the numbers kept.
-use Rattle.std.proofs.Common.{◌≡◌, ℕ, suc, ◌+◌, ◌-◌, ◌<◌, ◌≤◌, Bool, cond, List, [], ◌∷◌, length, take, get_or, nat_eq, nat_lt, Option, Some, None, sym, refl, ap, subst, ◌∙◌, arith}
+use Rattle.std.proofs.Common.{◌≡◌, ℕ, suc, ◌+◌, ◌-◌, ◌≤◌, Bool, cond, List, [], ◌∷◌, length, take, get_or, nat_eq, nat_lt, Some, None, sym, refl, ap, subst, ◌∙◌, arith}
 use Rattle.std.specs.Prelude.{slice_get}
 use Rattle.std.specs.List.{IsDistinct, count_by, sum_by}
 use Rattle.std.proofs.lemmas.List.{take_all, length-take-le}

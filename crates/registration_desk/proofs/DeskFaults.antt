@@ -1,6 +1,6 @@
 -- No fault of a placement or of requests is that the file is too long.
-use Rattle.std.proofs.Common.{◌≡◌, ℕ, zero, suc, List, Option, Some, None, Result, Ok, Err, find}
-use Rattle.std.specs.Prelude.{bytes_eq, codes, not}
+use Rattle.std.proofs.Common.{ℕ, zero, suc, List, None, Result, Ok, Err, find}
+use Rattle.std.specs.Prelude.{bytes_eq, codes}
 use Rattle.std.proofs.lemmas.Bool.{cond_both}
 use Rattle.place_base.specs.declared.fault.FaultKind.{FaultKind}
 use Rattle.place_base.specs.declared.limits.TheConstants.{LARGEST_CODE, LARGEST_NUMBER}

@@ -1,9 +1,9 @@
 -- The release of the slot keeps the rule.
-use Rattle.std.proofs.Common.{◌≡◌, ◌≢◌, ◌⊎◌, ℕ, ◌+◌, ◌*◌, ◌/◌, ◌%◌, ◌<◌, List, [], ◌∷◌, set, Option, Some, sym, refl, ap, subst, inr, ⊎_elim, ◌∙◌, arith, length-set}
+use Rattle.std.proofs.Common.{◌≡◌, ◌≢◌, ℕ, ◌+◌, ◌*◌, ◌/◌, ◌%◌, ◌<◌, List, [], ◌∷◌, set, Option, Some, sym, refl, ap, subst, inr, ⊎_elim, ◌∙◌, arith, length-set}
 use Rattle.std.specs.Prelude.{slice_get}
 use mathlib.Core.Option.{some}
 use lib.ListN.{get_elem?}
-use Rattle.atomic_table.specs.Table.{keeps, gives, put_back, Allows}
+use Rattle.atomic_table.specs.Table.{gives, put_back, Allows}
 use Rattle.atomic_table.proofs.Lists.{set_here}
 use Rattle.registration_desk.specs.States.{DeskValue}
 use Rattle.registration_desk.specs.Clerks.{ClerkKnows, released}

@@ -1,9 +1,8 @@
 -- Seats that are split and joined keep the rule.
-use Rattle.std.proofs.Common.{◌≡◌, ◌≢◌, ◌⊎◌, ℕ, ◌+◌, ◌<◌, ◌≤◌, List, [], ◌∷◌, ◌++◌, length, set, None, Some, sym, refl, subst, inl, inr, ⊎_elim, ◌∙◌, arith}
+use Rattle.std.proofs.Common.{◌≡◌, ◌≢◌, ℕ, ◌+◌, ◌<◌, ◌≤◌, List, [], ◌∷◌, ◌++◌, length, set, None, Some, sym, refl, subst, inl, inr, ⊎_elim, ◌∙◌, arith}
 use Rattle.std.specs.Prelude.{slice_get}
 use Rattle.std.specs.List.{sum_by}
 use Rattle.std.proofs.lemmas.List.Sums.{sum_by-append, sum_by-cons}
-use mathlib.Core.Option.{some}
 use Rattle.atomic_table.specs.Table.{Splits, Joins}
 use Rattle.registration_desk.specs.Clerks.{ClerkKnows, spent_clerk, next_part, kept_part, new_part, joined}
 use Rattle.registration_desk.specs.Rule.{share_of, left_of, served_of, hold_bit, number_of, IsOrderly}

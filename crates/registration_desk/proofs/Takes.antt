@@ -1,5 +1,5 @@
 -- A try to take the slot keeps the rule.
-use Rattle.std.proofs.Common.{◌≡◌, ◌≢◌, ◌⊎◌, ℕ, ◌/◌, ◌%◌, ◌<◌, Bool, true, false, List, ◌∷◌, length, set, get_or, bit_or, Option, None, Some, MatchBool, sym, refl, ap, subst, inr, ⊎_elim, ◌∙◌, arith, length-set}
+use Rattle.std.proofs.Common.{◌≡◌, ◌≢◌, ℕ, ◌/◌, ◌%◌, ◌<◌, Bool, true, false, List, ◌∷◌, length, set, get_or, bit_or, Option, None, Some, MatchBool, sym, refl, ap, subst, inr, ⊎_elim, ◌∙◌, arith, length-set}
 use Rattle.std.specs.Prelude.{slice_get}
 use Rattle.std.proofs.lemmas.List.{set-get_or}
 use mathlib.Core.Option.{some}

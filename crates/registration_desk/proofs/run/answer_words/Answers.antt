@@ -1,4 +1,4 @@
-use Rattle.std.proofs.Common.{sym, ◌∙◌}
+use Rattle.std.proofs.Common.{sym}
 use Rattle.registration_desk.specs.Words.{texts}
 use Rattle.registration_desk.proofs.Answering.{words-refused}
 use Rattle.registration_desk.proofs.run.answer_words.Goals as goal

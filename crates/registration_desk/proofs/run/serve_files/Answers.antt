@@ -1,4 +1,4 @@
-use Rattle.std.proofs.Common.{ℕ, List, ap, subst, ◌∙◌}
+use Rattle.std.proofs.Common.{ℕ, List, ap, ◌∙◌}
 use Rattle.placement_file.specs.SeatLists.{SeatRows}
 use Rattle.registration_desk.specs.Reports.{report_on}
 use Rattle.registration_desk.specs.Words.{texts}

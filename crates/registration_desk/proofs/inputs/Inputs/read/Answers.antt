@@ -1,4 +1,4 @@
-use Rattle.std.proofs.Common.{◌∙◌, Ok, Err, refl}
+use Rattle.std.proofs.Common.{Ok, Err, refl}
 use Rattle.registration_desk.specs.Says.{requests_said, seats_said}
 use Rattle.registration_desk.specs.Words.{texts}
 use Rattle.run_frame.proofs.Readings.{granted-as, judged-as}
