@@ -23,10 +23,7 @@ pub(crate) fn find_list<P: Finder>(
     ensures { IfOk result (IsListFound (P.numbers programmes.now) line codes.now) }
 {
     match find_all(line, programmes, codes) {
-        Ok(list) => Ok(Ok(List::from_vec(Vec::from_slice(
-            alloc,
-            list.as_slice(),
-        )?))),
+        Ok(list) => Ok(Ok(List::from_vec(Vec::from_slice(alloc, list.as_slice())?))),
         Err(fault) => Ok(Err(fault)),
     }
 }

@@ -1,12 +1,12 @@
-use Rattle.std.proofs.Common.{◌≡◌, ◌++◌, ◌∷◌, [], ℕ, List, None, Some, refl, sym, ap, subst, ◌∙◌}
+use Rattle.std.proofs.Common.{◌≡◌, ◌++◌, ◌∷◌, [], None, Some, refl, sym, ap, subst, ◌∙◌}
 use Rattle.place_base.specs.declared.fault.FileKind.TheVariants.{Candidates as candidates}
 use Rattle.record_files.specs.FirstFaults.{duplicate_at}
 use Rattle.record_files.specs.Keys.{line_of}
 use Rattle.record_files.specs.Rows.{Row}
 use Rattle.candidate_table.proofs.Growing.{HasRows-next, clash-known, clash-meaning, clash-new}
 use Rattle.candidate_table.specs.Growth.{HasRows, IsFieldsOf, IsListFound, with_candidate}
-use Rattle.candidate_table.specs.Rows.{codes_in, list_fault, number_in}
-use Rattle.candidate_table.specs.Table.{Candidates, indexes_of}
+use Rattle.candidate_table.specs.Rows.{codes_in, number_in}
+use Rattle.candidate_table.specs.Table.{Candidates}
 use Rattle.candidate_table.specs.declared.row.Fields.{Fields}
 use Rattle.candidate_table.proofs.table.CandidateTableTakesAheadCandidate.take_ahead.Goals as goal
 
