@@ -7,6 +7,8 @@ mod answer;
 mod commands;
 // The three tables of a market, read from their files.
 mod inputs;
+// The limits in numbers.
+mod limits;
 // The line of a status.
 mod notes;
 // The mechanism's placement in a market.
@@ -20,5 +22,6 @@ mod status;
 #[cfg(test)]
 mod tests;
 
+pub use limits::limits_in_numbers;
 pub use run::run_words;
 pub use status::Status;
