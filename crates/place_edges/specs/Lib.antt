@@ -17,5 +17,7 @@ pub mod MemShelf
 pub mod MemSink
 -- a shelf that never fails
 pub mod SureShelf
+-- a shelf that holds the same byte many times
+pub mod RepeatShelf
 -- the files of the system
 pub mod RealShelf

@@ -12,6 +12,8 @@ mod mem_shelf;
 mod mem_sink;
 // The files and streams of the system.
 mod real;
+// A shelf that holds the same byte many times.
+mod repeat;
 // What a shelf is.
 mod shelf;
 // What a sink is.
@@ -24,6 +26,7 @@ mod whole;
 pub use mem_shelf::MemShelf;
 pub use mem_sink::MemSink;
 pub use real::{RealShelf, RealSink};
+pub use repeat::RepeatShelf;
 pub use shelf::{Failed, Shelf};
 pub use sink::Sink;
 pub use sure::{SureShelf, SureSink};

@@ -1,8 +1,8 @@
 // What the edges do at each call, in tables.
 use crate::real::take_from;
 use crate::{
-    Failed, MemShelf, MemSink, ReadStop, RealShelf, RealSink, Shelf, Sink, SureShelf, SureSink,
-    read_whole, write_whole,
+    Failed, MemShelf, MemSink, ReadStop, RealShelf, RealSink, RepeatShelf, Shelf, Sink, SureShelf,
+    SureSink, read_whole, write_whole,
 };
 use std::alloc::Global;
 use std::fs;
@@ -97,6 +97,21 @@ fn a_file_of_several_pieces_is_read_whole(rt: HostRuntime) -> Result<(), Fail> {
         .ok_or("not read")?;
     assert!(rt; read.is_empty());
     assert_eq!(rt; SureSink::new().put(b"abc"), Ok(3));
+    Ok(())
+}
+
+#[test]
+fn a_repeated_byte_is_read_up_to_the_most_bytes(rt: HostRuntime) -> Result<(), Fail> {
+    let alloc = rt.alloc();
+    for length in [0, 70_001, 1 << 30] {
+        let mut shelf = RepeatShelf::new(b'x', length);
+        let read = read_whole(alloc, &mut shelf, "any").ok().ok_or("not read")?;
+        assert_eq!(rt; read.len() as u64, length);
+        assert_eq!(rt; read.last().copied().unwrap_or(b'x'), b'x', "{length}");
+    }
+    let mut longer = RepeatShelf::new(b'x', (1 << 30) + 1);
+    let stop = read_whole(alloc, &mut longer, "any").err();
+    assert_eq!(rt; stop, Some(ReadStop::TooLong));
     Ok(())
 }
 
