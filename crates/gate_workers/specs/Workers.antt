@@ -1,13 +1,18 @@
 -- What a worker does to its seat.
-use Rattle.std.specs.Prelude.{◌≡◌, ℕ, ◌+◌, ◌<◌, false, length, slice_get, Option, Some, None, IsSome}
+use Rattle.std.specs.Prelude.{◌≡◌, ℕ, ◌+◌, ◌<◌, true, false, List, [], ◌∷◌, ◌++◌, length, slice_get, Option, Some, None, IsSome}
+use Rattle.market.specs.Dictatorships.{list_at}
 use Rattle.interleaving_core.specs.declared.parts.Claiming.{Claiming}
 use Rattle.interleaving_core.specs.declared.parts.OwnTurn.{OwnTurn}
+use Rattle.interleaving_core.specs.declared.parts.Phase.TheVariants.{Idle}
+use Rattle.interleaving_core.specs.Core.{claim_at, hold_at}
 use Rattle.interleaving_core.specs.Events.{with_claim}
-use Rattle.word_rule.specs.Views.{with_core}
+use Rattle.word_rule.specs.Views.{SeatKnows, with_core}
 use Rattle.word_rule.specs.Rounds.{knows, IsSeatOf, IsOver, Stays}
 use Rattle.word_rule.specs.declared.seat.SharedRound.{SharedRound}
 use Rattle.word_rule.specs.declared.seat.WorkSeat.{WorkSeat}
 use Rattle.claim_words.specs.Claimant.{MayClaim, MayPost}
+use Rattle.gate_workers.specs.declared.gate.GatePoint.{GatePoint}
+use Rattle.gate_workers.specs.declared.gate.GatePoint.TheVariants.{Claimed, BeforeRead, Posted, Took, Missed, Sealed, Released}
 
 -- the seat has read its turn's list up to an entry that has a seat left, or to its end: its claim
 -- alone is another one
@@ -34,6 +39,23 @@ pub record HasWorked (old new : WorkSeat) : Type 0 where
       → slice_get (knows new).core.own j ≡ Some y → i < j → x.turn < y.turn
   pub tries : (knows new).tries + length (knows old).core.own
       ≡ (knows old).tries + length (knows new).core.own
+
+-- the last of these turns is turn k, which is posted
+abbrev pub IsLastPosted : List OwnTurn → ℕ → Type 0
+IsLastPosted own k = (earlier : List OwnTurn) × (j : ℕ)
+    × (own ≡ earlier ++ record { turn = k; place = Some j } ∷ [])
+
+-- the seat has come to this point: before a reading it has passed the entries before the place and
+-- met none; at every other point the step is made
+abbrev pub HasCome : SeatKnows → GatePoint → Type 0
+HasCome x (Claimed k) = x.core.claim ≡ claim_at k 0 false
+HasCome x (BeforeRead k j) =
+    (x.core.claim ≡ claim_at k j false) × (j < length (list_at x.dict k))
+HasCome x (Posted k) = (x.core.claim ≡ None) × (x.core.owes ≡ true) × IsLastPosted x.core.own k
+HasCome x (Took c) = (x.core.hold ≡ hold_at c Idle) × (x.took ≡ c)
+HasCome x Missed = (x.core.hold ≡ None) × (x.core.owes ≡ false)
+HasCome x (Sealed k) = x.core.hold ≡ hold_at (k + 1) Idle
+HasCome x (Released c) = (x.core.hold ≡ None) × (x.released ≡ c)
 
 -- it is a seat of this round that may draw
 pub record IsReady (round : SharedRound) (me : WorkSeat) : Type 0 where

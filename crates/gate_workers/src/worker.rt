@@ -5,7 +5,7 @@ ghost use Rattle.interleaving_core.specs.Core.{turn_count, claim_at};
 ghost use Rattle.word_rule.specs.Rounds.{IsSeatOf, IsOver, Stays, dict_of, knows};
 ghost use Rattle.claim_words.specs.Claimant.{MayClaim, MayPost};
 ghost use Rattle.commit_book.specs.Holder.{MayTake};
-ghost use Rattle.gate_workers.specs.Workers.{HasRead, HasTried, HasWorked};
+ghost use Rattle.gate_workers.specs.Workers.{HasRead, HasTried, HasWorked, HasCome};
 
 use crate::gate::{Gate, GatePoint};
 use claim_words::{claim, post, read_entry};
@@ -25,12 +25,19 @@ pub fn work<G: Gate>(round: &SharedRound, dict: &Dict, me: &mut WorkSeat, gate: 
     ensures worked { HasWorked me.old me.new }
 {
     while let Some(turn) = claim(round, me) {
-        gate.at(me.number, GatePoint::Claimed(turn));
+        pass(gate, me, GatePoint::Claimed(turn));
         read_list(round, dict, me, turn, gate);
         post(round, dict, me);
-        gate.at(me.number, GatePoint::Posted(turn));
+        pass(gate, me, GatePoint::Posted(turn));
         try_mark(round, dict, me, gate);
     }
+}
+
+// Lets the worker pass the gate at a point that its seat has come to.
+fn pass<G: Gate>(gate: &G, me: &WorkSeat, point: GatePoint)
+    requires { HasCome (knows me.now) point }
+{
+    gate.at(me.number, point);
 }
 
 // Reads the list of the claimed turn up to the first entry that has a seat left.
@@ -44,7 +51,7 @@ fn read_list<G: Gate>(round: &SharedRound, dict: &Dict, me: &mut WorkSeat, turn:
 {
     let places = dict.list(turn).len() as u32;
     for place in 0..places {
-        gate.at(me.number, GatePoint::BeforeRead(turn, place));
+        pass(gate, me, GatePoint::BeforeRead(turn, place));
         if !read_entry(round, dict, me) {
             return;
         }
@@ -60,14 +67,15 @@ fn try_mark<G: Gate>(round: &SharedRound, dict: &Dict, me: &mut WorkSeat, gate: 
     ensures tried { HasTried me.old me.new }
 {
     if !take(round, me) {
-        gate.at(me.number, GatePoint::Missed);
+        pass(gate, me, GatePoint::Missed);
         return;
     }
-    gate.at(me.number, GatePoint::Took(me.committed));
+    pass(gate, me, GatePoint::Took(me.committed));
     while let Some(place) = look(round, me) {
         let turn = commit_turn(round, dict, me, place);
-        gate.at(me.number, GatePoint::Sealed(turn));
+        pass(gate, me, GatePoint::Sealed(turn));
     }
+    let committed = me.committed;
     release(round, me);
-    gate.at(me.number, GatePoint::Released(me.committed));
+    pass(gate, me, GatePoint::Released(committed));
 }

@@ -1,7 +1,7 @@
 -- What is wrong with a file.
 use Rattle.std.specs.Prelude.{ℕ, List, codes}
 use Rattle.place_base.specs.declared.fault.FaultKind.{FaultKind}
-use Rattle.place_base.specs.declared.fault.FaultKind.TheVariants.{Header, FieldCount, NotNumber, OutOfRange, BadTypeName, Duplicate, UnknownProgramme, ListTooLong, TooManyRows, LineTooLong, FileTooLong, UnknownCandidate}
+use Rattle.place_base.specs.declared.fault.FaultKind.TheVariants.{Header, FieldCount, NotNumber, OutOfRange, BadTypeName, Duplicate, UnknownProgramme, ListTooLong, TooManyRows, LineTooLong, FileTooLong, UnknownCandidate, BadSeat}
 
 -- the number of a kind of fault
 abbrev pub fault_number : FaultKind → ℕ
@@ -17,6 +17,7 @@ fault_number TooManyRows = 9
 fault_number LineTooLong = 10
 fault_number FileTooLong = 11
 fault_number UnknownCandidate = 12
+fault_number BadSeat = 13
 
 -- the name of a kind of fault
 abbrev pub fault_name : FaultKind → List ℕ
@@ -32,3 +33,4 @@ fault_name TooManyRows = codes "TooManyRows"
 fault_name LineTooLong = codes "LineTooLong"
 fault_name FileTooLong = codes "FileTooLong"
 fault_name UnknownCandidate = codes "UnknownCandidate"
+fault_name BadSeat = codes "BadSeat"

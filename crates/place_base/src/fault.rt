@@ -54,12 +54,14 @@ pub enum FaultKind {
     LineTooLong,
     /// The file has more than 2^30 bytes.
     FileTooLong,
-    /// A candidate is not in the candidates file. No file that is read yet can have this fault.
+    /// A candidate of a placement or registrations file is not in the candidates file.
     UnknownCandidate,
+    /// A seat is not `G` or `R` beside a programme, or not `-` beside none.
+    BadSeat,
 }
 
 impl FaultKind {
-    /// The number of the kind, 1 to 12 in the order of the variants.
+    /// The number of the kind, 1 to 13 in the order of the variants.
     pub fn number(self) -> u8
         ensures { result ≡ fault_number self }
     {
@@ -76,6 +78,7 @@ impl FaultKind {
             FaultKind::LineTooLong => 10,
             FaultKind::FileTooLong => 11,
             FaultKind::UnknownCandidate => 12,
+            FaultKind::BadSeat => 13,
         }
     }
 
@@ -96,6 +99,7 @@ impl FaultKind {
             FaultKind::LineTooLong => "LineTooLong",
             FaultKind::FileTooLong => "FileTooLong",
             FaultKind::UnknownCandidate => "UnknownCandidate",
+            FaultKind::BadSeat => "BadSeat",
         }
     }
 }

@@ -6,6 +6,9 @@ pub const MOST_PROGRAMMES: u32 = 60_000;
 /// The most data rows of a candidates file, and of a placement file.
 pub const MOST_CANDIDATES: u32 = 3_500_000;
 
+/// The most data rows of a registrations file.
+pub const MOST_REQUESTS: u32 = 3_500_000;
+
 /// The most data rows of a ranks file.
 pub const MOST_RANKS: u32 = 20_000_000;
 

@@ -51,6 +51,7 @@ fn names_of_score_types(rt: HostRuntime) -> Result<(), Fail> {
 #[test]
 fn words_of_faults(rt: HostRuntime) {
     assert_eq!(rt; FaultKind::UnknownCandidate.number(), 12);
+    assert_eq!(rt; FaultKind::BadSeat.number(), 13);
     assert_eq!(rt; FaultKind::NotNumber.name(), "NotNumber");
     assert_eq!(rt; FileKind::Ranks.name(), "ranks");
 }

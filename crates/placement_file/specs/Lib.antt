@@ -6,3 +6,7 @@ pub mod Table
 pub mod Growth
 -- the text of a placement
 pub mod Texts
+-- the file read without other files
+pub mod SeatLists
+-- the requests of a registrations file
+pub mod Requests

@@ -1,5 +1,5 @@
 // What a row says by itself.
-ghost use Rattle.std.specs.Prelude.{◌≡◌, length, None, Some, MatchResult};
+ghost use Rattle.std.specs.Prelude.{◌≡◌, ◌≤◌, length, None, Some, MatchResult};
 ghost use Rattle.record_files.specs.Rows.{fields_of};
 ghost use Rattle.placement_file.specs.Growth.{IsFieldsOf};
 ghost use Rattle.placement_file.specs.Rows.{code_read, reading};
@@ -9,9 +9,9 @@ use place_base::limits::{LARGEST_CODE, LARGEST_NUMBER};
 use place_base::{CandidateNo, FaultKind, FileFault, FileKind, ProgrammeCode};
 use record_files::{RecordRow, in_field, number};
 
-/// The fields of a row of two, or the first that is wrong by itself.
+/// The first two fields of a row, or the first that is wrong by itself.
 pub fn read_fields(row: &RecordRow<'_>) -> Result<Fields, FileFault>
-    requires { length (fields_of row.now) ≡ 2 }
+    requires { 2 ≤ length (fields_of row.now) }
     ensures { MatchResult result (λ fields. (reading row.now ≡ None) × IsFieldsOf row.now fields)
         (λ fault. reading row.now ≡ Some fault) }
 {

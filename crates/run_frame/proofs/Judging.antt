@@ -4,7 +4,7 @@ use Rattle.std.specs.Prelude.{length, replicate, IsErrAnd, IsErrOf}
 use Rattle.std.proofs.lemmas.List.{length-replicate}
 use Rattle.place_base.specs.declared.fault.FileKind.{FileKind}
 use Rattle.place_edges.specs.Shelf.{Files, HasBytes, HasMore, file_limit, tally_with}
-use Rattle.run_frame.specs.Files.{HasBegun, HasCauses, IsHeld, IsJudged, IsTaken, IsUnread}
+use Rattle.run_frame.specs.Files.{HasBegun, HasCauses, HasFileCauses, IsHeld, IsJudged, IsTaken, IsUnread}
 use Rattle.run_frame.specs.Meetings.{Meets}
 use Rattle.run_frame.specs.Stops.{is_free, too_long}
 use Rattle.run_frame.specs.declared.stop.FileStop.{FileStop}
@@ -49,14 +49,18 @@ judged-bytes told name bytes judge result before now tally_before tally_now held
       taken = λ file same decided.
           let e : file ≡ bytes = cc same in
           subst (λ v. IsTaken v tally_before tally_now) (sym e)
-          (record { short = λ _. given; long = λ many. absurd (omega (arith, few, many)) });
+          (record {
+            short = λ _. given;
+            long = λ many. absurd (omega (arith, few, many));
+            once = λ many. absurd (omega (arith, few, many));
+          });
       begun = λ unread. begun-bytes bytes tally_before tally_now given;
       causes = causes;
     }
 
 -- the causes of a stop are the same whatever there would be without it
 same-causes : {T S : Type 0} (stop : FileStop) (before now tally_before tally_now : ℕ)
-    → HasCauses {T = S} (λ v. v) (Err stop) before now tally_before tally_now
+    → HasFileCauses {T = S} (Err stop) before now tally_before tally_now
     → HasCauses {T = T} (λ v. v) (Err stop) before now tally_before tally_now
 same-causes stop before now tally_before tally_now causes = record {
   faults = causes.faults;
@@ -73,7 +77,7 @@ judged-unread : {T S : Type 0} (told : Option Files) (name : List ℕ) (kind : F
     → ((bytes : List ℕ) → file_limit < length bytes → judge bytes ≡ Err (Fault (too_long kind)))
     → IsUnread told name kind stop
     → (IsErrOf {T = S} (Err stop) Memory → tally_with tally_before 1 ≤ tally_now)
-    → HasCauses {T = S} (λ stop. stop) (Err stop) before now tally_before tally_now
+    → HasFileCauses {T = S} (Err stop) before now tally_before tally_now
     → IsJudged told name judge (Err stop) before now tally_before tally_now
 judged-unread told name kind judge (Fault found) before now tally_before tally_now long
     (is, more) begun causes =
@@ -86,6 +90,7 @@ judged-unread told name kind judge (Fault found) before now tally_before tally_n
           subst (λ v. IsTaken v tally_before tally_now) (sym e) (record {
             short = λ few. absurd (omega (arith, few, file.2));
             long = λ many. causes.long kind (ap (λ v. Err (Fault v)) is);
+            once = λ many. causes.once;
           });
       begun = λ unread.
           inr (omega (arith, causes.tally, causes.long kind (ap (λ v. Err (Fault v)) is)));
@@ -119,7 +124,7 @@ pub judged-stop : {T S : Type 0} (told : Option Files) (name : List ℕ) (kind :
     → ((bytes : List ℕ) → file_limit < length bytes → judge bytes ≡ Err (Fault (too_long kind)))
     → IsUnread told name kind stop
     → (IsErrOf {T = S} (Err stop) Memory → tally_with tally_before 1 ≤ tally_now)
-    → HasCauses {T = S} (λ stop. stop) (Err stop) before now tally_before tally_now
+    → HasFileCauses {T = S} (Err stop) before now tally_before tally_now
     → IsJudged told name judge result before now tally_before tally_now
 judged-stop told name kind judge stop result before now tally_before tally_now is long unread begun
     causes =

@@ -1,3 +1,6 @@
 pub mod Judging
+pub mod JudgedTables
 pub mod LineTexts
 pub mod Parts
+pub mod Readings
+pub mod TableFaults

@@ -1,8 +1,8 @@
 -- What reading files came to.
-use Rattle.std.specs.Prelude.{◌≡◌, ◌≤◌, ◌<◌, ◌⊎◌, ℕ, List, [], ◌∷◌, length, Option, Some, None, Result, IsErrOf, IfSome, option_map, ⊤}
+use Rattle.std.specs.Prelude.{◌≡◌, ◌≤◌, ◌<◌, ◌⊎◌, ℕ, ◌+◌, Bool, List, [], ◌∷◌, length, Option, Some, None, Result, IsErrOf, IfSome, option_map, ⊤}
 use Rattle.place_base.specs.declared.fault.FileKind.{FileKind}
 use Rattle.place_edges.specs.Causes.{Rose}
-use Rattle.place_edges.specs.Shelf.{Files, GaveMore, HasMore, file_limit, tally_with}
+use Rattle.place_edges.specs.Shelf.{Files, GaveMore, HasMore, file_limit, piece_size, tally_with}
 use Rattle.run_frame.specs.Meetings.{IsDecided, Meets}
 use Rattle.run_frame.specs.Stops.{is_free, too_long}
 use Rattle.run_frame.specs.declared.stop.FileStop.{FileStop}
@@ -24,14 +24,27 @@ pub record HasCauses {T S : Type 0} (stopped : FileStop → S) (result : Result 
   pub long : (kind : FileKind) → IsErrOf result (stopped (Fault (too_long kind)))
       → GaveMore tally_before tally_now file_limit
 
+-- The causes of what reading one file came to; and in no case were more bytes taken than one piece
+-- beyond 2^30, so that no reading is begun again.
+pub record HasFileCauses {T : Type 0} (result : Result T FileStop)
+    (before now tally_before tally_now : ℕ) : Type 0 where
+  pub faults : before ≤ now
+  pub tally : tally_before ≤ tally_now
+  pub read : IsErrOf result ReadFault → Rose before now
+  pub long : (kind : FileKind) → IsErrOf result (Fault (too_long kind))
+      → GaveMore tally_before tally_now file_limit
+  pub once : tally_now ≤ tally_before + file_limit + piece_size
+
 -- the bytes held under a name, none where there is no such file, if that is told
 abbrev pub IsHeld : Option Files → List ℕ → Option (List ℕ) → Type 0
 IsHeld told name held = IfSome told (λ files. files name ≡ held)
 
--- the tally rose by the bytes of a file, or by more than 2^30 where it has more
+-- the tally rose by the bytes of a file; or, where it has more than 2^30, by more than that and at
+-- most one piece beyond it
 pub record IsTaken (bytes : List ℕ) (before now : ℕ) : Type 0 where
   pub short : length bytes ≤ file_limit → now ≡ tally_with before (length bytes)
   pub long : file_limit < length bytes → GaveMore before now file_limit
+  pub once : file_limit < length bytes → now ≤ before + file_limit + piece_size
 
 -- the same of files that were read one after the other
 abbrev pub AreTaken : List (List ℕ) → ℕ → ℕ → Type 0
@@ -64,3 +77,24 @@ Reads = FileKind → Option (List ℕ)
 abbrev pub AreHeld : Option Files → (FileKind → List ℕ) → Reads → Type 0
 AreHeld told names reads =
     IfSome told (λ files. (kind : FileKind) → files (names kind) ≡ reads kind)
+
+-- the reading of the first file has begun, if there is one
+abbrev pub FirstHasBegun : Option FileKind → Reads → ℕ → ℕ → Type 0
+FirstHasBegun None reads before now = ⊤
+FirstHasBegun (Some kind) reads before now = HasBegun (reads kind) before now
+
+-- What reading files came to, where a run has stops of its own beside those of files: there are
+-- bytes for each kind of file, those held under the files' names where that is told, such that the
+-- result meets what is said over them. Each file up to the one that decides was read once. Memory
+-- is refused only once the first file is read.
+pub record AreRead {T S : Type 0} (told : Option Files) (names : FileKind → List ℕ)
+    (free : S → Bool) (stopped : FileStop → S) (first : Option FileKind)
+    (said : Reads → Option (Result T S)) (files : Reads → List (List ℕ)) (result : Result T S)
+    (before now tally_before tally_now : ℕ) : Type 0 where
+  pub reads : Reads
+  pub held : AreHeld told names reads
+  pub meets : Meets free (said reads) result
+  pub taken : IsDecided free result → AreTaken (files reads) tally_before tally_now
+  pub begun : (IsErrOf result (stopped ReadFault) → ⊥)
+      → FirstHasBegun first reads tally_before tally_now
+  pub causes : HasCauses stopped result before now tally_before tally_now

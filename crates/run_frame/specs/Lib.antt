@@ -5,5 +5,9 @@ pub mod Meetings
 pub mod Stops
 -- what reading files came to
 pub mod Files
+-- what files say that are opened one after the other
+pub mod Says
+-- what a run leaves of a sink
+pub mod Runs
 -- the lines of notes
 pub mod Lines

@@ -1,7 +1,7 @@
 // A named file, read whole.
 ghost use Rattle.std.specs.Prelude.{◌≡◌, ◌≤◌, IfOk, IsErrOf, IsTrue, MatchResult, vec_len};
 ghost use Rattle.place_edges.specs.Shelf.{HasBytes, file_limit, tally_with};
-ghost use Rattle.run_frame.specs.Files.{HasCauses, IsUnread};
+ghost use Rattle.run_frame.specs.Files.{HasFileCauses, IsUnread};
 ghost use Rattle.run_frame.specs.Stops.{too_long as too_long_in};
 
 use crate::FileStop;
@@ -27,8 +27,9 @@ pub fn read_file<H: Shelf>(
     ensures given { IfOk result (λ bytes.
         H.tally shelf.new ≡ tally_with (H.tally shelf.old) (vec_len bytes)) }
 
-    // Each stop has its cause in the counts; memory is refused only where bytes were taken.
-    ensures causes { HasCauses (λ stop. stop) result (H.faults shelf.old) (H.faults shelf.new)
+    // Each stop has its cause in the counts, and the file is read once; memory is refused only
+    // where bytes were taken.
+    ensures causes { HasFileCauses result (H.faults shelf.old) (H.faults shelf.new)
         (H.tally shelf.old) (H.tally shelf.new) }
 
     ensures memory { IsErrOf result FileStop.Memory

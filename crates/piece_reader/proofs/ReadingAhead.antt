@@ -1,0 +1,196 @@
+-- Reading the rows of a part into its table, one after the other; and the tables of all parts, one
+-- after the other.
+use Rattle.std.proofs.Common.{◌≡◌, ◌==◌, ℕ, zero, suc, ◌+◌, ◌<◌, ◌≤◌, false, drop, if◌then◌else◌, List, [], ◌∷◌, ◌++◌, All, IfSome, Ok, None, Option, Result, Some, length, get_or, refl, sym, ap, ◌∙◌, arith, append_assoc, subst, length-append}
+use Rattle.std.specs.List.{AllZip, flat_map}
+use Rattle.std.proofs.lemmas.Bool.Decides.{nat_tests}
+use Rattle.std.proofs.lemmas.Grind.{flat_map-append}
+use Rattle.std.proofs.lemmas.List.{append-nil, get_or-map, length-map}
+use Rattle.std.proofs.lemmas.List.Elements.{All-append, All-nil, All-push}
+use Rattle.record_files.specs.FirstFaults.{FileRules, first_row_fault}
+use Rattle.record_files.specs.Form.{header_in}
+use Rattle.record_files.specs.Rows.{Row, data_rows, part_rows, rows}
+use Rattle.record_files.specs.declared.form.Header.{Header}
+use Rattle.record_files.specs.declared.rows.RowPart.{RowPart}
+use Rattle.piece_reader.specs.Ahead.{ArePartsRead, AreRead, AreTablesOf, IsClean, IsPartRead}
+use Rattle.piece_reader.specs.Header.{BeginsWithRow, data_lists}
+use Rattle.piece_reader.specs.declared.ahead.PartRead.{PartRead}
+use Rattle.piece_reader.proofs.DataRows.{data_rows-of_lists}
+
+-- one more at the end of two lists
+pub AllZip-more : {A B : Type 0} (R : A → B → Type 0) (xs : List A) (ys : List B) (x : A) (y : B)
+    → AllZip R xs ys → R x y → AllZip R (xs ++ x ∷ []) (ys ++ y ∷ [])
+AllZip-more R [] [] x y all here = (here, tt)
+AllZip-more R [] (z ∷ ys) x y all here = absurd all
+AllZip-more R (z ∷ xs) [] x y all here = absurd all
+AllZip-more R (z ∷ xs) (w ∷ ys) x y all here = (all.0, AllZip-more R xs ys x y all.1 here)
+
+-- what holds at each place
+pub AllZip-each : {A B : Type 0} (R : A → B → Type 0) (xs : List A) (ys : List B)
+    → length xs ≡ length ys
+    → ((k : ℕ) (d : A) (e : B) → k < length xs → R (get_or xs k d) (get_or ys k e))
+    → AllZip R xs ys
+AllZip-each R [] [] same each = tt
+AllZip-each R [] (y ∷ ys) same each = absurd (omega arith)
+AllZip-each R (x ∷ xs) [] same each = absurd (omega arith)
+AllZip-each R (x ∷ xs) (y ∷ ys) same each = (
+  each 0 x y (omega arith),
+  AllZip-each R xs ys (omega arith) (λ k d e lt. each (suc k) d e (omega arith)),
+)
+
+module _ {G : Type 0} (rules : FileRules) (header : Header) (HasRows : List Row → G → Type 0) where
+  -- of all rows the first are in the table, and they are clean
+  pub record ReadsTo (all : List Row) (table : G) (count : ℕ) (left : List Row) : Type 0 where
+    pub said : List Row
+    pub has : HasRows said table
+    pub clean : All (IsClean rules header) said
+    pub size : count ≡ length said
+    pub behind : all ≡ said ++ left
+
+  pub ReadsTo-begin : (all : List Row) (table : G) → HasRows [] table → ReadsTo all table 0 all
+  ReadsTo-begin all table has =
+      record { said = []; has = has; clean = All-nil _; size = refl; behind = refl }
+
+  pub ReadsTo-next : (all : List Row) (table new : G) (count : ℕ) (row : Row) (left : List Row)
+      (r : ReadsTo all table count (row ∷ left)) → IsClean rules header row
+      → HasRows (r.said ++ row ∷ []) new → ReadsTo all new (count + 1) left
+  ReadsTo-next all table new count row left r clean has =
+      let more = length-append r.said (row ∷ []) in
+      let size = r.size in
+      record {
+        said = r.said ++ row ∷ [];
+        has = has;
+        clean = All-push (IsClean rules header) r.said row r.clean clean;
+        size = omega arith;
+        behind = r.behind ∙ sym (append_assoc r.said (row ∷ []) left);
+      }
+
+  pub ReadsTo-ends : (all : List Row) (table : G) (count : ℕ) → ReadsTo all table count []
+      → IsPartRead rules header HasRows all (record { table = table; count = count })
+  ReadsTo-ends all table count r =
+      let whole : r.said ≡ all = sym (append-nil r.said) ∙ sym r.behind in
+      record {
+        has = subst (λ rows. HasRows rows table) whole r.has;
+        clean = subst (All (IsClean rules header)) whole r.clean;
+        count = r.size ∙ ap length whole;
+      }
+
+  -- the rows of the first parts are in these tables, so many
+  pub record JoinsTo (lists : List (List Row)) (tables : List G) (count : ℕ) (left : List (List Row))
+      : Type 0 where
+    pub done : List (List Row)
+    pub each : AllZip HasRows done tables
+    pub clean : All (IsClean rules header) (flat_map (λ rows. rows) done)
+    pub size : count ≡ length (flat_map (λ rows. rows) done)
+    pub behind : lists ≡ done ++ left
+
+  pub JoinsTo-begin : (lists : List (List Row)) → JoinsTo lists [] 0 lists
+  JoinsTo-begin lists =
+      record { done = []; each = tt; clean = All-nil _; size = refl; behind = refl }
+
+  pub JoinsTo-next : (lists : List (List Row)) (tables : List G) (count : ℕ) (rows : List Row)
+      (left : List (List Row)) (read : PartRead G) → JoinsTo lists tables count (rows ∷ left)
+      → IsPartRead rules header HasRows rows read
+      → JoinsTo lists (tables ++ read.table ∷ []) (count + read.count) left
+  JoinsTo-next lists tables count rows left read j is =
+      let whole : flat_map (λ rows. rows) (j.done ++ rows ∷ []) ≡ flat_map (λ rows. rows) j.done ++ rows =
+      flat_map-append (λ (rows : List Row). rows) j.done (rows ∷ [])
+      ∙ ap (λ more. flat_map (λ rows. rows) j.done ++ more) (append-nil rows) in
+      let sizes = length-append (flat_map (λ (rows : List Row). rows) j.done) rows in
+      let before = j.size in
+      let here = is.count in
+      record {
+        done = j.done ++ rows ∷ [];
+        each = AllZip-more HasRows j.done tables rows read.table j.each is.has;
+        clean = subst (All (IsClean rules header)) (sym whole)
+            (All-append (IsClean rules header) (flat_map (λ rows. rows) j.done) rows j.clean is.clean);
+        size = omega (arith, ap length whole);
+        behind = j.behind ∙ sym (append_assoc j.done (rows ∷ []) left);
+      }
+
+  pub JoinsTo-ends : (lists : List (List Row)) (tables : List G) (count : ℕ)
+      → count ≤ rules.form.most_rows → JoinsTo lists tables count []
+      → AreTablesOf rules header HasRows lists tables
+  JoinsTo-ends lists tables count few j =
+      let whole : j.done ≡ lists = sym (append-nil j.done) ∙ sym j.behind in
+      record {
+        each = subst (λ all. AllZip HasRows all tables) whole j.each;
+        clean = subst (λ all. All (IsClean rules header) (flat_map (λ rows. rows) all)) whole j.clean;
+        few = omega (arith, j.size, ap (λ all. length (flat_map (λ (rows : List Row). rows) all)) whole);
+      }
+
+  -- the parts left are those of the lists left
+  pub record PartsLeft {E : Type 0} (lists : List (List Row)) (tables : List G) (count : ℕ)
+      (parts : List (Result (Option (PartRead G)) E)) : Type 0 where
+    pub left : List (List Row)
+    pub read : ArePartsRead rules header HasRows left parts
+    pub joins : JoinsTo lists tables count left
+
+  pub PartsLeft-next : {E : Type 0} (lists : List (List Row)) (tables : List G) (count : ℕ)
+      (read : PartRead G) (parts : List (Result (Option (PartRead G)) E))
+      → PartsLeft lists tables count (Ok (Some read) ∷ parts)
+      → PartsLeft lists (tables ++ read.table ∷ []) (count + read.count) parts
+  PartsLeft-next {E} lists tables count read parts p = by p.left p.read p.joins
+    where
+      by : (left : List (List Row))
+          → ArePartsRead {E = E} rules header HasRows left (Ok (Some read) ∷ parts)
+          → JoinsTo lists tables count left
+          → PartsLeft lists (tables ++ read.table ∷ []) (count + read.count) parts
+      by [] each joins = absurd each
+      by (rows ∷ left) each joins = record {
+        left = left;
+        read = each.1;
+        joins = JoinsTo-next lists tables count rows left read joins each.0;
+      }
+
+  pub PartsLeft-ends : {E : Type 0} (lists : List (List Row)) (tables : List G) (count : ℕ)
+      → count ≤ rules.form.most_rows → PartsLeft {E = E} lists tables count []
+      → AreTablesOf rules header HasRows lists tables
+  PartsLeft-ends {E} lists tables count few p = by p.left p.read p.joins
+    where
+      by : (left : List (List Row)) → ArePartsRead {E = E} rules header HasRows left []
+          → JoinsTo lists tables count left → AreTablesOf rules header HasRows lists tables
+      by [] each joins = JoinsTo-ends lists tables count few joins
+      by (rows ∷ left) each joins = absurd each
+
+-- the data rows of the part of a number
+pub data_lists-at : (bytes : List ℕ) (parts : List RowPart) (k : ℕ) (d : List Row) (p : RowPart)
+    → k < length parts
+    → get_or (data_lists bytes parts) k d
+    ≡ drop (if k == 0 then 1 else 0) (part_rows bytes (get_or parts k p))
+data_lists-at bytes [] k d p lt = absurd (omega arith)
+data_lists-at bytes (part ∷ parts) zero d p lt = refl
+data_lists-at bytes (part ∷ parts) (suc k) d p lt =
+    let later : (suc k == 0) ≡ false = grind (arith, nat_tests) in
+    get_or-map (part_rows bytes) parts k p d (omega arith)
+    ∙ ap (λ t. drop (if t then 1 else 0) (part_rows bytes (get_or parts k p))) (sym later)
+
+pub length-data_lists : (bytes : List ℕ) (parts : List RowPart)
+    → length (data_lists bytes parts) ≡ length parts
+length-data_lists bytes [] = refl
+length-data_lists bytes (part ∷ parts) = ap suc (length-map parts (part_rows bytes))
+
+pub IfSome-weaker : {X : Type 0} (o : Option X) (P Q : X → Type 0) → ((x : X) → P x → Q x)
+    → IfSome o P → IfSome o Q
+IfSome-weaker None P Q w h = tt
+IfSome-weaker (Some x) P Q w h = w x h
+
+-- the tables of the parts of a file
+pub AreRead-from : {G : Type 0} (rules : FileRules) (HasRows : List Row → G → Type 0)
+    (bytes : List ℕ) (parts : List RowPart) (header : Header) (tables : List G)
+    → first_row_fault rules.form (rows bytes) ≡ None → header ≡ header_in rules.form (rows bytes)
+    → BeginsWithRow bytes parts → flat_map (part_rows bytes) parts ≡ rows bytes
+    → AreTablesOf rules header HasRows (data_lists bytes parts) tables
+    → AreRead rules HasRows bytes tables
+AreRead-from rules HasRows bytes parts header tables passed same first all t =
+    let whole : flat_map (λ rows. rows) (data_lists bytes parts) ≡ data_rows bytes =
+    data_rows-of_lists bytes parts first ∙ ap (drop 1) all in
+    let few = t.few in
+    record {
+      header = passed;
+      clean = subst (λ h. All (IsClean rules h) (data_rows bytes)) same
+          (subst (All (IsClean rules header)) whole t.clean);
+      few = omega (arith, ap length whole);
+      lists = data_lists bytes parts;
+      whole = whole;
+      each = t.each;
+    }

@@ -1,0 +1,17 @@
+use Rattle.std.proofs.Common.{List, length}
+use Rattle.std.specs.List.{AllZip}
+use Rattle.std.specs.Vec.Iter.{into_iter_items}
+use Rattle.record_files.specs.Rows.{Row}
+use Rattle.piece_reader.proofs.Joining.{AddsTo}
+use Rattle.piece_reader.proofs.joined.take_part.Given as goal
+
+-- the rows so far are in the table
+abbrev pub invariant-rows : goal.invariant-rows
+invariant-rows g l = (earlier more : List Row)
+    → g.T.RowTable.has_rows l.beside earlier l.initial.table
+    → AllZip (g.A.AheadRow.keeps l.beside) more (into_iter_items l.initial.left)
+    → AddsTo (g.T.RowTable.rules l.beside) (g.A.AheadRow.keeps l.beside)
+    (g.T.RowTable.has_rows l.beside) earlier more l.table (into_iter_items l.left)
+
+abbrev pub decreases-rows : goal.decreases-rows
+decreases-rows g l = length (into_iter_items l.left)

@@ -1,0 +1,116 @@
+-- A file that was read whole says what its table was read as, and one that is too long says so.
+use Rattle.std.proofs.Common.{◌≡◌, ℕ, ◌<◌, ◌≤◌, List, Option, Some, Result, Ok, Err, IfOk, sym, ap, subst, ◌∙◌, inl, inr, refl, None, ⊎_elim}
+use Rattle.std.specs.Prelude.{length}
+use Rattle.std.proofs.lemmas.Bool.{cases_lt, cond-true, cond-false, le-ltb, lt-ltb}
+use Rattle.place_base.specs.declared.fault.FileFault.{FileFault}
+use Rattle.place_base.specs.declared.fault.FileKind.{FileKind}
+use Rattle.place_edges.specs.Shelf.{Files, HasBytes, file_limit, tally_with}
+use Rattle.record_files.specs.ReadTo.{IsTableRead}
+use Rattle.record_files.specs.declared.table_stop.TableStop.{TableStop}
+use Rattle.record_files.specs.declared.table_stop.TableStop.TheVariants as stopped
+use Rattle.run_frame.specs.Files.{HasCauses, IsJudged}
+use Rattle.run_frame.specs.Meetings.{Meets}
+use Rattle.run_frame.specs.Stops.{is_free, table_said, too_long}
+use Rattle.run_frame.specs.declared.stop.FileStop.{FileStop}
+use Rattle.run_frame.specs.declared.stop.FileStop.TheVariants.{Fault}
+use Rattle.run_frame.proofs.Judging.{judged-bytes}
+use Rattle.run_frame.specs.Says.{judged, fault_or}
+use Rattle.run_frame.proofs.TableFaults.{IsOther}
+
+pub judged-short : {T : Type 0} (kind : FileKind) (fault : Option FileFault) (table : T)
+    (bytes : List ℕ)
+    → length bytes ≤ file_limit → judged kind fault table bytes ≡ fault_or fault table
+judged-short kind fault table bytes few = cond-false _ _ _ (le-ltb file_limit (length bytes) few)
+
+pub judged-long : {T : Type 0} (kind : FileKind) (fault : Option FileFault) (table : T)
+    (bytes : List ℕ)
+    → file_limit < length bytes → judged kind fault table bytes ≡ Err (Fault (too_long kind))
+judged-long kind fault table bytes many = cond-true _ _ _ (lt-ltb file_limit (length bytes) many)
+
+-- what was read of a table is what the file says
+table-meets : {T : Type 0} (kind : FileKind) (fault : Option FileFault) (table : T)
+    (bytes : List ℕ) (said : List ℕ → Result T FileStop) (read : Result T TableStop)
+    → said bytes ≡ judged kind fault table bytes → length bytes ≤ file_limit
+    → IsTableRead fault table read → Meets is_free (Some (said bytes)) (table_said read)
+table-meets kind fault table bytes said (Ok read) is few (none, same) =
+    ap (λ v. Some v) (is ∙ judged-short kind fault table bytes few
+    ∙ ap (λ v. fault_or v table) none ∙ ap (λ v. Ok v) (sym same))
+table-meets kind fault table bytes said (Err (stopped.Fault f)) is few found =
+    inr (ap (λ v. Some v) (is ∙ judged-short kind fault table bytes few
+    ∙ ap (λ v. fault_or v table) found))
+table-meets kind fault table bytes said (Err stopped.Memory) is few found = inl refl
+
+fault-other : (f : FileFault) → IsOther (Some f) → (kind : FileKind) → f ≡ too_long kind → ⊥
+fault-other f other kind e = other (ap (λ v. v.kind) e)
+
+-- a table has no cause of its own in the counts
+table-causes : {T : Type 0} (before now tally_before tally_now : ℕ)
+    (fault : Option FileFault) (table : T) (read : Result T TableStop)
+    → before ≤ now → tally_before ≤ tally_now → IsOther fault → IsTableRead fault table read
+    → HasCauses (λ stop. stop) (table_said read) before now tally_before tally_now
+table-causes before now tally_before tally_now fault table (Ok read) later tally other found =
+    record { faults = later; tally = tally; read = λ e. cc e; long = λ kind e. cc e }
+table-causes before now tally_before tally_now fault table (Err (stopped.Fault f)) later tally other
+    found =
+    record {
+      faults = later;
+      tally = tally;
+      read = λ e. cc e;
+      long = λ kind e. absurd (fault-other f (subst IsOther found other) kind (cc e));
+    }
+table-causes before now tally_before tally_now fault table (Err stopped.Memory) later tally other
+    found = record { faults = later; tally = tally; read = λ e. cc e; long = λ kind e. cc e }
+
+-- a file whose table was read, or its first fault, is judged so
+pub judged-table : {T : Type 0} (told : Option Files) (name bytes : List ℕ) (kind : FileKind)
+    (fault : Option FileFault) (table : T) (said : List ℕ → Result T FileStop)
+    (read : Result T TableStop) (result : Result T FileStop)
+    (before now tally_before tally_now : ℕ) → said bytes ≡ judged kind fault table bytes
+    → HasBytes told name bytes → length bytes ≤ file_limit
+    → tally_now ≡ tally_with tally_before (length bytes) → before ≤ now
+    → tally_before ≤ tally_now → IsOther fault → IsTableRead fault table read
+    → result ≡ table_said read
+    → IsJudged told name said result before now tally_before tally_now
+judged-table told name bytes kind fault table said read result before now tally_before tally_now is
+    held few given later tally other found same =
+    subst (λ v. IsJudged told name said v before now tally_before tally_now) (sym same)
+    (judged-bytes told name bytes said (table_said read) before now tally_before tally_now held few
+    given (table-meets kind fault table bytes said read is few found)
+    (table-causes before now tally_before tally_now fault table read later tally other found))
+
+-- what holds of a table that was read holds of what it is among the causes of a file
+pub table-ok : {T : Type 0} (P : T → Type 0) (read : Result T TableStop)
+    (result : Result T FileStop) → result ≡ table_said read → IfOk read P → IfOk result P
+table-ok P (Ok read) result same p = subst (λ v. IfOk v P) (sym same) p
+table-ok P (Err stop) result same p = subst (λ v. IfOk v P) (sym same) tt
+
+-- what holds of the table of a file holds of the table that was read
+pub table-read : {T : Type 0} (P : T → Type 0) (fault : Option FileFault) (table : T)
+    (read : Result T TableStop) → IsTableRead fault table read → P table → IfOk read P
+table-read P fault table (Ok read) (none, same) p = subst P (sym same) p
+table-read P fault table (Err stop) found p = tt
+
+-- a file that says its table is short and has no fault
+pub record SaysTable {T : Type 0} (fault : Option FileFault) (table said : T) (bytes : List ℕ)
+    : Type 0 where
+    pub few : length bytes ≤ file_limit
+    pub none : fault ≡ None
+    pub same : said ≡ table
+
+no-fault : {T : Type 0} (fault : Option FileFault) (table said : T) → fault_or fault table ≡ Ok said
+    → (fault ≡ None) × (said ≡ table)
+no-fault None table said e = (refl, sym (cc e))
+no-fault (Some f) table said e = cc e
+
+pub says-table : {T : Type 0} (kind : FileKind) (fault : Option FileFault) (table said : T)
+    (bytes : List ℕ)
+    → judged kind fault table bytes ≡ Ok said → SaysTable fault table said bytes
+says-table kind fault table said bytes e =
+    ⊎_elim (λ (many : file_limit < length bytes).
+    let never : Err (Fault (too_long kind)) ≡ Ok said =
+    sym (judged-long kind fault table bytes many) ∙ e
+    in cc never)
+    (λ (few : length bytes ≤ file_limit).
+    let both = no-fault fault table said (sym (judged-short kind fault table bytes few) ∙ e) in
+    record { few = few; none = both.0; same = both.1 })
+    (cases_lt file_limit (length bytes))
