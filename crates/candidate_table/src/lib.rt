@@ -8,6 +8,10 @@ mod entries;
 mod row;
 // What a row says by itself.
 mod fields;
+// The programmes of a preference list.
+mod lists;
+// Candidates read ahead of those before them.
+mod ahead;
 // The numbers of candidates.
 mod numbers;
 // The table, its reading and its look-ups.

@@ -2,20 +2,19 @@
 ghost use Rattle.std.specs.Prelude.{◌≡◌, ◌≤◌, ◌<◌, [], All, length, slice_get, Some, None, IfOk, OnOk, MatchResult};
 ghost use Rattle.record_files.specs.Keys.{line_of};
 ghost use Rattle.record_files.specs.ReadTo.{IsTableRead};
-ghost use Rattle.candidate_table.specs.Rows.{candidates_fault, list_fault};
+ghost use Rattle.candidate_table.specs.Rows.{candidates_fault};
 ghost use Rattle.candidate_table.specs.Growth.{with_candidate};
-ghost use Rattle.candidate_table.specs.Table.{IsPreferenceList, candidates_table, indexes_of, table_of};
+ghost use Rattle.candidate_table.specs.Table.{IsPreferenceList, candidates_table, table_of};
 
-use crate::entries::Entries;
+use crate::ahead::Candidate;
 use crate::fields::read_fields;
 use crate::numbers::CandidateNumbers;
 use crate::row::Fields;
 use market::List;
-use place_base::limits::{LARGEST_FILE, MOST_CANDIDATES, MOST_ENTRIES, MOST_PIECES};
-use place_base::{FaultKind, FileFault, FileKind, Finder};
-use record_files::{
-    FileForm, Header, RecordRow, RowTable, TableStop, duplicate_at, fault_at, read_table,
-};
+use piece_reader::{AheadRow, TakesAhead, read_table};
+use place_base::limits::{LARGEST_FILE, MOST_CANDIDATES, MOST_PIECES};
+use place_base::{CandidateNo, FileFault, FileKind, Finder};
+use record_files::{FileForm, Header, RecordRow, RowTable, TableStop, duplicate_at};
 use std::alloc::{AllocError, Global};
 use std::marker::Model;
 use std::thread::Threads;
@@ -41,9 +40,9 @@ impl CandidateTable {
     /// The table of a file of at most 2^30 bytes beside the programmes' codes; `Fault` exactly where
     /// the file has a first fault, and then it carries it.
     ///
-    /// `pieces` is the number of parts, 1 to 64, in which the file may be read; it is read in one.
-    /// The result does not depend on it. After a refusal there is no table.
-    pub fn read<R: Threads, P: Finder>(
+    /// `pieces` is the number of parts, 1 to 64, in which the file is read side by side. The result
+    /// does not depend on it. After a refusal there is no table.
+    pub fn read<R: Threads + Sync, P: Finder + Sync>(
         rt: &R,
         alloc: Global,
         bytes: &[u8],
@@ -59,7 +58,8 @@ impl CandidateTable {
         ensures lists { IfOk result (λ table.
             All (IsPreferenceList (length (P.numbers programmes.now))) table.lists) }
     {
-        read_table(alloc, bytes, programmes, CandidateTable::new(alloc))
+        let empty = CandidateTable::new(alloc);
+        read_table::<R, P, Candidate, CandidateTable>(rt, alloc, bytes, pieces, programmes, empty)
     }
 
     /// The preference list of the candidate at an index, as indexes of programmes, best first.
@@ -91,14 +91,13 @@ impl CandidateTable {
     }
 
     // Adds a candidate with a new number, who has this list.
-    fn add(&mut self, alloc: Global, fields: &Fields, list: &Entries) -> Result<(), AllocError>
+    fn add(&mut self, number: CandidateNo, line: u32, list: List) -> Result<(), AllocError>
         requires few { length self.old.lists < MOST_CANDIDATES }
-        requires new { line_of self.old.numbers fields.now.number ≡ None }
-        ensures { OnOk result (self.new ≡ with_candidate self.old fields.now list.now) }
+        requires new { line_of self.old.numbers number ≡ None }
+        ensures { OnOk result (self.new ≡ with_candidate self.old number line list) }
     {
-        let list = List::from_vec(Vec::from_slice(alloc, list.as_slice())?);
         self.lists.reserve(1)?;
-        self.numbers.add(fields.number, fields.line)?;
+        self.numbers.add(number, line)?;
         self.lists.push(list).unwrap();
         Ok(())
     }
@@ -116,8 +115,8 @@ impl<P: Finder> RowTable<P> for CandidateTable {
 
     ghost has_rows = { λ programmes rows table. HasRows (P.numbers programmes) rows table };
 
-    fn form(_programmes: &P) -> FileForm {
-        FileForm::new(FileKind::Candidates, &[b"candidate,list"], MOST_CANDIDATES)
+    fn form(programmes: &P) -> FileForm {
+        Candidate::form(programmes)
     }
 
     fn read_fields(
@@ -134,41 +133,31 @@ impl<P: Finder> RowTable<P> for CandidateTable {
         programmes: &P,
         fields: Fields,
     ) -> Result<Option<FileFault>, AllocError> {
-        if let Some(earlier) = self.numbers.line_of(fields.number) {
-            let fault = duplicate_at(FileKind::Candidates, fields.line, 1, earlier);
+        let candidate = Candidate::keep(alloc, programmes, fields)?;
+        self.take_ahead(alloc, programmes, candidate)
+    }
+}
+
+impl<P: Finder> TakesAhead<P, Candidate> for CandidateTable {
+    fn take_ahead(
+        &mut self,
+        _alloc: Global,
+        _programmes: &P,
+        row: Candidate,
+    ) -> Result<Option<FileFault>, AllocError> {
+        let Candidate { line, number, list } = row;
+        if let Some(earlier) = self.numbers.line_of(number) {
+            let fault = duplicate_at(FileKind::Candidates, line, 1, earlier);
             return Ok(Some(fault));
         }
-        match find_all(fields.line, programmes, fields.codes.as_slice()) {
+        match list {
             Ok(list) => {
-                self.add(alloc, &fields, &list)?;
+                self.add(number, line, list)?;
                 Ok(None)
             }
             Err(fault) => Ok(Some(fault)),
         }
     }
-}
-
-// The codes of a list of this line as indexes of programmes, or what is wrong with the first that
-// is none or stands earlier in the list.
-fn find_all<P: Finder>(line: u32, programmes: &P, codes: &[u32]) -> Result<Entries, FileFault>
-    requires { length codes.now ≤ MOST_ENTRIES }
-    ensures { MatchResult result
-        (λ list. (list_fault (P.numbers programmes.now) line codes.now ≡ None)
-        × (list ≡ indexes_of (P.numbers programmes.now) codes.now))
-        (λ fault. list_fault (P.numbers programmes.now) line codes.now ≡ Some fault) }
-{
-    let file = FileKind::Candidates;
-    let mut list = Entries::new();
-    for (index, code) in codes.iter().enumerate() {
-        let Some(programme) = programmes.find(u64::from(*code)) else {
-            return Err(fault_at(file, line, 2, FaultKind::UnknownProgramme));
-        };
-        if codes[..index].contains(code) {
-            return Err(duplicate_at(file, line, 2, line));
-        }
-        list.push(programme);
-    }
-    Ok(list)
 }
 
 impl Finder for CandidateTable {

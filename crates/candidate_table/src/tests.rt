@@ -5,21 +5,21 @@ use super::{CandidateNumbers, CandidateTable};
 use place_base::FaultKind::{
     self, Duplicate, FieldCount, Header, ListTooLong, NotNumber, OutOfRange, UnknownProgramme,
 };
-use place_base::{FileKind, Finder};
+use place_base::{FileFault, FileKind, Finder};
 use record_files::{TableStop, duplicate_at};
 use std::alloc::Global;
 use std::test::Fail;
 use std::thread::Threads;
 
 // Any table of numbers serves as the programmes' codes.
-fn codes<R: Threads>(rt: &R, alloc: Global) -> Result<CandidateTable, TableStop> {
+fn codes<R: Threads + Sync>(rt: &R, alloc: Global) -> Result<CandidateTable, TableStop> {
     let bytes = b"candidate,list\n101,\n202,\n303,\n";
     CandidateTable::read(rt, alloc, bytes, 1, &CandidateNumbers::new(alloc))
 }
 
 // A table read, of which no more is known than its type says: a file written out would be computed
 // in each goal.
-fn read<R: Threads>(
+fn read<R: Threads + Sync>(
     rt: &R,
     alloc: Global,
     bytes: &[u8],
@@ -117,8 +117,8 @@ fn the_first_fault_is_told(rt: HostRuntime) -> Result<(), Fail> {
     tell_faults(&rt, rt.alloc(), &codes(&rt, rt.alloc())?, &FILES)
 }
 
-// Reads each file beside the codes, and fails where another fault is told.
-fn tell_faults<R: Threads>(
+// Reads each file beside the codes.
+fn tell_faults<R: Threads + Sync>(
     rt: &R,
     alloc: Global,
     codes: &CandidateTable,
@@ -130,7 +130,26 @@ fn tell_faults<R: Threads>(
         if text.len() > 1024 {
             return Err(Fail::new("a long text"));
         }
-        let read = CandidateTable::read(rt, alloc, text.as_bytes(), 1, codes);
+        tell_fault(rt, alloc, codes, text.as_bytes(), wanted)?;
+    }
+    Ok(())
+}
+
+// Reads a file in different numbers of pieces, and fails where another fault is told.
+fn tell_fault<R: Threads + Sync>(
+    rt: &R,
+    alloc: Global,
+    codes: &CandidateTable,
+    bytes: &[u8],
+    wanted: FileFault,
+) -> Result<(), Fail>
+    requires { length bytes.now ≤ 1024 }
+{
+    for pieces in &[1, 2, 7, 64] {
+        if *pieces == 0 || *pieces > 64 {
+            return Err(Fail::new("a number of pieces"));
+        }
+        let read = CandidateTable::read(rt, alloc, bytes, *pieces, codes);
         if read.err() != Some(TableStop::Fault(wanted)) {
             return Err(Fail::new("another fault"));
         }

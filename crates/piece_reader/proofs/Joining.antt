@@ -205,12 +205,16 @@ module _ {A T : Type 0} (rules : FileRules) (keeps : Row → A → Type 0) (has 
               → (more : List Row) × AllZip keeps more part.rows.items
               × (length p.done + length more ≤ most)
           by [] behind kept = absurd kept
-          by (rows ∷ lists) behind kept = (rows, kept.0, omega (
-            arith,
-            ap length behind,
-            length-append p.done (rows ++ flat_map (λ rows. rows) lists),
-            length-append rows (flat_map (λ rows. rows) lists),
-          ))
+          by (rows ∷ lists) behind kept = (
+            rows,
+            kept.0,
+            omega (
+              arith,
+              ap length behind,
+              length-append p.done (rows ++ flat_map (λ rows. rows) lists),
+              length-append rows (flat_map (λ rows. rows) lists),
+            ),
+          )
 
     pub JoinsParts-ends : (all : List Row) (table : T) → JoinsParts all table []
         → (meanings rules [] all ≡ None) × has all table

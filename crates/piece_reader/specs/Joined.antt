@@ -1,5 +1,5 @@
 -- Rows added to a table one after the other, where nothing is wrong with them by themselves.
-use Rattle.std.specs.Prelude.{ℕ, List, [], ◌∷◌, ◌++◌, None, Option}
+use Rattle.std.specs.Prelude.{List, [], ◌∷◌, ◌++◌, None, Option}
 use Rattle.place_base.specs.declared.fault.FileFault.{FileFault}
 use Rattle.record_files.specs.FirstFaults.{FileRules, first_of}
 use Rattle.record_files.specs.Rows.{Row}

@@ -41,14 +41,7 @@ pub fn read_parts<R: Threads + Sync, B: Sync, G: PartTable<B> + Send + Drop>(
         return Ok(None);
     };
     let parts = read_pieces(rt, alloc, bytes, pieces)?;
-    let read = read_each(
-        rt,
-        alloc,
-        bytes,
-        from_header(bytes, &parts),
-        header,
-        beside,
-    )?;
+    let read = read_each(rt, alloc, bytes, from_header(bytes, &parts), header, beside)?;
     whole(alloc, read, beside)
 }
 

@@ -42,14 +42,7 @@ pub fn read_table<
     B: Sync,
     A: AheadRow<B> + Send + Drop,
     T: TakesAhead<B, A> + Drop,
->(
-    rt: &R,
-    alloc: Global,
-    bytes: &[u8],
-    pieces: u32,
-    beside: &B,
-    table: T,
-) -> Result<T, TableStop>
+>(rt: &R, alloc: Global, bytes: &[u8], pieces: u32, beside: &B, table: T) -> Result<T, TableStop>
     requires size { length bytes.now ≤ LARGEST_FILE }
     requires pieces { (1 ≤ pieces) × (pieces ≤ MOST_PIECES) }
     requires empty { T.has_rows beside.now [] table }

@@ -100,10 +100,7 @@ fn lines_between(bytes: &[u8], start: usize, end: usize) -> usize
     requires { (start ≤ end) × (end ≤ length bytes.now) }
     ensures { result ≡ line_ends (slice_range bytes.now start end) }
 {
-    bytes[start..end]
-        .iter()
-        .filter(|byte| **byte == LF)
-        .count()
+    bytes[start..end].iter().filter(|byte| **byte == LF).count()
 }
 
 // The parts of stretches.

@@ -1,14 +1,13 @@
 -- The table of the rows read grows as the rows do: a new row leaves the types of the earlier ones
 -- where they are, and what is wrong with it beside the rows is what is wrong with it beside the table.
-use Rattle.std.proofs.Common.{nat_le, ◌≡◌, ◌≤◌, ◌<◌, ℕ, Bool, true, false, cond, List, [], ◌∷◌, ◌++◌, map, find, length, length-append, refl, arith, sym, ap, ◌∙◌, Option, Some, None, nat_eq, ◌==◌}
+use Rattle.std.proofs.Common.{nat_le, ◌≡◌, ◌≤◌, ◌<◌, ℕ, Bool, true, false, List, [], ◌∷◌, ◌++◌, map, length, length-append, refl, arith, sym, ap, ◌∙◌, Option, Some, None}
 use Rattle.std.specs.List.{list_any, AllByRecursion}
-use Rattle.std.specs.Map.{lookup}
 use Rattle.std.specs.Option.{option_map}
 use Rattle.std.specs.Str.{bytes_eq}
 use Rattle.std.proofs.Math.Bool.{and-true}
 use Rattle.std.proofs.lemmas.Bool.{leb-false}
 use Rattle.std.proofs.lemmas.Cmp.{nat_list_eq_equiv}
-use Rattle.std.proofs.lemmas.List.{map-append, length-map}
+use Rattle.std.proofs.lemmas.List.{map-append}
 use Rattle.std.proofs.lemmas.List.Elements.{All-push, All-weaker}
 use Rattle.programme_table.specs.declared.row.ProgrammeRow.{ProgrammeRow}
 use Rattle.indexmap.specs.IndexSet.{insert_key}

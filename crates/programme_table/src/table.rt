@@ -9,11 +9,10 @@ use crate::fields::read_fields;
 use crate::row::{Fields, ProgrammeRow};
 use indexmap::{IndexMap, IndexSet};
 use market::Prog;
+use piece_reader::{AheadRow, TakesAhead, read_table};
 use place_base::limits::{LARGEST_FILE, LARGEST_QUOTA, MOST_PIECES, MOST_PROGRAMMES, MOST_TYPES};
 use place_base::{FaultKind, FileFault, FileKind, Finder, TypeFinder, TypeName};
-use record_files::{
-    FileForm, Header, RecordRow, RowTable, TableStop, duplicate_at, fault_at, read_table,
-};
+use record_files::{FileForm, Header, RecordRow, RowTable, TableStop, duplicate_at, fault_at};
 use std::alloc::{AllocError, Global};
 use std::marker::Model;
 use std::thread::Threads;
@@ -47,9 +46,9 @@ impl ProgrammeTable {
     /// The table of a file of at most 2^30 bytes; `Fault` exactly where the file has a first fault,
     /// and then it carries it.
     ///
-    /// `pieces` is the number of parts, 1 to 64, in which the file may be read; it is read in one.
-    /// The result does not depend on it. After a refusal there is no table.
-    pub fn read<R: Threads>(
+    /// `pieces` is the number of parts, 1 to 64, in which the file is read side by side. The result
+    /// does not depend on it. After a refusal there is no table.
+    pub fn read<R: Threads + Sync>(
         rt: &R,
         alloc: Global,
         bytes: &[u8],
@@ -59,7 +58,8 @@ impl ProgrammeTable {
         requires pieces { (1 ≤ pieces) × (pieces ≤ MOST_PIECES) }
         ensures { IsTableRead (programmes_fault bytes.now) (programmes_table bytes.now) result }
     {
-        read_table(alloc, bytes, &(), ProgrammeTable::new(alloc))
+        let empty = ProgrammeTable::new(alloc);
+        read_table::<R, (), Fields, ProgrammeTable>(rt, alloc, bytes, pieces, &(), empty)
     }
 
     /// The programme at an index, counted from 0 in file order.
@@ -155,12 +155,8 @@ impl RowTable<()> for ProgrammeTable {
 
     ghost has_rows = { λ _ rows table. table ≡ table_of rows };
 
-    fn form(_beside: &()) -> FileForm {
-        FileForm::new(
-            FileKind::Programmes,
-            &[b"programme,type,quota"],
-            MOST_PROGRAMMES,
-        )
+    fn form(beside: &()) -> FileForm {
+        Fields::form(beside)
     }
 
     fn read_fields(
@@ -173,14 +169,25 @@ impl RowTable<()> for ProgrammeTable {
 
     fn take(
         &mut self,
-        _alloc: Global,
-        _beside: &(),
+        alloc: Global,
+        beside: &(),
         fields: Fields,
     ) -> Result<Option<FileFault>, AllocError> {
-        match self.clash(&fields) {
+        self.take_ahead(alloc, beside, fields)
+    }
+}
+
+impl TakesAhead<(), Fields> for ProgrammeTable {
+    fn take_ahead(
+        &mut self,
+        _alloc: Global,
+        _beside: &(),
+        row: Fields,
+    ) -> Result<Option<FileFault>, AllocError> {
+        match self.clash(&row) {
             Some(fault) => Ok(Some(fault)),
             None => {
-                self.add(&fields)?;
+                self.add(&row)?;
                 Ok(None)
             }
         }

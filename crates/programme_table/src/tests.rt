@@ -5,7 +5,7 @@ use super::ProgrammeTable;
 use place_base::FaultKind::{
     self, BadTypeName, Duplicate, FieldCount, Header, NotNumber, OutOfRange,
 };
-use place_base::{FileKind, Finder, TypeFinder, TypeName};
+use place_base::{FileFault, FileKind, Finder, TypeFinder, TypeName};
 use record_files::{TableStop, duplicate_at};
 use std::alloc::Global;
 use std::test::Fail;
@@ -13,7 +13,7 @@ use std::thread::Threads;
 
 // A table read, of which no more is known than its type says: a file written out would be computed
 // in each goal.
-fn read<R: Threads>(
+fn read<R: Threads + Sync>(
     rt: &R,
     alloc: Global,
     bytes: &[u8],
@@ -124,8 +124,8 @@ fn the_first_fault_is_told(rt: HostRuntime) -> Result<(), Fail> {
     tell_faults(&rt, rt.alloc(), &FILES)
 }
 
-// Reads each file, and fails where another fault is told.
-fn tell_faults<R: Threads>(
+// Reads each file.
+fn tell_faults<R: Threads + Sync>(
     rt: &R,
     alloc: Global,
     files: &[(&str, u32, u8, FaultKind, u32)],
@@ -136,7 +136,25 @@ fn tell_faults<R: Threads>(
         if text.len() > 1024 {
             return Err(Fail::new("a long text"));
         }
-        let read = read(rt, alloc, text.as_bytes(), 1);
+        tell_fault(rt, alloc, text.as_bytes(), wanted)?;
+    }
+    Ok(())
+}
+
+// Reads a file in different numbers of pieces, and fails where another fault is told.
+fn tell_fault<R: Threads + Sync>(
+    rt: &R,
+    alloc: Global,
+    bytes: &[u8],
+    wanted: FileFault,
+) -> Result<(), Fail>
+    requires { length bytes.now ≤ 1024 }
+{
+    for pieces in &[1, 2, 7, 64] {
+        if *pieces == 0 || *pieces > 64 {
+            return Err(Fail::new("a number of pieces"));
+        }
+        let read = ProgrammeTable::read(rt, alloc, bytes, *pieces);
         if read.err() != Some(TableStop::Fault(wanted)) {
             return Err(Fail::new("another fault"));
         }

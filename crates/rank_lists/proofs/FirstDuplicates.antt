@@ -18,7 +18,7 @@ use Rattle.rank_lists.specs.Rows.{ranks_form, ranks_rules, own_rules, reading, m
 use Rattle.rank_lists.proofs.RowGroups.{HasFields, HasFields-from, candidate_group-same, rank_group-same, same_candidate-group, same_rank-group}
 
 -- where each fault is none, the least is none
-least_fault-none : (fault : ℕ → Option FileFault) (n : ℕ) → ((k : ℕ) → k < n → fault k ≡ None)
+pub least_fault-none : (fault : ℕ → Option FileFault) (n : ℕ) → ((k : ℕ) → k < n → fault k ≡ None)
     → least_fault fault n ≡ None
 unfolding least_fault
 least_fault-none fault zero h = refl

@@ -11,6 +11,7 @@ use Rattle.std.proofs.lemmas.List.Elements.{filter-append}
 use Rattle.record_files.specs.Rows.{Row}
 use Rattle.rank_lists.specs.declared.keys.TheConstants.{INDEXES, NUMBERS}
 use Rattle.place_base.specs.declared.limits.TheConstants.{LARGEST_NUMBER}
+use Rattle.rank_lists.specs.Clean.{key_of}
 use Rattle.rank_lists.specs.Growth.{row_key, is_kind, in_kind, given_in, with_rank, HasRows}
 use Rattle.rank_lists.specs.Groups.{candidate_group, rank_group}
 use Rattle.rank_lists.specs.Rows.{candidate_in, type_in, rank_in, row_at}
@@ -18,7 +19,6 @@ use Rattle.rank_lists.specs.Table.{Standing, standing_of, standings, in_type}
 use Rattle.rank_lists.specs.Turns.{known_key, known_keys}
 use Rattle.rank_lists.specs.declared.rows.RankRows.{RankRows}
 use Rattle.rank_lists.proofs.RowGroups.{HasFields}
-use Rattle.rank_lists.proofs.Standings.{key_of}
 
 pub append-nothing : {X : Type 0} (xs : List X) → xs ++ [] ≡ xs
 append-nothing [] = refl
@@ -74,7 +74,7 @@ given_in-next names kind earlier row =
     ∙ ap (λ rows. given_in names kind earlier ++ map row_key rows)
     (filter-one (in_kind names kind) row)
 
-length-with_rank : (given : List (List ℕ)) (o : Option ℕ) (key : ℕ)
+pub length-with_rank : (given : List (List ℕ)) (o : Option ℕ) (key : ℕ)
     → length (with_rank given o key) ≡ length given
 length-with_rank given None key = refl
 length-with_rank given (Some k) key = length-set given k _

@@ -8,6 +8,11 @@ pub mod Sorting
 pub mod Standings
 pub mod TurnOrder
 pub mod Ranking
+pub mod KnownNames
+pub mod GivenStandings
+pub mod CleanRows
 pub mod TableLemmas
 pub mod Reading
 pub mod ShortForms
+pub mod Collecting
+pub mod CleanFile

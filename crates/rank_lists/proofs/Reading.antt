@@ -1,7 +1,8 @@
 -- What reading a ranks file comes to: the duplicates among the rows that have no fault of their
 -- own come first, then the row at which the gathering stopped; where there is neither, the file
 -- has no fault, and the sorted ranks are its table.
-use Rattle.std.proofs.Common.{◌≡◌, ℕ, ◌+◌, ◌<◌, ◌≤◌, List, length, map, take, refl, sym, ap, ◌∙◌, arith, subst, ⊎_elim, Option, Some, None, take_all, length-take-le}
+use Rattle.std.proofs.Common.{◌≡◌, ℕ, ◌+◌, ◌<◌, ◌≤◌, List, [], length, map, take, refl, sym, ap, ◌∙◌, arith, subst, ⊎_elim, Option, Some, None, take_all, length-take-le}
+use Rattle.std.specs.Prelude.{slice_index_or}
 use Rattle.std.proofs.lemmas.Bool.{cases_lt}
 use Rattle.std.proofs.lemmas.List.{length-map}
 use Rattle.std.proofs.lemmas.Option.{slice_get_past}
@@ -17,7 +18,7 @@ use Rattle.rank_lists.specs.Groups.{candidate_group, rank_group}
 use Rattle.rank_lists.specs.Repeats.{HasNoRepeat, IsFirstRepeat}
 use Rattle.rank_lists.specs.Rows.{ranks_form, ranks_rules, own_rules, reading, ranks_fault, row_at}
 use Rattle.rank_lists.specs.Table.{IsSound, table_with, ranks_table}
-use Rattle.rank_lists.specs.Turns.{AreAllTurns, known_keys}
+use Rattle.rank_lists.specs.Turns.{AreAllTurns, AreTurns, known_keys}
 use Rattle.rank_lists.specs.declared.duplicates.Duplicate.{Duplicate}
 use Rattle.rank_lists.specs.declared.duplicates.Duplicate.TheVariants.{Candidate, Rank}
 use Rattle.rank_lists.specs.declared.keys.TheConstants.{INDEXES}
@@ -188,11 +189,16 @@ module _ (names : List (List ℕ)) (numbers : List ℕ) (bytes : List ℕ) (tabl
             → (orders ≡ (ranks_table names numbers bytes).orders)
             × (ranks ≡ (ranks_table names numbers bytes).ranks)
         table-is orders ranks t =
-            all-turns names numbers body few fields once-candidate once-rank table.given.items
-            orders ranks g.rows_are.types
-            (λ kind lt. ap (known_keys numbers)
-            (g.rows_are.given kind lt ∙ ap (given_in names kind) whole)
-            ∙ known-given names numbers kind body fields) t
+            let types = g.rows_are.types in
+            let orders_size = t.orders_size in
+            let ranks_size = t.ranks_size in
+            all-turns names numbers body few fields once-candidate once-rank orders ranks
+            (omega arith) (omega arith)
+            (λ kind lt. subst (λ keys. AreTurns keys (slice_index_or orders kind [])
+            (slice_index_or ranks kind []))
+            (ap (known_keys numbers) (g.rows_are.given kind lt ∙ ap (given_in names kind) whole)
+            ∙ known-given names numbers kind body fields)
+            (t.turns kind (omega arith)))
 
         -- and it is sound
         pub table-sound : IsSound (ranks_table names numbers bytes)

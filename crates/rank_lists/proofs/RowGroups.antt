@@ -1,6 +1,6 @@
 -- A row without a fault of its own has a candidate, a type name and a rank within their limits,
 -- so two such rows are in the same group exactly where the tests for duplicates say so.
-use Rattle.std.proofs.Common.{◌≡◌, ℕ, ◌<◌, ◌≤◌, ◌==◌, ◌&&◌, List, Bool, true, false, nat_le, not, ap, arith, bytes_eq, Option, Some, None, Result, Ok, Err}
+use Rattle.std.proofs.Common.{◌≡◌, ℕ, ◌≤◌, ◌==◌, ◌&&◌, List, Bool, true, nat_le, ap, arith, bytes_eq, None, Result, Ok, Err}
 use Rattle.std.proofs.lemmas.Bool.{cond_both, and_parts}
 use Rattle.std.proofs.lemmas.Bool.Decides.{nat_tests}
 use Rattle.std.proofs.lemmas.Slice.Eq.{bytes_eq-Decides}
@@ -13,7 +13,7 @@ use Rattle.record_files.specs.FirstFaults.{reading_fault}
 use Rattle.record_files.specs.Numbers.{value, is_number, number_of, type_name_of}
 use Rattle.record_files.specs.Rows.{Row, field_at}
 use Rattle.record_files.proofs.FirstFaultLemmas.{first_of-none}
-use Rattle.place_base.specs.declared.limits.TheConstants.{LARGEST_NUMBER, LARGEST_RANK, MOST_RANKS}
+use Rattle.place_base.specs.declared.limits.TheConstants.{LARGEST_NUMBER, LARGEST_RANK}
 use Rattle.rank_lists.specs.Groups.{name_number, candidate_group, rank_group}
 use Rattle.rank_lists.specs.Rows.{candidate_in, type_in, rank_in, reading, same_candidate, same_rank}
 use Rattle.rank_lists.proofs.Names.{IsName, IsName-from, IsName-same}

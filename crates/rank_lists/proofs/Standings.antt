@@ -1,16 +1,13 @@
 -- Standings by rising rank, and the same as sorted numbers, each a rank with its candidate behind
 -- it.
-use Rattle.std.proofs.Common.{◌≡◌, ℕ, zero, suc, ◌+◌, ◌*◌, ◌/◌, ◌%◌, ◌<◌, ◌≤◌, ◌==◌, ◌&&◌, ◌||◌, List, [], ◌∷◌, Bool, true, false, if◌then◌else◌, nat_le, nat_lt, length, map, refl, sym, ap, ◌∙◌, arith}
+use Rattle.std.proofs.Common.{◌≡◌, ℕ, zero, suc, ◌+◌, ◌/◌, ◌%◌, ◌<◌, ◌≤◌, ◌==◌, ◌&&◌, ◌||◌, List, [], ◌∷◌, Bool, true, false, if◌then◌else◌, nat_le, nat_lt, length, map, refl, sym, ap, ◌∙◌, arith}
 use Rattle.std.specs.Prelude.{slice_index, slice_index_or, IsPermutation}
 use Rattle.std.proofs.lemmas.Bool.{cond_both}
 use Rattle.std.proofs.lemmas.Bool.Decides.{nat_tests}
 use Rattle.rank_lists.specs.declared.keys.TheConstants.{INDEXES}
+use Rattle.rank_lists.specs.Clean.{key_of}
 use Rattle.rank_lists.specs.Table.{Standing}
 use Rattle.rank_lists.proofs.Counts.{copies, one_if, copies-permutation, Rises, Rises-unique}
-
--- a rank with its candidate behind it
-abbrev pub key_of : Standing → ℕ
-key_of s = s.rank * INDEXES + s.candidate
 
 -- a better rank, and of equal ranks the lesser index
 abbrev is_before : Standing → Standing → Bool

@@ -1,7 +1,7 @@
 -- The table of rows that have no fault: its orders hold distinct candidates, and the ranks beside
 -- them rise strictly. Sorted keys give just this table.
 use Rattle.std.proofs.Common.{◌≡◌, ℕ, ◌/◌, ◌%◌, ◌<◌, ◌≤◌, List, [], length, map, sym, ap, ◌∙◌, arith, subst, zero-add, ⊎_elim}
-use Rattle.std.specs.Prelude.{slice_index, slice_index_or, IsPermutation}
+use Rattle.std.specs.Prelude.{slice_index, slice_index_or}
 use Rattle.std.proofs.lemmas.Bool.{cases_lt}
 use Rattle.std.proofs.lemmas.List.{get_or-map, length-map, same_lists, get_or_default}
 use Rattle.std.proofs.lemmas.List.FromFn.{get_or-map-range_with_len, length-map-range_with_len}
@@ -11,15 +11,30 @@ use Rattle.rank_lists.specs.declared.keys.TheConstants.{INDEXES}
 use Rattle.place_base.specs.declared.limits.TheConstants.{LARGEST_RANK}
 use Rattle.rank_lists.specs.Groups.{candidate_group, rank_group}
 use Rattle.rank_lists.specs.Table.{Standing, standings, in_type, by_rank, turns_of, ranks_of, RankTable, table_of, order_at, ranks_at}
-use Rattle.rank_lists.specs.Repeats.{HasNoRepeat}
+use Rattle.rank_lists.specs.Clean.{key_of}
+use Rattle.rank_lists.specs.Repeats.{HasNoRepeat, HasUnequalNeighbours}
 use Rattle.rank_lists.specs.Rows.{row_at}
 use Rattle.rank_lists.specs.Table.{IsSound}
-use Rattle.rank_lists.specs.Turns.{AreTurns, AreAllTurns, known_keys}
-use Rattle.rank_lists.proofs.Counts.{copies, copies-twice}
+use Rattle.rank_lists.specs.Turns.{AreTurns}
+use Rattle.rank_lists.proofs.CleanRows.{copies-once}
+use Rattle.rank_lists.proofs.Counts.{Rises, copies, copies-differ, copies-twice}
 use Rattle.rank_lists.proofs.Ranking.{Comes-candidate, candidates-once, ranks-once, standings-Each}
 use Rattle.rank_lists.proofs.RowGroups.{HasFields}
-use Rattle.rank_lists.proofs.Standings.{Each, Each-at, AreSmall, copies-sorted, key_of, keys-candidates, keys-ranks, sorted, sorted-AreSmall, sorted-Each, sorted-Rises, sorted-keys}
+use Rattle.rank_lists.proofs.Standings.{Each, Each-at, AreSmall, copies-sorted, keys-candidates, keys-ranks, sorted, sorted-AreSmall, sorted-Each, sorted-Rises, sorted-keys}
 use Rattle.rank_lists.proofs.TurnOrder.{by_rank-sorted}
+
+-- the ranks of sorted keys rise
+ranks-rise : (sorted ranks : List ℕ) → ranks ≡ map (λ key. key / INDEXES) sorted → Rises sorted
+    → Rises ranks
+ranks-rise sorted ranks e up i j le lt =
+    let size = length-map sorted (λ key. key / INDEXES) in
+    let whole = ap length e in
+    let keys : slice_index sorted i ≤ slice_index sorted j = up i j le (omega arith) in
+    let first : slice_index ranks i ≡ slice_index sorted i / INDEXES =
+    ap (λ all. slice_index all i) e ∙ get_or-map (λ key. key / INDEXES) sorted i 0 0 (omega arith) in
+    let second : slice_index ranks j ≡ slice_index sorted j / INDEXES =
+    ap (λ all. slice_index all j) e ∙ get_or-map (λ key. key / INDEXES) sorted j 0 0 (omega arith) in
+    omega arith
 
 module _ (names : List (List ℕ)) (numbers : List ℕ) (rows : List Row)
     (few : length numbers ≤ INDEXES) where
@@ -60,6 +75,38 @@ module _ (names : List (List ℕ)) (numbers : List ℕ) (rows : List Row)
       same_lists column other (omega arith) (λ kind d lt.
       get_or_default column kind d [] lt ∙ here kind (omega arith)
       ∙ sym (there kind (omega arith)) ∙ get_or_default other kind [] d (omega arith))
+
+  -- the turns of a type are its standings by rising rank
+  turns-are : (kind : ℕ) (order ranks : List ℕ) → AreTurns (map key_of (in_type kind all)) order ranks
+      → (order ≡ order_in kind) × (ranks ≡ ranks_in kind)
+  turns-are kind order ranks t =
+      let same : t.sorted ≡ map key_of (sorted_in kind) =
+      sorted-keys (in_type kind all) t.sorted (small kind) t.permutation t.rises in
+      let fits = sorted-AreSmall (in_type kind all) (small kind) in (
+        t.order_is ∙ ap (map (λ key. key % INDEXES)) same ∙ keys-candidates (sorted_in kind) fits,
+        t.ranks_are ∙ ap (map (λ key. key / INDEXES)) same ∙ keys-ranks (sorted_in kind) fits,
+      )
+
+  -- where no candidate stands behind two keys of a type, none has two standings in it
+  pub once-candidate : (kind x : ℕ)
+      → HasNoRepeats (map (λ key. key % INDEXES) (map key_of (in_type kind all)))
+      → copies x (map (λ s. s.candidate) (in_type kind all)) ≤ 1
+  once-candidate kind x h =
+      copies-once x (map (λ s. s.candidate) (in_type kind all))
+      (subst HasNoRepeats (keys-candidates (in_type kind all) (small kind)) h)
+
+  -- where no two neighbours of its ranks in turn order are equal, no rank has two standings in it
+  pub once-rank : (kind x : ℕ) (order ranks : List ℕ)
+      → AreTurns (map key_of (in_type kind all)) order ranks
+      → HasUnequalNeighbours ranks (length ranks)
+      → copies x (map (λ s. s.rank) (in_type kind all)) ≤ 1
+  once-rank kind x order ranks t differ =
+      let same : ranks ≡ ranks_in kind = (turns-are kind order ranks t).1 in
+      let kept : copies x (ranks_in kind) ≡ copies x (map (λ s. s.rank) (in_type kind all)) =
+      copies-sorted (λ s. s.rank) x (in_type kind all) in
+      let once : copies x ranks ≤ 1 =
+      copies-differ x ranks (ranks-rise t.sorted ranks t.ranks_are t.rises) differ in
+      omega (arith, ap (copies x) same)
 
   module _ (fields : (k : ℕ) → k < length rows → HasFields (row_at rows k))
       (one_candidate : HasNoRepeat (map candidate_group rows) (length rows))
@@ -158,34 +205,18 @@ module _ (names : List (List ℕ)) (numbers : List ℕ) (rows : List Row)
     ranks-at kind lt = get_or-map-range_with_len (ranks_of all) 0 (length names) kind kind [] lt
         (zero-add kind) ∙ ap (map (λ s. s.rank)) (turns-sorted kind)
 
-    -- the turns of a type are its standings by rising rank
-    turns-are : (kind : ℕ) (keys order ranks : List ℕ) → keys ≡ map key_of (in_type kind all)
-        → AreTurns keys order ranks
-        → (order ≡ order_in kind) × (ranks ≡ ranks_in kind)
-    turns-are kind keys order ranks e t =
-        let perm = subst (λ xs. IsPermutation xs t.sorted) e t.permutation in
-        let same : t.sorted ≡ map key_of (sorted_in kind) =
-        sorted-keys (in_type kind all) t.sorted (small kind) perm t.rises in
-        let fits = sorted-AreSmall (in_type kind all) (small kind) in (
-          t.order_is ∙ ap (map (λ key. key % INDEXES)) same
-              ∙ keys-candidates (sorted_in kind) fits,
-          t.ranks_are ∙ ap (map (λ key. key / INDEXES)) same ∙ keys-ranks (sorted_in kind) fits,
-        )
-
     -- the turns of all types are the table
-    pub all-turns : (given orders ranks : List (List ℕ)) → length given ≡ length names
-        → ((kind : ℕ) → kind < length names → known_keys numbers (slice_index_or given kind [])
-        ≡ map key_of (in_type kind all))
-        → AreAllTurns numbers given orders ranks → (orders ≡ table.orders) × (ranks ≡ table.ranks)
-    all-turns given orders ranks size keys t =
-        let orders_size = t.orders_size in
-        let ranks_size = t.ranks_size in
+    pub all-turns : (orders ranks : List (List ℕ)) → length orders ≡ length names
+        → length ranks ≡ length names
+        → ((kind : ℕ) → kind < length names → AreTurns (map key_of (in_type kind all))
+        (slice_index_or orders kind []) (slice_index_or ranks kind []))
+        → (orders ≡ table.orders) × (ranks ≡ table.ranks)
+    all-turns orders ranks orders_here ranks_here turns =
         let are = λ (kind : ℕ) (lt : kind < length names). turns-are kind
-        (known_keys numbers (slice_index_or given kind [])) (slice_index_or orders kind [])
-        (slice_index_or ranks kind []) (keys kind lt) (t.turns kind (omega arith)) in (
-          same-column orders table.orders order_in (omega arith) orders-size
+        (slice_index_or orders kind []) (slice_index_or ranks kind []) (turns kind lt) in (
+          same-column orders table.orders order_in orders_here orders-size
               (λ kind lt. (are kind lt).0) order-at,
-          same-column ranks table.ranks ranks_in (omega arith) ranks-size
+          same-column ranks table.ranks ranks_in ranks_here ranks-size
               (λ kind lt. (are kind lt).1) ranks-at,
         )
 

@@ -35,6 +35,11 @@ abbrev pub with_rank : List (List ℕ) → Option ℕ → ℕ → List (List ℕ
 with_rank given None key = given
 with_rank given (Some kind) key = slice_set given kind (slice_index_or given kind [] ++ key ∷ [])
 
+-- so many types without ranks
+pub record HasNoRanks (types : ℕ) (given : List (List ℕ)) : Type 0 where
+  pub types_are : length given ≡ types
+  pub none : (kind : ℕ) → kind < types → slice_index_or given kind [] ≡ []
+
 -- what these rows say was gathered
 pub record HasRows (names : List (List ℕ)) (all : List Row) (gathered : RankRows) : Type 0 where
   pub candidates : gathered.candidates ≡ map candidate_group all

@@ -14,3 +14,5 @@ pub mod Repeats
 pub mod Duplicates
 -- turn orders sorted from given ranks
 pub mod Turns
+-- a file without a fault whose types and candidates are known
+pub mod Clean

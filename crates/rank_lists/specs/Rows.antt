@@ -1,5 +1,5 @@
 -- The ranks file: what its rows hold, and what is wrong with them.
-use Rattle.std.specs.Prelude.{ℕ, List, [], ◌∷◌, Bool, ◌&&◌, ◌==◌, bytes_eq, codes, slice_index_or, Option, None}
+use Rattle.std.specs.Prelude.{ℕ, List, [], Bool, ◌&&◌, ◌==◌, bytes_eq, codes, slice_index_or, Option, None}
 use Rattle.place_base.specs.declared.fault.FileFault.{FileFault}
 use Rattle.place_base.specs.declared.fault.FileKind.TheVariants.{Ranks}
 use Rattle.place_base.specs.declared.limits.TheConstants.{LARGEST_NUMBER, LARGEST_RANK, MOST_RANKS}

@@ -1,5 +1,5 @@
 -- The turn orders and ranks that the rows of a ranks file give.
-use Rattle.std.specs.Prelude.{◌≡◌, ◌<◌, ◌≤◌, ℕ, List, [], ◌∷◌, ◌==◌, count_by, find, nat_lt, nat_eq, bytes_eq, length, map, filter, position, slice_get, slice_index, slice_index_or, Option, Some, None}
+use Rattle.std.specs.Prelude.{◌≡◌, ◌<◌, ◌≤◌, ℕ, List, [], ◌==◌, count_by, find, nat_lt, nat_eq, bytes_eq, length, map, filter, position, slice_get, slice_index, slice_index_or, Option, Some, None}
 use Rattle.std.specs.List.{filter_map, range_with_len, position_or_len}
 use Rattle.market.specs.Problems.{HasNoRepeats}
 use Rattle.place_base.specs.declared.limits.TheConstants.{LARGEST_RANK}

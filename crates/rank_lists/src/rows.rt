@@ -5,15 +5,16 @@
 
 ghost use Rattle.std.specs.Prelude.{◌≡◌, ◌+◌, ◌*◌, ◌≤◌, ◌<◌, ℕ, List, [], ◌∷◌, ◌++◌, length, IfOk, OnOk};
 ghost use Rattle.record_files.specs.Rows.{Row};
-ghost use Rattle.rank_lists.specs.Groups.{name_number as number_of_name};
-ghost use Rattle.rank_lists.specs.Growth.{HasRows, IsFieldsOf, with_rank};
+ghost use Rattle.rank_lists.specs.Growth.{HasRows, IsFieldsOf};
+ghost use Rattle.rank_lists.specs.Rows.{ranks_form as the_form};
 
 use crate::fields::read_fields;
 use crate::keys::{GROUPS, NUMBERS, PLACES, RANKS};
+use crate::name_numbers::name_number;
 use crate::repeats::Repeats;
 use crate::row::Fields;
-use crate::turns::GivenRanks;
-use place_base::limits::{LONGEST_NAME, MOST_RANKS};
+use crate::turns::{GivenRanks, give, no_ranks};
+use place_base::limits::MOST_RANKS;
 use place_base::{FileFault, FileKind, TypeFinder};
 use record_files::{FileForm, Header, RecordRow, RowTable};
 use std::alloc::{AllocError, Global};
@@ -35,14 +36,10 @@ impl RankRows {
         ensures { IfOk result (λ rows. (names : List (List ℕ))
             → length names ≡ types → HasRows names [] rows) }
     {
-        let mut given = Vec::with_capacity(alloc, types as usize)?;
-        for _ in 0..types {
-            given.push(GivenRanks::new(alloc))?;
-        }
         Ok(RankRows {
             candidates: Repeats::new(alloc),
             ranks: Repeats::new(alloc),
-            given,
+            given: no_ranks(alloc, types)?,
         })
     }
 
@@ -56,10 +53,11 @@ impl RankRows {
             → HasRows (T.names types.now) (earlier ++ row ∷ []) self.new) }
     {
         let name = name_number(fields.name.bytes());
-        self.candidates
-            .push(candidate_in_type(name, fields.candidate.get()))?;
+        let candidate = fields.candidate.get();
+        self.candidates.push(candidate_in_type(name, candidate))?;
         self.ranks.push(rank_in_type(name, fields.rank))?;
-        give(&mut self.given, types.find_type(fields.name), fields)?;
+        let key = u64::from(fields.rank) * NUMBERS + candidate;
+        give(&mut self.given, types.find_type(fields.name), key)?;
         Ok(())
     }
 }
@@ -77,7 +75,7 @@ impl<T: TypeFinder> RowTable<T> for RankRows {
     ghost has_rows = { λ types rows table. HasRows (T.names types) rows table };
 
     fn form(_types: &T) -> FileForm {
-        FileForm::new(FileKind::Ranks, &[b"candidate,type,rank"], MOST_RANKS)
+        ranks_form()
     }
 
     fn read_fields(_types: &T, _header: Header, row: &RecordRow<'_>) -> Result<Fields, FileFault> {
@@ -95,18 +93,11 @@ impl<T: TypeFinder> RowTable<T> for RankRows {
     }
 }
 
-// The bytes of a type's name as one number, which no other name has.
-fn name_number(bytes: &[u8]) -> u64
-    requires { length bytes.now ≤ LONGEST_NAME }
-    ensures { result ≡ number_of_name bytes.now }
+/// The form of a ranks file.
+pub(crate) fn ranks_form() -> FileForm
+    ensures { result ≡ the_form }
 {
-    let mut number = 0;
-    let mut left = bytes.len();
-    'bytes: while left > 0 {
-        left -= 1;
-        number = number * 256 + u64::from(bytes[left]);
-    }
-    number
+    FileForm::new(FileKind::Ranks, &[b"candidate,type,rank"], MOST_RANKS)
 }
 
 // A candidate and a type as one number.
@@ -123,18 +114,4 @@ fn rank_in_type(name: u64, rank: u32) -> u128
     ensures small { result < GROUPS }
 {
     u128::from(name) * u128::from(RANKS) + u128::from(rank)
-}
-
-// Adds the rank in a known type to those of the type.
-fn give(given: &mut Vec<GivenRanks>, kind: Option<u32>, fields: &Fields) -> Result<(), AllocError>
-    ensures { OnOk result (given.new.items
-        ≡ with_rank given.old.items kind (fields.now.rank * NUMBERS + fields.now.candidate)) }
-{
-    let Some(kind) = kind else {
-        return Ok(());
-    };
-    let Some(ranks) = given.get_mut(kind as usize) else {
-        return Ok(());
-    };
-    ranks.push(fields)
 }

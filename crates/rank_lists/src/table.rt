@@ -4,6 +4,7 @@ ghost use Rattle.record_files.specs.ReadTo.{IsTableRead};
 ghost use Rattle.rank_lists.specs.Rows.{ranks_fault};
 ghost use Rattle.rank_lists.specs.Table.{IsSound, ranks_table, table_with, order_at, rank_at};
 
+use crate::clean::read_clean;
 use crate::duplicates::first_duplicate;
 use crate::rows::RankRows;
 use crate::turns::all_turns;
@@ -47,10 +48,10 @@ impl RankLists {
     /// The turn orders and ranks of a file beside the names of the types and the numbers of the
     /// candidates, or the file's first fault.
     ///
-    /// `pieces` is the number of parts, 1 to 64, in which the file may be read; it is read in one. The
-    /// result does not depend on it. Rows of unknown types and candidates only take part in the
-    /// checks for duplicates.
-    pub fn read<R: Threads, T: TypeFinder, C: Finder>(
+    /// `pieces` is the number of parts, 1 to 64, in which the file is read side by side. The result
+    /// does not depend on it. Rows of unknown types and candidates only take part in the checks for
+    /// duplicates.
+    pub fn read<R: Threads + Sync, T: TypeFinder + Sync, C: Finder + Sync>(
         rt: &R,
         alloc: Global,
         bytes: &[u8],
@@ -60,6 +61,23 @@ impl RankLists {
     ) -> Result<RankLists, TableStop>
         requires size { length bytes.now ≤ LARGEST_FILE }
         requires pieces { (1 ≤ pieces) × (pieces ≤ MOST_PIECES) }
+        ensures { IsTableRead (ranks_fault bytes.now)
+            (ranks_table (T.names types.now) (C.numbers candidates.now) bytes.now) result }
+    {
+        if let Some(turns) = read_clean(rt, alloc, bytes, pieces, types, candidates)? {
+            return Ok(RankLists::of_turns(candidates.count(), turns));
+        }
+        RankLists::read_in_order(alloc, bytes, types, candidates)
+    }
+
+    // As `read`, row by row: it tells the first fault of a file.
+    fn read_in_order<T: TypeFinder, C: Finder>(
+        alloc: Global,
+        bytes: &[u8],
+        types: &T,
+        candidates: &C,
+    ) -> Result<RankLists, TableStop>
+        requires { length bytes.now ≤ LARGEST_FILE }
         ensures { IsTableRead (ranks_fault bytes.now)
             (ranks_table (T.names types.now) (C.numbers candidates.now) bytes.now) result }
     {

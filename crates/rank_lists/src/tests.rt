@@ -4,7 +4,7 @@ ghost use Rattle.std.specs.Prelude.{◌≡◌, ◌≤◌, [], ◌∷◌, length,
 
 use crate::RankLists;
 use place_base::FaultKind::{self, BadTypeName, Duplicate, FieldCount, NotNumber, OutOfRange};
-use place_base::{FileKind, Finder, TypeFinder, TypeName};
+use place_base::{FileFault, FileKind, Finder, TypeFinder, TypeName};
 use record_files::{TableStop, duplicate_at};
 use std::alloc::Global;
 use std::test::Fail;
@@ -55,7 +55,7 @@ impl TypeFinder for OneType {
 
 // Lists read, of which no more is known than how many types and candidates there are: a file written
 // out would be computed in each goal.
-fn read<R: Threads>(
+fn read<R: Threads + Sync>(
     rt: &R,
     alloc: Global,
     bytes: &[u8],
@@ -94,6 +94,25 @@ fn holds_all(lists: RankLists) -> Result<(), Fail>
     Ok(())
 }
 
+#[test]
+fn rows_of_known_candidates_alone_are_ranked(rt: HostRuntime) -> Result<(), Fail> {
+    let say = OneType(TypeName::new(b"SAY").ok_or("a name")?);
+    let bytes = b"\n\ncandidate,type,rank\n2,SAY,9\n\n3,SAY,4\r\n1,SAY,7";
+    let lists = read(&rt, rt.alloc(), bytes, &say)?;
+    ranks_all(lists)
+}
+
+// Fails where the three candidates are ranked otherwise.
+fn ranks_all(lists: RankLists) -> Result<(), Fail>
+    requires types { length lists.orders ≡ 1 }
+    requires candidates { lists.candidates ≡ 3 }
+{
+    if lists.turn_order(0) != [2, 0, 1].as_slice() || lists.rank_of(0, 1) != Some(9) {
+        return Err(Fail::new("another turn order"));
+    }
+    Ok(())
+}
+
 // The rows of a file, and its fault's line, field, kind and earlier line.
 const FILES: [(&str, u32, u8, FaultKind, u32); 14] = [
     ("1,SAY", 2, 0, FieldCount, 0),
@@ -118,8 +137,8 @@ fn the_first_fault_is_refused(rt: HostRuntime) -> Result<(), Fail> {
     tell_faults(&rt, rt.alloc(), say, &FILES)
 }
 
-// Reads each file's rows behind the header, and fails where another fault is told.
-fn tell_faults<R: Threads>(
+// Reads each file's rows behind the header.
+fn tell_faults<R: Threads + Sync>(
     rt: &R,
     alloc: Global,
     say: OneType,
@@ -133,7 +152,26 @@ fn tell_faults<R: Threads>(
         if bytes.len() > 1024 {
             return Err(Fail::new("a long text"));
         }
-        let read = RankLists::read(rt, alloc, &bytes, 1, &say, &Candidates);
+        tell_fault(rt, alloc, &say, &bytes, wanted)?;
+    }
+    Ok(())
+}
+
+// Reads a file in different numbers of pieces, and fails where another fault is told.
+fn tell_fault<R: Threads + Sync>(
+    rt: &R,
+    alloc: Global,
+    say: &OneType,
+    bytes: &[u8],
+    wanted: FileFault,
+) -> Result<(), Fail>
+    requires { length bytes.now ≤ 1024 }
+{
+    for pieces in &[1, 2, 7, 64] {
+        if *pieces == 0 || *pieces > 64 {
+            return Err(Fail::new("a number of pieces"));
+        }
+        let read = RankLists::read(rt, alloc, bytes, *pieces, say, &Candidates);
         if read.err() != Some(TableStop::Fault(wanted)) {
             return Err(Fail::new("another fault"));
         }

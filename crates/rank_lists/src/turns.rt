@@ -1,16 +1,16 @@
 // The turn order of one type, sorted from the ranks given in it.
 ghost use Rattle.std.specs.Prelude.{◌≡◌, ◌+◌, ◌*◌, ◌^◌, ◌<◌, ◌/◌, ◌%◌, ◌++◌, ◌∷◌, [], map, OnOk, IfOk};
+ghost use Rattle.rank_lists.specs.Growth.{HasNoRanks, with_rank};
 ghost use Rattle.rank_lists.specs.Turns.{AreTurns, AreAllTurns, known_keys};
 
 use crate::keys::{INDEXES, NUMBERS};
-use crate::row::Fields;
 use crate::table::RankParts;
 use market::List;
 use place_base::Finder;
 use std::alloc::{AllocError, Global};
 use std::marker::Model;
 
-/// The ranks given in one type, each with the number of its candidate behind it, in file order.
+/// The ranks given in one type, each with its candidate behind it, in file order.
 #[derive(Drop)]
 pub(crate) struct GivenRanks {
     keys: Vec<u64>,
@@ -41,17 +41,23 @@ impl GivenRanks {
         }
     }
 
-    /// Adds the rank of a row.
-    pub(crate) fn push(&mut self, fields: &Fields) -> Result<(), AllocError>
-        ensures { OnOk result (self.new
-            ≡ self.old ++ (fields.now.rank * NUMBERS + fields.now.candidate) ∷ []) }
+    /// Adds a rank with its candidate behind it.
+    pub(crate) fn push(&mut self, key: u64) -> Result<(), AllocError>
+        ensures { OnOk result (self.new ≡ self.old ++ key ∷ []) }
     {
-        self.keys
-            .push(u64::from(fields.rank) * NUMBERS + fields.candidate.get())?;
+        self.keys.push(key)?;
         Ok(())
     }
 
-    /// The turn order of the known candidates: rising ranks.
+    /// The ranks, each with its candidate behind it.
+    pub(crate) fn keys(&self) -> &[u64]
+        ensures { result.now ≡ self.now }
+    {
+        &self.keys
+    }
+
+    /// The turn order of the known candidates: rising ranks. The ranks have candidates' numbers
+    /// behind them.
     pub(crate) fn into_turns<C: Finder>(
         self,
         alloc: Global,
@@ -62,10 +68,18 @@ impl GivenRanks {
     {
         let mut keys = known(alloc, &self.keys, candidates)?;
         keys.sort_unstable();
-        let order = List::from_vec(candidates_of(alloc, &keys)?);
-        let ranks = List::from_vec(ranks_of(alloc, &keys)?);
-        Ok(Turns { order, ranks })
+        turns_of(alloc, &keys)
     }
+}
+
+/// The candidates of sorted ranks, and the ranks.
+pub(crate) fn turns_of(alloc: Global, sorted: &[u64]) -> Result<Turns, AllocError>
+    ensures { IfOk result (λ turns. (turns.order ≡ map (λ key. key % INDEXES) sorted.now)
+        × (turns.ranks ≡ map (λ key. key / INDEXES) sorted.now)) }
+{
+    let order = List::from_vec(candidates_of(alloc, sorted)?);
+    let ranks = List::from_vec(ranks_of(alloc, sorted)?);
+    Ok(Turns { order, ranks })
 }
 
 // The ranks of known candidates, each with the candidate's index behind it.
@@ -80,6 +94,34 @@ fn known<C: Finder>(alloc: Global, keys: &[u64], candidates: &C) -> Result<Vec<u
         known.push(*key / NUMBERS * INDEXES + u64::from(index))?;
     }
     Ok(known)
+}
+
+/// So many types without ranks.
+pub(crate) fn no_ranks(alloc: Global, types: u32) -> Result<Vec<GivenRanks>, AllocError>
+    ensures { IfOk result (λ given. HasNoRanks types given.items) }
+{
+    let mut given = Vec::with_capacity(alloc, types as usize)?;
+    for _ in 0..types {
+        given.push(GivenRanks::new(alloc))?;
+    }
+    Ok(given)
+}
+
+/// Adds a rank with its candidate behind it to those of a type, where the type is known.
+pub(crate) fn give(
+    given: &mut Vec<GivenRanks>,
+    kind: Option<u32>,
+    key: u64,
+) -> Result<(), AllocError>
+    ensures { OnOk result (given.new.items ≡ with_rank given.old.items kind key) }
+{
+    let Some(kind) = kind else {
+        return Ok(());
+    };
+    let Some(ranks) = given.get_mut(kind as usize) else {
+        return Ok(());
+    };
+    ranks.push(key)
 }
 
 /// The turn order of each type, and the ranks in it.

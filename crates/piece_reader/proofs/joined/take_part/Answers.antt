@@ -1,8 +1,7 @@
-use Rattle.std.proofs.Common.{◌≡◌, ◌++◌, [], List, arith, subst, sym}
+use Rattle.std.proofs.Common.{◌≡◌, ◌++◌, [], arith, subst, sym}
 use Rattle.std.specs.List.{AllZip}
 use Rattle.std.specs.Vec.Iter.{into_iter_items}
 use Rattle.std.proofs.lemmas.List.{nil_from_length}
-use Rattle.record_files.specs.Rows.{Row}
 use Rattle.piece_reader.proofs.Joining.{AddsTo, AddsTo-below, AddsTo-ends, AddsTo-next, AddsTo-stops, Takes}
 use Rattle.piece_reader.proofs.joined.take_part.Goals as goal
 
@@ -33,9 +32,11 @@ returns-in-Some-2 g c = λ earlier more here all.
     let adds = subst (AddsTo rules keeps has earlier more c.rows.table) c.in-Some.ensures.items
     (c.rows.invariant earlier more here kept) in
     let takes = subst (Takes rules keeps has c.rows.table c.in-Some.row c.take_ahead.new.self)
-    c.in-Some-2.is (c.in_ok-fault.ensures {u = tt}) in
-    (AddsTo-stops rules keeps has earlier more c.rows.table c.take_ahead.new.self c.in-Some.row left
-    c.in-Some-2.fault adds takes, tt)
+    c.in-Some-2.is (c.in_ok-fault.ensures {u = tt}) in (
+      AddsTo-stops rules keeps has earlier more c.rows.table c.take_ahead.new.self c.in-Some.row left
+          c.in-Some-2.fault adds takes,
+      tt,
+    )
 
 pub rows-preserved : goal.rows-preserved
 rows-preserved g c = λ earlier more here kept.

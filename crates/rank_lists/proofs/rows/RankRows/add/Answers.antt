@@ -14,19 +14,16 @@ returns g c = λ earlier row h says.
     let says_rank : c.args.fields.now.rank ≡ rank_in row = says.rank in
     let name : c.name_number-name.result ≡ name_number (type_in row) = c.name_number-name.ensures
     ∙ ap name_number (c.bytes.ensures.value ∙ says.name) in
-    let number = c.get.ensures.value in
+    let number = c.get-candidate.ensures.value in
     let in_candidates = c.candidate_in_type.ensures.value in
     let in_ranks = c.rank_in_type.ensures.value in
     let candidate : c.candidate_in_type.result ≡ candidate_group row = omega arith in
     let rank : c.rank_in_type.result ≡ rank_group row = omega arith in
-    let key : c.args.fields.now.rank * NUMBERS + c.args.fields.now.candidate ≡ row_key row =
-    omega arith in
+    let key : c.from.result * NUMBERS + c.get-candidate.result ≡ row_key row =
+    omega (arith, c.from.ensures) in
     let kind_found : c.find_type.result ≡ position (bytes_eq (type_in row)) names =
     c.find_type.ensures ∙ ap (λ text. position (bytes_eq text) names) says.name in
     HasRows-next names earlier row old _ h
     (c.in_ok-push.ensures ∙ ap (λ x. old.candidates ++ x ∷ []) candidate)
     (c.in_ok-push-2.ensures ∙ ap (λ x. old.ranks ++ x ∷ []) rank)
-    (c.in_ok-give.ensures ∙ ap
-    (λ kind. with_rank old.given.items kind
-    (c.args.fields.now.rank * NUMBERS + c.args.fields.now.candidate)) kind_found
-    ∙ ap (with_rank old.given.items (position (bytes_eq (type_in row)) names)) key)
+    (c.in_ok-give.ensures ∙ (λ j. with_rank old.given.items (kind_found j) (key j)))

@@ -1,0 +1,53 @@
+-- The views of a desk's table: each is spent, or a seat of this desk.
+use Rattle.std.proofs.Common.{◌≡◌, ◌⊎◌, ℕ, zero, suc, ◌<◌, List, [], ◌∷◌, None, Some, sym, ap, inl, inr, ⊎_elim, arith}
+use Rattle.std.specs.Prelude.{slice_get}
+use mathlib.Core.Option.{some, some-injective, some-ne-none}
+use lib.ListN.{get_elem?}
+use Rattle.registration_desk.specs.Clerks.{ClerkKnows, spent_clerk}
+use Rattle.registration_desk.specs.Rule.{share_of, some_bit, hold_bit, IsClerk}
+use Rattle.registration_desk.specs.declared.rule.DeskKey.{DeskKey}
+
+-- a table's list is read by `get_elem?`
+pub there : {A : Type 0} (l : List A) (i : ℕ) (x : A) → get_elem? l i ≡ some x
+    → slice_get l i ≡ Some x
+there [] i x e = absurd (some-ne-none x (sym e))
+there (y ∷ ys) zero x e = ap Some (some-injective y x e)
+there (y ∷ ys) (suc i) x e = there ys i x e
+
+pub not_holding : (x : ClerkKnows) → hold_bit x ≡ 0 → (n : ℕ) → x.holds ≡ Some n → ⊥
+not_holding x zero_bit n is = let e = ap some_bit is in absurd (omega arith)
+
+pub is_none : (x : ClerkKnows) → x.holds ≡ None → hold_bit x ≡ 0
+is_none x free = ap some_bit free
+
+-- the bit of a holder
+pub is_one : (x : ClerkKnows) (n : ℕ) → x.holds ≡ Some n → hold_bit x ≡ 1
+is_one x n holds = ap some_bit holds
+
+module _ (key : DeskKey) where
+  abbrev pub Belongs : ℕ → ClerkKnows → Type 0
+  Belongs number x = (x ≡ spent_clerk) ⊎ IsClerk key number x
+
+  -- a seat with a share is not spent
+  pub is_clerk : (number : ℕ) (x : ClerkKnows) → 0 < x.share → Belongs number x
+      → IsClerk key number x
+  is_clerk number x live either =
+      ⊎_elim
+      (λ (spent : x ≡ spent_clerk). absurd (let e = ap share_of spent in omega arith))
+      (λ c. c)
+      either
+
+  -- a view that does not hold belongs to the desk also where the word has another number
+  pub moved : (a b : ℕ) (x : ClerkKnows) → hold_bit x ≡ 0 → Belongs a x → Belongs b x
+  moved a b x free either =
+      ⊎_elim
+      (λ (spent : x ≡ spent_clerk). inl spent)
+      (λ (c : IsClerk key a x).
+      inr record {
+        some = c.some;
+        same_seats = c.same_seats;
+        same_requests = c.same_requests;
+        same_clerks = c.same_clerks;
+        held = λ n is. absurd (not_holding x free n is);
+      })
+      either

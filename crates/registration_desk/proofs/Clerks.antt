@@ -1,0 +1,68 @@
+-- Lists of clerks: the last one taken away, or one put behind the others.
+use Rattle.std.proofs.Common.{◌≡◌, ℕ, suc, ◌+◌, ◌-◌, List, [], ◌∷◌, ◌++◌, length, take, Some, sym, refl, ap, subst, ◌∙◌, ⊎_elim, arith, length-append}
+use Rattle.std.specs.Prelude.{slice_get}
+use Rattle.std.specs.List.{sum_by}
+use Rattle.std.proofs.lemmas.List.Sums.{sum_by-append, sum_by-cons}
+use Rattle.registration_desk.specs.Desks.{IsClerkOf, AreClerksOf, IsNew, AllNew}
+use Rattle.registration_desk.specs.declared.desk.Desk.{Desk}
+use Rattle.registration_desk.specs.declared.desk.Clerk.{Clerk}
+use Rattle.interleaving_core.proofs.Places.{at_snoc, at_longer, at_last}
+
+module _ {A : Type 0} (P : ℕ → A → Type 0) where
+  -- at each place of the list it holds
+  abbrev Each : List A → Type 0
+  Each l = (k : ℕ) (x : A) → slice_get l k ≡ Some x → P k x
+
+  -- of the last one, and of the others
+  pub each_last : (l xs : List A) (m : A) → l ≡ xs ++ m ∷ [] → Each l → P (length xs) m × Each xs
+  each_last l xs m is all = (
+    all (length xs) m (ap (λ z. slice_get z (length xs)) is ∙ at_last xs m),
+    λ k x e. all k x (ap (λ z. slice_get z k) is ∙ at_longer xs (m ∷ []) k x e),
+  )
+
+  -- of one more
+  pub each_snoc : (l xs : List A) (m : A) → l ≡ xs ++ m ∷ [] → Each xs → P (length xs) m → Each l
+  each_snoc l xs m is all mine k x e =
+      ⊎_elim
+      (λ (t : slice_get xs k ≡ Some x). all k x t)
+      (λ (t : (k ≡ length xs) × (m ≡ x)).
+      subst (λ (z : ℕ × A). P z.0 z.1) (λ i. (sym t.0 i, t.1 i)) mine)
+      (at_snoc xs m x k (ap (λ z. slice_get z k) (sym is) ∙ e))
+
+-- the last of the clerks of a desk, and the others
+pub clerks_last : (desk : Desk) (l xs : List Clerk) (m : Clerk) → l ≡ xs ++ m ∷ []
+    → AreClerksOf desk l → IsClerkOf desk m × AreClerksOf desk xs
+clerks_last desk = each_last (λ _ clerk. IsClerkOf desk clerk)
+
+-- a sum over the clerks, without the last one
+pub sum_last : (f : Clerk → ℕ) (l xs : List Clerk) (m : Clerk) → l ≡ xs ++ m ∷ []
+    → sum_by f l ≡ f m + sum_by f xs
+sum_last f l xs m is =
+    let one = sum_by-cons f m [] in
+    let both = sum_by-append f xs (m ∷ []) in
+    let all = ap (λ z. sum_by f z) is in
+    omega arith
+
+-- no clerk is left
+pub sum_none : (f : Clerk → ℕ) (l left : List Clerk) (n : ℕ) → l ≡ left ++ [] → n ≡ 0
+    → left ≡ take (n - 1) l → sum_by f l ≡ 0
+sum_none f l left n is empty rest =
+    let gone : left ≡ [] = rest ∙ ap (λ (k : ℕ). take (k - 1) l) empty in
+    ap (λ z. sum_by f z) (is ∙ ap (λ (z : List Clerk). z ++ []) gone)
+
+-- one more clerk at the opening
+pub new_snoc : (desk : Desk) (l xs : List Clerk) (m : Clerk) → l ≡ xs ++ m ∷ []
+    → AllNew desk xs → IsNew desk (length xs) m → AllNew desk l
+new_snoc desk = each_snoc (IsNew desk)
+
+pub count_snoc : (l xs : List Clerk) (m : Clerk) → l ≡ xs ++ m ∷ [] → length l ≡ length xs + 1
+count_snoc l xs m is = let e = ap (λ z. length z) is in let n = length-append xs (m ∷ []) in
+    omega arith
+
+-- a sum of equal numbers
+pub sum_ones : (f : Clerk → ℕ) (l : List Clerk)
+    → ((k : ℕ) (clerk : Clerk) → slice_get l k ≡ Some clerk → f clerk ≡ 1) → sum_by f l ≡ length l
+sum_ones f [] each = refl
+sum_ones f (x ∷ xs) each =
+    let a : f x ≡ 1 = each 0 x refl in
+    omega (arith, sum_by-cons f x xs, sum_ones f xs (λ k m e. each (suc k) m e))

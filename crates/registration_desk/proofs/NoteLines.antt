@@ -1,0 +1,42 @@
+-- The parts of a line as they are written, with their spaces, are the line.
+use Rattle.std.proofs.Common.{◌≡◌, ℕ, List, [], ◌∷◌, ◌++◌, append_assoc}
+use Rattle.std.specs.Prelude.{codes, decimal}
+use Rattle.run_frame.specs.Lines.{line_text}
+use Rattle.registration_desk.specs.Statuses.{numbers_line, refusal_name, refusal_place, words_line}
+use Rattle.registration_desk.specs.declared.report.DeskNumbers.{DeskNumbers}
+use Rattle.registration_desk.specs.declared.words.DeskWords.{DeskWords}
+
+words-parts : (name place : List ℕ)
+    → codes "words " ++ (name ++ (codes " " ++ (place ++ (codes "\n" ++ []))))
+    ≡ line_text (codes "words" ∷ name ∷ place ∷ [])
+words-parts name place = simp append_assoc
+
+-- the line of a refusal of words
+pub words-line : (refused : DeskWords) (name : List ℕ) (place : ℕ) → name ≡ refusal_name refused
+    → place ≡ refusal_place refused
+    → codes "words " ++ (name ++ (codes " " ++ (decimal place ++ (codes "\n" ++ []))))
+    ≡ words_line refused
+unfolding words_line
+words-line refused name place names places =
+    rw names (rw places (words-parts (refusal_name refused) (decimal (refusal_place refused))))
+
+numbers-parts : (registered again without unknown : List ℕ)
+    → codes "registered " ++ (registered ++ (codes " again " ++ (again ++ (codes " notplaced "
+    ++ (without ++ (codes " unknown " ++ (unknown ++ (codes "\n" ++ []))))))))
+    ≡ line_text (codes "registered" ∷ registered ∷ codes "again" ∷ again ∷ codes "notplaced"
+    ∷ without ∷ codes "unknown" ∷ unknown ∷ [])
+numbers-parts registered again without unknown = simp append_assoc
+
+-- the line of how many requests were answered in each way
+pub numbers-line : (numbers : DeskNumbers) (registered again without unknown : ℕ)
+    → registered ≡ numbers.registered → again ≡ numbers.again → without ≡ numbers.not_placed
+    → unknown ≡ numbers.unknown
+    → codes "registered " ++ (decimal registered ++ (codes " again " ++ (decimal again
+    ++ (codes " notplaced " ++ (decimal without ++ (codes " unknown " ++ (decimal unknown
+    ++ (codes "\n" ++ []))))))))
+    ≡ numbers_line numbers
+unfolding numbers_line
+numbers-line numbers registered again without unknown firsts seconds thirds fourths =
+    rw firsts (rw seconds (rw thirds (rw fourths
+    (numbers-parts (decimal numbers.registered) (decimal numbers.again)
+    (decimal numbers.not_placed) (decimal numbers.unknown)))))

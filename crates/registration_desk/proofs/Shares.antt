@@ -1,0 +1,123 @@
+-- Seats that are split and joined keep the rule.
+use Rattle.std.proofs.Common.{◌≡◌, ◌≢◌, ℕ, ◌+◌, ◌<◌, ◌≤◌, List, [], ◌∷◌, ◌++◌, length, set, None, Some, sym, refl, subst, inl, inr, ⊎_elim, ◌∙◌, arith}
+use Rattle.std.specs.Prelude.{slice_get}
+use Rattle.std.specs.List.{sum_by}
+use Rattle.std.proofs.lemmas.List.Sums.{sum_by-append, sum_by-cons}
+use Rattle.atomic_table.specs.Table.{Splits, Joins}
+use Rattle.registration_desk.specs.Clerks.{ClerkKnows, spent_clerk, next_part, kept_part, new_part, joined}
+use Rattle.registration_desk.specs.Rule.{share_of, left_of, served_of, hold_bit, number_of, IsOrderly}
+use Rattle.registration_desk.specs.declared.rule.DeskKey.{DeskKey}
+use Rattle.interleaving_core.proofs.Places.{at_set, at_snoc, sum_set}
+use Rattle.registration_desk.proofs.Belonging.{there, not_holding, is_none, Belongs, is_clerk}
+
+module _ (key : DeskKey) where
+  -- a seat that does not hold may be split, where its part is at most what it has left
+  pub split_keeps : (id : ℕ) (x : ClerkKnows) → 1 < x.share → x.holds ≡ None → next_part x ≤ x.left
+      → Splits (IsOrderly key) id x (kept_part x) (new_part x)
+  split_keeps id x more free part s h at =
+      let left = kept_part x in
+      let right = new_part x in
+      let here = there s.views id x at in
+      let c = is_clerk key (number_of s.words) x (omega arith) (h.each id x here) in
+      let sums : (g : ClerkKnows → ℕ) → sum_by g (set s.views id left ++ right ∷ []) + g x
+      ≡ sum_by g s.views + (g left + g right) =
+      λ g.
+      let a = sum_by-append g (set s.views id left) (right ∷ []) in
+      let b = sum_by-cons g right [] in
+      let e = sum_set g s.views id x left here in
+      omega arith in
+      let shares = sums share_of in
+      let served = sums served_of in
+      let lefts = sums left_of in
+      let holds = sums hold_bit in
+      let was_free = is_none x free in
+      let was_shares = h.shares in
+      let was_served = h.served in
+      let was_all = h.all in
+      let was_holders = h.holders in
+      let of_part : (z : ClerkKnows) → 1 ≤ z.share → z.holds ≡ None → z.seats ≡ x.seats → z.requests
+      ≡ x.requests
+      → z.clerks ≡ x.clerks → Belongs key (number_of s.words) z =
+      λ z live none_held e f g.
+      inr record {
+        some = live;
+        same_seats = e ∙ c.same_seats;
+        same_requests = f ∙ c.same_requests;
+        same_clerks = g ∙ c.same_clerks;
+        held = λ n is. absurd (not_holding z (is_none z none_held) n is);
+      } in
+      record {
+        few = h.few;
+        wide = h.wide;
+        each = λ i z is.
+            ⊎_elim
+            (λ (p : slice_get (set s.views id left) i ≡ Some z).
+            ⊎_elim
+            (λ (t : (i ≡ id) × (left ≡ z)).
+            subst (Belongs key (number_of s.words)) t.1
+            (of_part left (omega arith) free refl refl refl))
+            (λ (t : (i ≢ id) × (slice_get s.views i ≡ Some z)). h.each i z t.1)
+            (at_set s.views id i left z p))
+            (λ (p : (i ≡ length (set s.views id left)) × (right ≡ z)).
+            subst (Belongs key (number_of s.words)) p.1
+            (of_part right (omega arith) free refl refl refl))
+            (at_snoc (set s.views id left) right z i is);
+        shares = omega arith;
+        served = omega arith;
+        all = omega arith;
+        holders = omega arith;
+        home = h.home;
+      }
+
+  -- seats that do not hold may be joined
+  pub join_keeps : (id : ℕ) (x : ClerkKnows) (other : ℕ) (y : ClerkKnows) → 0 < x.share → x.holds
+      ≡ None
+      → y.holds ≡ None → Joins (IsOrderly key) id x other y (joined x y) spent_clerk
+  join_keeps id x other y live free other_free s h at apart at_other =
+      let both = joined x y in
+      let mid : List ClerkKnows = set s.views id both in
+      let here = there s.views id x at in
+      let c = is_clerk key (number_of s.words) x live (h.each id x here) in
+      let in_mid : slice_get mid other ≡ Some y = there mid other y at_other in
+      let sums : (g : ClerkKnows → ℕ) → sum_by g (set mid other spent_clerk) + (g x + g y)
+      ≡ sum_by g s.views + (g both + g spent_clerk) =
+      λ g.
+      let a = sum_set g mid other y spent_clerk in_mid in
+      let e = sum_set g s.views id x both here in
+      omega arith in
+      let shares = sums share_of in
+      let served = sums served_of in
+      let lefts = sums left_of in
+      let holds = sums hold_bit in
+      let was_free = is_none x free in
+      let was_other_free = is_none y other_free in
+      let was_shares = h.shares in
+      let was_served = h.served in
+      let was_all = h.all in
+      let was_holders = h.holders in
+      record {
+        few = h.few;
+        wide = h.wide;
+        each = λ i z is.
+            ⊎_elim
+            (λ (t : (i ≡ other) × (spent_clerk ≡ z)). inl (sym t.1))
+            (λ (t : (i ≢ other) × (slice_get mid i ≡ Some z)).
+            ⊎_elim
+            (λ (u : (i ≡ id) × (both ≡ z)).
+            subst (Belongs key (number_of s.words)) u.1
+            (inr record {
+              some = omega arith;
+              same_seats = c.same_seats;
+              same_requests = c.same_requests;
+              same_clerks = c.same_clerks;
+              held = λ n e. absurd (not_holding x was_free n e);
+            }))
+            (λ (u : (i ≢ id) × (slice_get s.views i ≡ Some z)). h.each i z u.1)
+            (at_set s.views id i both z t.1))
+            (at_set mid other i spent_clerk z is);
+        shares = omega arith;
+        served = omega arith;
+        all = omega arith;
+        holders = omega arith;
+        home = h.home;
+      }

@@ -1,0 +1,31 @@
+use Rattle.std.proofs.Common.{◌≤◌, length, refl, sym, ap, subst, ◌∙◌, arith}
+use Rattle.place_base.specs.declared.fault.FileKind.TheVariants as file
+use Rattle.place_edges.specs.Shelf.{HasBytes, file_limit, tally_with}
+use Rattle.placement_file.specs.Requests.{requests_in}
+use Rattle.run_frame.proofs.Judging.{judged-stop}
+use Rattle.run_frame.proofs.JudgedTables.{judged-long, judged-table}
+use Rattle.registration_desk.specs.Says.{requests_said}
+use Rattle.registration_desk.proofs.DeskFaults.{other-requests}
+use Rattle.registration_desk.proofs.inputs.read_request_list.Goals as goal
+
+pub returns-in_err-bytes-clause-judged : goal.returns-in_err-bytes-clause-judged
+unfolding requests_said
+returns-in_err-bytes-clause-judged g c =
+    judged-stop _ _ file.Registrations _ _ _ _ _ _ _ c.from_residual.ensures.1
+    (λ bytes many. judged-long file.Registrations _ _ bytes many) c.in_err-bytes.ensures.told
+    c.in_err-bytes.ensures.memory c.in_err-bytes.ensures.causes
+
+pub returns-clause-judged : goal.returns-clause-judged
+unfolding requests_said
+returns-clause-judged g c =
+    let bytes = c.deref.result.now in
+    let held = subst (HasBytes (g.H.Shelf.files c.args.shelf.now) c.args.name.now)
+    (sym c.deref.ensures.value) c.in_ok-bytes.ensures.told in
+    let few : length bytes ≤ file_limit = omega
+    (arith, c.in_ok-bytes.ensures.few, c.deref.ensures.len) in
+    let given = c.in_ok-bytes.ensures.given
+    ∙ ap (λ n. tally_with (g.H.Shelf.tally c.args.shelf.now) n) (sym c.deref.ensures.len) in
+    judged-table _ _ bytes file.Registrations _ (requests_in bytes) requests_said
+    c.request_list.result c.table_or_stop.result _ _ _ _ refl held few given
+    c.in_ok-bytes.ensures.causes.faults c.in_ok-bytes.ensures.causes.tally
+    (other-requests bytes) c.request_list.ensures c.table_or_stop.ensures

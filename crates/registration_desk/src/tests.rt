@@ -1,0 +1,520 @@
+// Runs over files in memory, which a reader can check by hand, and one clerk's calls.
+ghost use Rattle.std.specs.Prelude.{◌≡◌, ◌≤◌, IfSome, length};
+ghost use Rattle.registration_desk.specs.Desks.{AllNew, key_of, opened};
+
+// Gates that hold clerks and count their calls.
+mod gates;
+
+use self::gates::Meeting;
+use crate::{
+    Clerk, Desk, DeskGate, DeskState, DeskStatus, DeskWords, OpenDesk, Reply, run_desk, serve_next,
+};
+use place_edges::{MemShelf, MemSink, SureShelf, SureSink};
+use placement_file::{read_alone, read_requests};
+use std::alloc::{AllocError, Global};
+use std::process::Abort;
+use std::sync::Wait;
+use std::test::Fail;
+use std::thread::Threads;
+
+// Candidates 1 and 3 are placed, and 2 holds none; without and with the kinds of the seats.
+const PLACEMENT: &[u8] = b"candidate,programme\n1,101\n2,-\n3,201\n";
+
+const SEATED: &[u8] = b"candidate,programme,seat\n1,101,G\n2,-,-\n3,201,R\n";
+
+const REQUESTS: &[u8] = b"candidate\n3\n2\n9\n1\n3\n";
+
+const REGISTERED: &[u8] = b"candidate\n1\n3\n";
+
+const NUMBERS: &[u8] = b"registered 2 again 1 notplaced 1 unknown 1\n";
+
+const DESK: [&str; 2] = ["p", "r"];
+
+const BY_TWO: [&str; 4] = ["p", "r", "--clerks", "2"];
+
+// The same by one clerk, by two, by as many as when the words say nothing, and by the most.
+const DESK_BY: [&[&str]; 4] = [
+    &["p", "r", "--clerks", "1"],
+    &BY_TWO,
+    &DESK,
+    &["p", "r", "--clerks", "64"],
+];
+
+// What a run came to.
+#[derive(Drop)]
+struct Ran {
+    status: DeskStatus,
+    out: MemSink,
+    notes: MemSink,
+    faults: u64,
+    calls: u64,
+}
+
+fn words(alloc: Global, texts: &[&str]) -> Result<Vec<String>, AllocError> {
+    let mut words = Vec::new(alloc);
+    for text in texts {
+        words.push(String::from_str(alloc, text)?)?;
+    }
+    Ok(words)
+}
+
+// A shelf with these files.
+fn shelf(alloc: Global, files: &[(&str, &[u8])]) -> Result<MemShelf, AllocError> {
+    let mut shelf = MemShelf::new(alloc);
+    for (name, bytes) in files {
+        shelf.add(String::from_str(alloc, name)?, bytes.to_vec(alloc)?)?;
+    }
+    Ok(shelf)
+}
+
+// Runs these words over this shelf, with this gate.
+fn run(
+    rt: &(impl Threads + Wait + Sync),
+    alloc: Global,
+    texts: &[&str],
+    mut shelf: MemShelf,
+    gate: &impl DeskGate,
+) -> Result<Ran, AllocError> {
+    let mut out = MemSink::new(alloc, 4, 65_536)?;
+    let mut notes = MemSink::new(alloc, 16, 65_536)?;
+    let words = words(alloc, texts)?;
+    let status = run_desk(rt, alloc, &words, &mut shelf, &mut out, &mut notes, gate);
+    Ok(Ran {
+        status,
+        out,
+        notes,
+        faults: shelf.faults(),
+        calls: shelf.calls(),
+    })
+}
+
+// Runs these words over this shelf, with this gate, and compares the number of the status, both
+// texts, how often the shelf failed, and how often it was called: a file of one piece has an open
+// and two takes.
+fn ends(
+    rt: &(impl Threads + Wait + Sync + Abort),
+    alloc: Global,
+    texts: &[&str],
+    shelf: MemShelf,
+    gate: &impl DeskGate,
+    (code, out, note, faults, calls): (u8, &[u8], &[u8], u64, u64),
+) -> Result<DeskStatus, Fail> {
+    let ran = run(rt, alloc, texts, shelf, gate)?;
+    assert_eq!(rt; ran.status.code(), code);
+    assert_eq!(rt; ran.out.bytes(), out);
+    assert_eq!(rt; ran.notes.bytes(), note);
+    assert_eq!(rt; (ran.faults, ran.calls), (faults, calls));
+    Ok(ran.status)
+}
+
+// A placement, requests, the number of the status, the text, the line, and the calls of the shelf.
+type Case = (
+    &'static [u8],
+    &'static [u8],
+    u8,
+    &'static [u8],
+    &'static [u8],
+    u64,
+);
+
+// Files that are served, and files with a fault.
+const FILES: [Case; 16] = [
+    (PLACEMENT, REQUESTS, 0, REGISTERED, NUMBERS, 6),
+    (SEATED, REQUESTS, 0, REGISTERED, NUMBERS, 6),
+    (
+        b"\xEF\xBB\xBFcandidate,programme\r\n\r\n3,201\r\n2,-\n001,101",
+        b"\xEF\xBB\xBFcandidate\r\n003\r\n\n2\n9\n1\n3",
+        0,
+        b"candidate\n3\n1\n",
+        NUMBERS,
+        6,
+    ),
+    (
+        PLACEMENT,
+        b"candidate\n",
+        0,
+        b"candidate\n",
+        b"registered 0 again 0 notplaced 0 unknown 0\n",
+        6,
+    ),
+    (
+        b"candidate,programme\n",
+        b"candidate\n5\n5\n",
+        0,
+        b"candidate\n",
+        b"registered 0 again 0 notplaced 0 unknown 2\n",
+        6,
+    ),
+    (
+        b"",
+        REQUESTS,
+        3,
+        b"",
+        b"fault placement line 1 field 0 F01 Header earlier 0\n",
+        2,
+    ),
+    (
+        PLACEMENT,
+        b"",
+        3,
+        b"",
+        b"fault registrations line 1 field 0 F01 Header earlier 0\n",
+        5,
+    ),
+    (
+        b"candidate,seat\n",
+        b"x",
+        3,
+        b"",
+        b"fault placement line 1 field 0 F01 Header earlier 0\n",
+        3,
+    ),
+    (
+        b"candidate,programme\n1,101,G\n",
+        REQUESTS,
+        3,
+        b"",
+        b"fault placement line 2 field 0 F02 FieldCount earlier 0\n",
+        3,
+    ),
+    (
+        b"candidate,programme\n1,x\n",
+        REQUESTS,
+        3,
+        b"",
+        b"fault placement line 2 field 2 F03 NotNumber earlier 0\n",
+        3,
+    ),
+    (
+        b"candidate,programme\n1,101\n\n1,-\n",
+        REQUESTS,
+        3,
+        b"",
+        b"fault placement line 4 field 1 F06 Duplicate earlier 2\n",
+        3,
+    ),
+    (
+        b"candidate,programme,seat\n1,101,-\n",
+        REQUESTS,
+        3,
+        b"",
+        b"fault placement line 2 field 3 F13 BadSeat earlier 0\n",
+        3,
+    ),
+    (
+        PLACEMENT,
+        b"candidates\n",
+        3,
+        b"",
+        b"fault registrations line 1 field 0 F01 Header earlier 0\n",
+        6,
+    ),
+    (
+        PLACEMENT,
+        b"candidate\n1\n2,3\n",
+        3,
+        b"",
+        b"fault registrations line 3 field 0 F02 FieldCount earlier 0\n",
+        6,
+    ),
+    (
+        PLACEMENT,
+        b"candidate\n1\n-\n0\n",
+        3,
+        b"",
+        b"fault registrations line 3 field 1 F03 NotNumber earlier 0\n",
+        6,
+    ),
+    (
+        PLACEMENT,
+        b"candidate\n100000000000\n",
+        3,
+        b"",
+        b"fault registrations line 2 field 1 F04 OutOfRange earlier 0\n",
+        6,
+    ),
+];
+
+// Each two files come to this.
+fn are_served(
+    rt: &(impl Threads + Wait + Sync + Abort),
+    alloc: Global,
+    texts: &[&str],
+    cases: &[Case],
+) -> Result<(), Fail> {
+    for (placement, requests, code, out, note, calls) in cases {
+        let shelf = shelf(alloc, &[("p", *placement), ("r", *requests)])?;
+        let wanted = (*code, *out, *note, 0, *calls);
+        ends(rt, alloc, texts, shelf, &OpenDesk, wanted)?;
+    }
+    Ok(())
+}
+
+#[test]
+fn files_are_served_or_their_first_fault_is_noted_by_any_number_of_clerks(
+    rt: HostRuntime,
+) -> Result<(), Fail> {
+    for texts in DESK_BY {
+        are_served(&rt, rt.alloc(), texts, &FILES)?;
+    }
+    Ok(())
+}
+
+#[test]
+fn two_clerks_serve_side_by_side(rt: HostRuntime) -> Result<(), Fail> {
+    let alloc = rt.alloc();
+    let gate = Meeting::new();
+    let shelf = shelf(alloc, &[("p", PLACEMENT), ("r", b"candidate\n1\n3\n")])?;
+    let note = b"registered 2 again 0 notplaced 0 unknown 0\n";
+    ends(
+        &rt,
+        alloc,
+        &BY_TWO,
+        shelf,
+        &gate,
+        (0, REGISTERED, note, 0, 6),
+    )?;
+    assert!(rt; !gate.has_given_up());
+    assert_eq!(rt; gate.counts(), ([1, 1, 1, 1], 0));
+    Ok(())
+}
+
+// Four thousand requests of four candidates.
+fn many_requests(alloc: Global) -> Result<Vec<u8>, AllocError> {
+    let mut bytes = b"candidate\n".to_vec(alloc)?;
+    for _ in 0..1000u32 {
+        bytes.extend_from_slice(b"3\n2\n9\n1\n")?;
+    }
+    Ok(bytes)
+}
+
+#[test]
+fn any_number_of_clerks_answers_four_thousand_requests(rt: HostRuntime) -> Result<(), Fail> {
+    let alloc = rt.alloc();
+    let requests = many_requests(alloc)?;
+    let note = b"registered 2 again 1998 notplaced 1000 unknown 1000\n";
+    for texts in DESK_BY {
+        let shelf = shelf(alloc, &[("p", PLACEMENT), ("r", requests.as_slice())])?;
+        ends(
+            &rt,
+            alloc,
+            texts,
+            shelf,
+            &OpenDesk,
+            (0, REGISTERED, note, 0, 6),
+        )?;
+    }
+    Ok(())
+}
+
+// Serves until the one clerk of a desk has no request left, and closes the desk.
+fn one_clerk<R: Wait>(
+    rt: &R,
+    alloc: Global,
+    desk: Desk,
+    mut crew: Vec<Clerk>,
+) -> Option<(DeskState, u32)>
+    requires new { AllNew desk crew.items }
+    requires one { (length crew.items ≡ 1) × ((key_of desk).clerks ≡ 1) }
+    ensures { IfSome result (λ r. r.1 ≡ length (opened desk).requests) }
+{
+    let mut clerk = crew.pop()?;
+    while clerk.left() > 0 {
+        serve_next(rt, &desk, &mut clerk);
+    }
+    let served = clerk.served();
+    let clerks = Vec::from_array(alloc, [clerk]).ok()?;
+    Some((desk.close(clerks), served))
+}
+
+#[test]
+fn each_request_has_its_own_reply(rt: HostRuntime) -> Result<(), Fail> {
+    let alloc = rt.alloc();
+    let seats = read_alone(alloc, PLACEMENT)?;
+    let requests = read_requests(alloc, REQUESTS)?;
+    let (desk, crew) = Desk::open(alloc, seats, requests, 1)?;
+    let (closed, served) = one_clerk(&rt, alloc, desk, crew).ok_or("memory")?;
+    assert!(rt; served == 5 && closed.total() == 2);
+    let wanted = [
+        Reply::Registered(1),
+        Reply::NotPlaced,
+        Reply::Unknown,
+        Reply::Registered(2),
+        Reply::Already(1),
+    ];
+    assert!(rt; closed.calls() == 5);
+    for (index, reply) in wanted.iter().enumerate() {
+        assert!(rt; closed.reply(index as u32) == *reply);
+    }
+    Ok(())
+}
+
+// Words that are refused: their status, and its line.
+const REFUSED: [(&[&str], DeskWords, &[u8]); 12] = [
+    (&[], DeskWords::WordCount(1), b"words WordCount 1\n"),
+    (&["p"], DeskWords::WordCount(2), b"words WordCount 2\n"),
+    (
+        &["p", "r", "x"],
+        DeskWords::WordCount(3),
+        b"words WordCount 3\n",
+    ),
+    (
+        &["p", "r", "x", "1"],
+        DeskWords::WordCount(3),
+        b"words WordCount 3\n",
+    ),
+    (
+        &["p", "r", "x", "1", "y"],
+        DeskWords::WordCount(3),
+        b"words WordCount 3\n",
+    ),
+    (
+        &["p", "r", "--clerks=2"],
+        DeskWords::WordCount(3),
+        b"words WordCount 3\n",
+    ),
+    (
+        &["p", "r", "--clerks"],
+        DeskWords::WordCount(4),
+        b"words WordCount 4\n",
+    ),
+    (
+        &["p", "r", "--clerks", "x", "y"],
+        DeskWords::WordCount(5),
+        b"words WordCount 5\n",
+    ),
+    (
+        &["p", "r", "--clerks", "x"],
+        DeskWords::BadNumber(4),
+        b"words BadNumber 4\n",
+    ),
+    (
+        &["p", "r", "--clerks", ""],
+        DeskWords::BadNumber(4),
+        b"words BadNumber 4\n",
+    ),
+    (
+        &["p", "r", "--clerks", "0"],
+        DeskWords::BadNumber(4),
+        b"words BadNumber 4\n",
+    ),
+    (
+        &["p", "r", "--clerks", "65"],
+        DeskWords::BadNumber(4),
+        b"words BadNumber 4\n",
+    ),
+];
+
+// These words are refused so, over a shelf without a file.
+fn are_refused(
+    rt: &(impl Threads + Wait + Sync + Abort),
+    alloc: Global,
+    words: &[(&[&str], DeskWords, &[u8])],
+) -> Result<(), Fail> {
+    for (texts, refused, note) in words {
+        let shelf = shelf(alloc, &[])?;
+        let status = ends(rt, alloc, texts, shelf, &OpenDesk, (2, b"", *note, 0, 0))?;
+        assert_eq!(rt; status, DeskStatus::Words(*refused));
+    }
+    Ok(())
+}
+
+#[test]
+fn refused_words_open_no_file(rt: HostRuntime) -> Result<(), Fail> {
+    are_refused(&rt, rt.alloc(), &REFUSED)
+}
+
+#[test]
+fn a_number_of_clerks_may_have_zeros_in_front(rt: HostRuntime) -> Result<(), Fail> {
+    let shelf = shelf(rt.alloc(), &[("p", PLACEMENT), ("r", REQUESTS)])?;
+    let texts = ["p", "r", "--clerks", "00064"];
+    let wanted = (0, REGISTERED, NUMBERS, 0, 6);
+    ends(&rt, rt.alloc(), &texts, shelf, &OpenDesk, wanted)?;
+    Ok(())
+}
+
+#[test]
+fn each_read_that_fails_is_a_read_fault(rt: HostRuntime) -> Result<(), Fail> {
+    let alloc = rt.alloc();
+    for call in 1..=6u64 {
+        let mut shelf = shelf(alloc, &[("p", PLACEMENT), ("r", REQUESTS)])?;
+        shelf.fail_at(call)?;
+        let wanted = (4, b"".as_slice(), b"read fault\n".as_slice(), 1, call);
+        ends(&rt, alloc, &DESK, shelf, &OpenDesk, wanted)?;
+    }
+    let missing = shelf(alloc, &[("p", PLACEMENT)])?;
+    let wanted = (4, b"".as_slice(), b"read fault\n".as_slice(), 1, 4);
+    ends(&rt, alloc, &DESK, missing, &OpenDesk, wanted)?;
+    Ok(())
+}
+
+#[test]
+fn a_placement_with_a_fault_keeps_the_registrations_closed(rt: HostRuntime) -> Result<(), Fail> {
+    let alloc = rt.alloc();
+    let shelf = shelf(alloc, &[("p", b"candidate,programme\n0,1\n")])?;
+    let note = b"fault placement line 2 field 1 F04 OutOfRange earlier 0\n";
+    ends(&rt, alloc, &DESK, shelf, &OpenDesk, (3, b"", note, 0, 3))?;
+    Ok(())
+}
+
+#[test]
+fn each_write_that_fails_leaves_the_front_of_the_text(rt: HostRuntime) -> Result<(), Fail> {
+    let alloc = rt.alloc();
+    // the text has 14 bytes, and the sink takes four at once
+    for (call, front) in [
+        (1u64, ""),
+        (2, "cand"),
+        (3, "candidat"),
+        (4, "candidate\n1\n"),
+    ] {
+        let mut shelf = shelf(alloc, &[("p", PLACEMENT), ("r", REQUESTS)])?;
+        let mut out = MemSink::new(alloc, 4, 65_536)?;
+        out.fail_at(call)?;
+        let mut notes = MemSink::new(alloc, 16, 65_536)?;
+        let words = words(alloc, &DESK)?;
+        let status = run_desk(
+            &rt, alloc, &words, &mut shelf, &mut out, &mut notes, &OpenDesk,
+        );
+        assert_eq!(rt; (status, status.code()), (DeskStatus::WriteFault, 5));
+        assert_eq!(rt; out.bytes(), front.as_bytes());
+        assert_eq!(rt; notes.bytes(), b"write fault\n".as_slice());
+    }
+    Ok(())
+}
+
+#[test]
+fn notes_that_fail_change_nothing_else(rt: HostRuntime) -> Result<(), Fail> {
+    let alloc = rt.alloc();
+    // the line of numbers has nine parts, and each is put at once
+    for (call, front) in [(1u64, ""), (2, "registered "), (4, "registered 2 again ")] {
+        let mut shelf = shelf(alloc, &[("p", PLACEMENT), ("r", REQUESTS)])?;
+        let mut out = MemSink::new(alloc, 16, 65_536)?;
+        let mut notes = MemSink::new(alloc, 16, 65_536)?;
+        notes.fail_at(call)?;
+        let words = words(alloc, &DESK)?;
+        let status = run_desk(
+            &rt, alloc, &words, &mut shelf, &mut out, &mut notes, &OpenDesk,
+        );
+        assert_eq!(rt; status.code(), 0);
+        assert_eq!(rt; out.bytes(), REGISTERED);
+        assert_eq!(rt; notes.bytes(), front.as_bytes());
+    }
+    Ok(())
+}
+
+#[test]
+fn nothing_fails_over_a_sure_shelf_and_a_sure_sink(rt: HostRuntime) -> Result<(), Fail> {
+    let alloc = rt.alloc();
+    let mut shelf = SureShelf::new(alloc);
+    for (name, bytes) in [("p", PLACEMENT), ("r", REQUESTS)] {
+        shelf.add(String::from_str(alloc, name)?, bytes.to_vec(alloc)?)?;
+    }
+    let words = words(alloc, &DESK)?;
+    let mut out = SureSink::new();
+    let mut notes = SureSink::new();
+    let status = run_desk(
+        &rt, alloc, &words, &mut shelf, &mut out, &mut notes, &OpenDesk,
+    );
+    assert_eq!(rt; status, DeskStatus::Done);
+    Ok(())
+}
