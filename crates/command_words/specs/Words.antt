@@ -5,7 +5,7 @@ use Rattle.std.specs.Str.{bytes_eq}
 use Rattle.place_base.specs.declared.fault.FaultKind.{FaultKind}
 use Rattle.record_files.specs.Numbers.{number_of}
 use Rattle.command_words.specs.declared.words.Command.{Command}
-use Rattle.command_words.specs.declared.words.Command.TheVariants.{Place}
+use Rattle.command_words.specs.declared.words.Command.TheVariants.{Place, Base, Reasons, Audit}
 use Rattle.command_words.specs.declared.words.WordsFault.{WordsFault}
 use Rattle.command_words.specs.declared.words.WordsFault.TheVariants.{NoCommand, UnknownCommand, WordCount, BadNumber}
 use Rattle.command_words.specs.declared.words.TheConstants.{WORKERS, MAX_WORKERS}
@@ -19,23 +19,28 @@ pub record CommandForm : Type 0 where
   -- what they ask for, by the number of workers
   pub command : ℕ → Command
 
--- the grammar: `place` and the names of three files ask for a placement
+-- the grammar: three commands take the names of three files, and the audit takes that of a
+-- placement file behind them
 abbrev pub grammar : List CommandForm
-grammar = record { word = codes "place"; further = 3; command = λ workers. Place workers } ∷ []
+grammar =
+    record { word = codes "place"; further = 3; command = λ workers. Place workers }
+    ∷ record { word = codes "base"; further = 3; command = λ workers. Base workers }
+    ∷ record { word = codes "reasons"; further = 3; command = λ workers. Reasons workers }
+    ∷ record { word = codes "audit"; further = 4; command = λ workers. Audit workers } ∷ []
 
 -- the line of the grammar with this word
 abbrev pub form_of : List ℕ → Option CommandForm
 form_of word = find (λ form. bytes_eq form.word word) grammar
 
--- the number of workers that a word gives, or that the word at this place is no such number
-abbrev pub workers_in : Result ℕ FaultKind → ℕ → Result ℕ WordsFault
-workers_in (Ok workers) place = Ok workers
-workers_in (Err kind) place = Err (BadNumber place)
+-- the number that a word gives, or that the word at this place is no such number
+abbrev pub number_at : Result ℕ FaultKind → ℕ → Result ℕ WordsFault
+number_at (Ok number) place = Ok number
+number_at (Err kind) place = Err (BadNumber place)
 
 -- what stands behind the option's word, from this place on: one number
 abbrev pub number_behind : List (List ℕ) → ℕ → Result ℕ WordsFault
 number_behind [] place = Err (WordCount place)
-number_behind (word ∷ []) place = workers_in (number_of word 1 MAX_WORKERS) place
+number_behind (word ∷ []) place = number_at (number_of word 1 MAX_WORKERS) place
 number_behind (word ∷ other ∷ more) place = Err (WordCount (place + 1))
 
 -- the number of workers that the words behind a command's own give, from this place on: none,

@@ -12,7 +12,7 @@ fn words(alloc: Global, texts: &[&str]) -> Result<Vec<String>, AllocError> {
     Ok(words)
 }
 
-const ROWS: [(&[&str], Result<Command, WordsFault>); 23] = [
+const ROWS: [(&[&str], Result<Command, WordsFault>); 32] = [
     (&["place", "P", "C", "R"], Ok(Command::Place(4))),
     // Any word is a name where a name stands.
     (&["place", "-P", "", "--workers"], Ok(Command::Place(4))),
@@ -81,6 +81,34 @@ const ROWS: [(&[&str], Result<Command, WordsFault>); 23] = [
     (
         &["place", "P", "C", "--workers", "2"],
         Err(WordsFault::WordCount(5)),
+    ),
+    (&["base", "P", "C", "R"], Ok(Command::Base(4))),
+    (
+        &["reasons", "P", "C", "R", "--workers", "7"],
+        Ok(Command::Reasons(7)),
+    ),
+    (
+        &["reason", "P", "C", "R"],
+        Err(WordsFault::UnknownCommand(1)),
+    ),
+    // The audit takes a word more.
+    (&["audit", "P", "C", "R", "S"], Ok(Command::Audit(4))),
+    (&["audit", "P", "C", "R"], Err(WordsFault::WordCount(5))),
+    (
+        &["audit", "P", "C", "R", "S", "T"],
+        Err(WordsFault::WordCount(6)),
+    ),
+    (
+        &["audit", "P", "C", "R", "S", "--workers"],
+        Err(WordsFault::WordCount(7)),
+    ),
+    (
+        &["audit", "P", "C", "R", "S", "--workers", "1", "x"],
+        Err(WordsFault::WordCount(8)),
+    ),
+    (
+        &["audit", "P", "C", "R", "S", "--workers", "0"],
+        Err(WordsFault::BadNumber(7)),
     ),
 ];
 

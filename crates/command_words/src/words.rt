@@ -21,6 +21,12 @@ pub enum Command {
     /// The placement of three files, by this number of workers, 1 to 64. It also bounds the
     /// parts in which each file may be read; the outcome does not depend on it.
     Place(u32),
+    /// The base ranks of the same placement, by this number of workers.
+    Base(u32),
+    /// The reason of every list entry in the same placement, by this number of workers.
+    Reasons(u32),
+    /// The audit of the placement in a fourth file, by this number of workers.
+    Audit(u32),
 }
 
 /// Why a list of words is no command. A place of a word is counted from 1.
@@ -48,13 +54,33 @@ struct Form {
 #[derive(Clone, Copy)]
 enum Kind {
     Place,
+    Base,
+    Reasons,
+    Audit,
 }
 
-const FORMS: [Form; 1] = [Form {
-    word: b"place",
-    further: 3,
-    kind: Kind::Place,
-}];
+const FORMS: [Form; 4] = [
+    Form {
+        word: b"place",
+        further: 3,
+        kind: Kind::Place,
+    },
+    Form {
+        word: b"base",
+        further: 3,
+        kind: Kind::Base,
+    },
+    Form {
+        word: b"reasons",
+        further: 3,
+        kind: Kind::Reasons,
+    },
+    Form {
+        word: b"audit",
+        further: 4,
+        kind: Kind::Audit,
+    },
+];
 
 /// The command that these words give, or the first refusal by the order of the grammar's rules.
 ///
@@ -122,5 +148,8 @@ fn asked(kind: Kind, workers: u32) -> Command
 {
     match kind {
         Kind::Place => Command::Place(workers),
+        Kind::Base => Command::Base(workers),
+        Kind::Reasons => Command::Reasons(workers),
+        Kind::Audit => Command::Audit(workers),
     }
 }

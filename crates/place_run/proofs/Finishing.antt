@@ -6,7 +6,7 @@ use Rattle.place_base.specs.declared.fault.FileKind.{FileKind}
 use Rattle.place_base.specs.declared.fault.FileKind.TheVariants as file
 use Rattle.command_words.specs.Words.{command_of}
 use Rattle.command_words.specs.declared.words.Command.{Command}
-use Rattle.command_words.specs.declared.words.Command.TheVariants.{Place}
+use Rattle.command_words.specs.declared.words.Command.TheVariants.{Place, Base, Reasons, Audit}
 use Rattle.command_words.specs.declared.words.WordsFault.{WordsFault}
 use Rattle.place_edges.specs.Causes.{Rose}
 use Rattle.place_edges.specs.Shelf.{Files, file_limit}
@@ -19,11 +19,12 @@ use Rattle.run_frame.specs.Stops.{too_long}
 use Rattle.run_frame.specs.declared.stop.FileStop.{FileStop}
 use Rattle.run_frame.specs.declared.stop.FileStop.TheVariants.{Fault, ReadFault, Memory}
 use Rattle.run_frame.proofs.Parts.{appended-nothing}
-use Rattle.place_run.specs.Runs.{HasCause, IsAnswering, IsComplete, IsConstant, IsFinished, IsWhole, LeavesSink, PlacesWhole, PrintsWorstStable, StaysInFront, status_said, text_said}
-use Rattle.place_run.specs.Says.{Answer, KeepsPromise, and_then, answered, done, opened, says, tables_said}
+use Rattle.place_run.specs.Runs.{HasCause, IsAnswering, IsComplete, IsConstant, IsFinished, IsWhole, LeavesSink, PlacesWhole, PrintsReports, PrintsVerdict, PrintsWorstStable, StaysInFront, status_said, text_said}
+use Rattle.place_run.specs.Answers.{Answer, done}
+use Rattle.place_run.specs.Says.{KeepsPromise, and_then, answered, audited_said, behind_tables, opened, says, tables_said}
 use Rattle.place_run.specs.Statuses.{ended, status_of}
 use Rattle.place_run.specs.Stops.{is_free}
-use Rattle.place_run.specs.Tables.{HasNoFault, ThreeFiles, candidates_said, codes_in, fault_or, judged, numbers_in, programmes_said, ranks_said, tables_in}
+use Rattle.place_run.specs.Tables.{HasNoFault, Tables, ThreeFiles, candidates_said, codes_in, fault_or, judged, numbers_in, programmes_said, ranks_said, tables_in}
 use Rattle.place_run.specs.commands.Place.{AreThree, placement_of}
 use Rattle.place_run.specs.declared.status.Ending.{Ending}
 use Rattle.place_run.specs.declared.status.Ending.TheVariants as ending
@@ -42,6 +43,7 @@ stop_in (ends.FileFault found) = Some (File (Fault found))
 stop_in ends.ReadFault = Some (File ReadFault)
 stop_in ends.WriteFault = None
 stop_in ends.Memory = Some (File Memory)
+stop_in ends.AuditNo = None
 
 stop-in : (stop : Stop) → stop_in (status_of stop) ≡ Some stop
 stop-in (Words refused) = refl
@@ -52,6 +54,14 @@ stop-in (File Memory) = refl
 -- an answer that is written whole ends in no stop, and in no write fault
 ended-well : (end : Ending) → (stop_in (ended end) ≡ None) × (ended end ≡ ends.WriteFault → ⊥)
 ended-well ending.Done = (refl, λ e. cc e)
+ended-well ending.AuditNo = (refl, λ e. cc e)
+
+-- two ends with one status are the same
+ended-same : (one other : Ending) → ended one ≡ ended other → one ≡ other
+ended-same ending.Done ending.Done e = refl
+ended-same ending.Done ending.AuditNo e = cc e
+ended-same ending.AuditNo ending.Done e = cc e
+ended-same ending.AuditNo ending.AuditNo e = refl
 
 no-stop : (status : Status) (stop : Stop) → stop_in status ≡ None → status ≡ status_of stop → ⊥
 no-stop status stop none same =
@@ -113,14 +123,62 @@ answered-no-words make (Some (Err stop)) refused e =
     let same : stop ≡ Words refused = cc e in ap (λ v. Some (Err v)) same
 answered-no-words make (Some (Ok table)) refused e = cc e
 
+tables-no-words : (reads : Reads) (refused : WordsFault)
+    → tables_said reads ≡ Some (Err (Words refused)) → ⊥
+tables-no-words reads refused e =
+    opened-no-words (reads file.Programmes) _ _ refused
+    (λ programmes. opened-no-words (reads file.Candidates) _ _ refused
+    (λ candidates. opened-no-words (reads file.Ranks) _ _ refused (λ ranks never. cc never)))
+    e
+
+behind-tables-no-words : {T : Type 0} (said : Option (Result Tables Stop))
+    (next : Tables → Option (Result T Stop)) (refused : WordsFault)
+    → (said ≡ Some (Err (Words refused)) → ⊥)
+    → ((tables : Tables) → next tables ≡ Some (Err (Words refused)) → ⊥)
+    → behind_tables said next ≡ Some (Err (Words refused)) → ⊥
+behind-tables-no-words None next refused never later e = cc e
+behind-tables-no-words (Some (Err stop)) next refused never later e =
+    let same : stop ≡ Words refused = cc e in never (ap (λ v. Some (Err v)) same)
+behind-tables-no-words (Some (Ok tables)) next refused never later e = later tables e
+
+audited-no-words : (reads : Reads) (refused : WordsFault)
+    → audited_said reads ≡ Some (Err (Words refused)) → ⊥
+audited-no-words reads refused e =
+    behind-tables-no-words (tables_said reads) _ refused (tables-no-words reads refused)
+    (λ tables. opened-no-words (reads file.Placement) _ _ refused (λ held never. cc never)) e
+
 says-refused : (command : Result Command WordsFault) (reads : Reads) (refused : WordsFault)
     → says command reads ≡ Some (Err (Words refused)) → command ≡ Err refused
 says-refused (Err other) reads refused e = ap (λ v. Err v) (cc e)
 says-refused (Ok (Place workers)) reads refused e = absurd
-    (opened-no-words (reads file.Programmes) _ _ refused
-    (λ programmes. opened-no-words (reads file.Candidates) _ _ refused
-    (λ candidates. opened-no-words (reads file.Ranks) _ _ refused (λ ranks never. cc never)))
-    (answered-no-words _ (tables_said reads) refused e))
+    (tables-no-words reads refused (answered-no-words _ (tables_said reads) refused e))
+says-refused (Ok (Base workers)) reads refused e = absurd
+    (tables-no-words reads refused (answered-no-words _ (tables_said reads) refused e))
+says-refused (Ok (Reasons workers)) reads refused e = absurd
+    (tables-no-words reads refused (answered-no-words _ (tables_said reads) refused e))
+says-refused (Ok (Audit workers)) reads refused e = absurd
+    (audited-no-words reads refused (answered-no-words _ (audited_said reads) refused e))
+
+-- an answer of three files ends well
+answered-done : (text : Tables → List ℕ) (said : Option (Result Tables Stop)) (ready : Answer)
+    → answered (λ tables. done (text tables)) said ≡ Some (Ok ready) → ready.ending ≡ ending.Done
+answered-done text None ready e = cc e
+answered-done text (Some (Err stop)) ready e = cc e
+answered-done text (Some (Ok tables)) ready e =
+    let same : done (text tables) ≡ ready = cc e in sym (ap (λ (v : Answer). v.ending) same)
+
+-- only an audit ends otherwise
+says-unstable : (command : Result Command WordsFault) (reads : Reads) (ready : Answer)
+    → says command reads ≡ Some (Ok ready) → ready.ending ≡ ending.AuditNo
+    → (workers : ℕ) × (command ≡ Ok (Audit workers))
+says-unstable (Err refused) reads ready e is = cc e
+says-unstable (Ok (Place workers)) reads ready e is =
+    cc (sym (answered-done _ (tables_said reads) ready e) ∙ is)
+says-unstable (Ok (Base workers)) reads ready e is =
+    cc (sym (answered-done _ (tables_said reads) ready e) ∙ is)
+says-unstable (Ok (Reasons workers)) reads ready e is =
+    cc (sym (answered-done _ (tables_said reads) ready e) ∙ is)
+says-unstable (Ok (Audit workers)) reads ready e is = (workers, refl)
 
 -- a decided stop is said
 said-words : (said : Option (Result Answer Stop)) (refused : WordsFault)
@@ -128,17 +186,29 @@ said-words : (said : Option (Result Answer Stop)) (refused : WordsFault)
 said-words said refused (inl free) = cc free
 said-words said refused (inr e) = e
 
--- where it is done, an answer was appended whole
-done-finished : {K : Type 0} (written : K → Option (List ℕ)) (faults : K → ℕ)
-    (answer : Result Answer Stop) (status : Status) (old new : K)
-    → IsFinished written faults answer status old new → status ≡ ends.Done
-    → (ready : Answer) × (answer ≡ Ok ready) × Appended (written old) (written new) ready.text
-done-finished written faults (Ok answer) status old new (inl (is, wrote)) well =
-    (answer, refl, wrote)
-done-finished written faults (Ok answer) status old new (inr (fault, wrote, rose)) well =
-    cc (sym fault ∙ well)
-done-finished written faults (Err stop) status old new (is, same) well =
-    absurd (no-stop status stop (ap stop_in well) is)
+-- where a run ends with its text, an answer with this end was appended whole
+record HasEnded {K : Type 0} (written : K → Option (List ℕ)) (answer : Result Answer Stop)
+    (end : Ending) (old new : K) : Type 0 where
+  ready : Answer
+  is : answer ≡ Ok ready
+  ends_so : ready.ending ≡ end
+  wrote : Appended (written old) (written new) ready.text
+
+ended-finished : {K : Type 0} (written : K → Option (List ℕ)) (faults : K → ℕ)
+    (answer : Result Answer Stop) (status : Status) (old new : K) (end : Ending)
+    → IsFinished written faults answer status old new → status ≡ ended end
+    → HasEnded written answer end old new
+ended-finished written faults (Ok answer) status old new end (inl (is, wrote)) same =
+    record {
+      ready = answer;
+      is = refl;
+      ends_so = ended-same answer.ending end (sym is ∙ same);
+      wrote = wrote;
+    }
+ended-finished written faults (Ok answer) status old new end (inr (fault, wrote, rose)) same =
+    absurd ((ended-well end).1 (sym same ∙ fault))
+ended-finished written faults (Err stop) status old new end (is, same_sink) same =
+    absurd (no-stop status stop (ap stop_in same ∙ (ended-well end).0) is)
 
 -- where no write failed, what is said was done, or memory was refused
 said-finished : {K : Type 0} (written : K → Option (List ℕ)) (faults : K → ℕ)
@@ -234,16 +304,54 @@ module _ {K : Type 0} (written : K → Option (List ℕ)) (faults : K → ℕ) (
     (before now tally_before tally_now : ℕ)
     (answers : IsAnswering told words (command_of words) answer before now tally_before tally_now)
     (finished : IsFinished written faults answer status old new) where
+  -- the promise of a command whose run ended with its text
+  kept : (command : Result Command WordsFault) → command_of words ≡ command
+      → (ready : Answer) → answer ≡ Ok ready
+      → KeepsPromise command answers.reading.reads ready
+  kept command accepted ready is =
+      subst (λ v. KeepsPromise v answers.reading.reads ready) accepted
+      (subst (λ v. IfOk v (KeepsPromise (command_of words) answers.reading.reads)) is
+      answers.promise)
+
   pub worst-done : PrintsWorstStable told words status (written old) (written new)
   worst-done = λ workers accepted well.
-      let ready = done-finished written faults answer status old new finished well in (
+      let end = ended-finished written faults answer status old new ending.Done finished well in (
         answers.reading.reads,
         answers.reading.held,
-        ready.0.text,
-        subst (λ v. KeepsPromise v answers.reading.reads ready.0.text) accepted
-            (subst (λ v. IfOk v (λ r. KeepsPromise (command_of words) answers.reading.reads r.text))
-            ready.1 answers.promise),
-        ready.2,
+        end.ready.text,
+        kept (Ok (Place workers)) accepted end.ready end.is,
+        end.wrote,
+      )
+
+  pub reports-done : PrintsReports told words status (written old) (written new)
+  reports-done = record {
+    bases = λ workers accepted well.
+        let end = ended-finished written faults answer status old new ending.Done finished well in (
+          answers.reading.reads,
+          answers.reading.held,
+          end.ready.text,
+          kept (Ok (Base workers)) accepted end.ready end.is,
+          end.wrote,
+        );
+    reasons = λ workers accepted well.
+        let end = ended-finished written faults answer status old new ending.Done finished well in (
+          answers.reading.reads,
+          answers.reading.held,
+          end.ready.text,
+          kept (Ok (Reasons workers)) accepted end.ready end.is,
+          end.wrote,
+        );
+  }
+
+  pub verdict-done : PrintsVerdict told words status (written old) (written new)
+  verdict-done = λ workers accepted ending same.
+      let end = ended-finished written faults answer status old new ending finished same in (
+        answers.reading.reads,
+        answers.reading.held,
+        end.ready,
+        end.ends_so,
+        kept (Ok (Audit workers)) accepted end.ready end.is,
+        end.wrote,
       )
 
   pub complete-run : (Rose before now → ⊥) → (Rose (faults old) (faults new) → ⊥)
@@ -281,6 +389,12 @@ module _ {K : Type 0} (written : K → Option (List ℕ)) (faults : K → ℕ) (
         long = λ kind same. answers.reading.causes.long kind
             (at (File (Fault (too_long kind))) finished same).0;
         write = write-cause written faults answer status old new finished;
+        unstable = λ same.
+            let end = ended-finished written faults answer status old new ending.AuditNo finished
+            same in
+            says-unstable (command_of words) answers.reading.reads end.ready
+            (subst (λ v. Meets is_free (says (command_of words) answers.reading.reads) v) end.is
+            answers.reading.meets) end.ends_so;
       }
 
   pub leaves-sink : faults old ≤ faults new → LeavesSink written faults status old new

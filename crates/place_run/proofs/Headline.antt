@@ -1,16 +1,17 @@
--- What three files say that were read: they have no fault, and their tables are those of the three
--- files. So what is known of the market of the tables is known of the market of the files.
+-- What files say that were read: they have no fault, and their tables are those of the files. So what
+-- is known of the market of the tables is known of the market of the files.
 use Rattle.std.proofs.Common.{◌≡◌, ℕ, ◌<◌, ◌≤◌, List, refl, sym, subst, ap, ◌∙◌, Option, Some, None, Result, Ok, Err, inl, inr, arith, ⊎_elim}
-use Rattle.std.specs.Prelude.{length}
+use Rattle.std.specs.Prelude.{length, ◌↔◌}
 use Rattle.std.proofs.lemmas.Bool.{cases_lt}
 use Rattle.place_base.specs.declared.fault.FileFault.{FileFault}
 use Rattle.place_base.specs.declared.fault.FileKind.{FileKind}
 use Rattle.place_base.specs.declared.fault.FileKind.TheVariants as file
-use Rattle.command_words.specs.declared.words.Command.{Command}
-use Rattle.command_words.specs.declared.words.Command.TheVariants.{Place}
-use Rattle.command_words.specs.declared.words.WordsFault.{WordsFault}
+use Rattle.market.specs.Comparisons.{IsWorstStable}
 use Rattle.market.specs.Mechanism.{mechanism_placement}
-use Rattle.place_edges.specs.Shelf.{Files, file_limit}
+use Rattle.market.specs.Problems.{IsValid}
+use Rattle.place_edges.specs.Shelf.{file_limit}
+use Rattle.placement_file.specs.Rows.{placement_fault}
+use Rattle.placement_file.specs.Table.{placement_in}
 use Rattle.programme_table.specs.Rows.{programmes_fault}
 use Rattle.programme_table.specs.Table.{Programmes, codes_of, programmes_table}
 use Rattle.candidate_table.specs.Table.{Candidates, candidates_table, numbers_of}
@@ -21,15 +22,21 @@ use Rattle.run_frame.specs.Files.{Reads}
 use Rattle.run_frame.specs.Stops.{too_long}
 use Rattle.run_frame.specs.declared.stop.FileStop.{FileStop}
 use Rattle.run_frame.specs.declared.stop.FileStop.TheVariants as unread
-use Rattle.place_run.specs.Runs.{IsAnswering, IsReading}
-use Rattle.place_run.specs.Says.{Answer, and_then, answered, done, opened, tables_read, tables_said}
-use Rattle.place_run.specs.Tables.{HasNoFault, Tables, ThreeFiles, candidates_said, codes_in, fault_or, judged, numbers_in, problem_of, programmes_said, ranks_said, tables_in}
+use Rattle.reports.specs.FullEntries.{FullMeansFilled}
+use Rattle.stability_audit.specs.declared.verdict.Verdict.{Verdict}
+use Rattle.stability_audit.specs.declared.verdict.Verdict.TheVariants.{Stable, OverQuota, NotAcceptable, Blocking}
+use Rattle.place_run.specs.Answers.{Answer}
+use Rattle.place_run.specs.Audits.{IsAuditOf}
+use Rattle.place_run.specs.Says.{and_then, audited_said, behind_tables, opened, tables_said}
+use Rattle.place_run.specs.Tables.{HasNoFault, Tables, ThreeFiles, candidates_said, codes_in, fault_or, judged, numbers_in, placement_said, problem_of, programmes_said, ranks_said, tables_in}
 use Rattle.placement_file.specs.Texts.{placement_text}
-use Rattle.place_run.specs.commands.Place.{AreThree, IsPlaced, IsWorstStableText, placement_of}
+use Rattle.place_run.specs.commands.Audit.{Audited, IsAudit, verdict_ending}
+use Rattle.place_run.specs.commands.Base.{IsBaseText, base_text, bases_of}
+use Rattle.place_run.specs.commands.Place.{AreThree, IsOfWorstStable, IsWorstStableText, placement_of}
+use Rattle.place_run.specs.commands.Reasons.{IsReasonsText, reasons_of, reasons_text}
+use Rattle.place_run.specs.declared.status.Ending.TheVariants.{Done}
 use Rattle.place_run.specs.declared.status.Stop.{Stop}
-use Rattle.place_run.specs.declared.status.Stop.TheVariants.{File, Words}
 use Rattle.place_run.proofs.Judging.{judged-short, judged-long}
-use Rattle.place_run.proofs.Readings.{are-held, causes-ok, reads_of}
 
 -- a file that says its table is short and has no fault
 record SaysTable {T : Type 0} (fault : Option FileFault) (table said : T) (bytes : List ℕ) : Type 0
@@ -141,140 +148,151 @@ are-read reads tables e =
       tables_are = made ∙ same-tables _ _ _ _ _ _ one.same same same_ranks;
     }
 
--- the text of the tables of three files, by their codes and numbers
+-- what is printed of the tables of three files is printed of the files
 pub printed-in : (three : ThreeFiles) → placement_of (tables_in three)
     ≡ placement_text (codes_in three) (numbers_in three)
     (mechanism_placement (problem_of (tables_in three)))
 unfolding placement_of tables_in codes_in numbers_in
 printed-in three = refl
 
+bases-in : (three : ThreeFiles) → bases_of (tables_in three)
+    ≡ base_text (codes_in three) (problem_of (tables_in three))
+    (mechanism_placement (problem_of (tables_in three)))
+unfolding bases_of tables_in codes_in
+bases-in three = refl
+
+reasons-in : (three : ThreeFiles) → reasons_of (tables_in three)
+    ≡ reasons_text (codes_in three) (numbers_in three) (problem_of (tables_in three))
+    (mechanism_placement (problem_of (tables_in three)))
+unfolding reasons_of tables_in codes_in numbers_in
+reasons-in three = refl
+
+-- a text is made so of tables, in whose market the mechanism's placement is the worst of the stable
+-- ones
+pub record IsMade (make : Tables → List ℕ) (tables : Tables) (text : List ℕ) : Type 0 where
+  pub market : IsValid (problem_of tables)
+  pub worst : IsWorstStable (problem_of tables) (mechanism_placement (problem_of tables))
+  pub made : text ≡ make tables
+
 -- what is known of the tables of three files is known of their market
-worst-text : (reads : Reads) (tables : Tables) (text : List ℕ)
-    → tables_said reads ≡ Some (Ok tables) → IsPlaced tables text → IsWorstStableText reads text
-worst-text reads tables text said placed =
+made-of : (make : Tables → List ℕ) (print : ThreeFiles → List ℕ)
+    → ((three : ThreeFiles) → make (tables_in three) ≡ print three)
+    → (reads : Reads) (tables : Tables) (text : List ℕ) → IsMade make tables text
+    → (files : AreRead reads tables) → IsOfWorstStable print reads text
+made-of make print same reads tables text made files =
+    let of_files = subst (λ (v : Tables). IsMade make v text) files.tables_are made in
+    record {
+      three = files.three;
+      read = files.read;
+      no_fault = files.faultless;
+      market = of_files.market;
+      worst = of_files.worst;
+      printed = of_files.made ∙ same files.three;
+    }
+
+pub worst-text : (reads : Reads) (tables : Tables) (text : List ℕ)
+    → tables_said reads ≡ Some (Ok tables) → IsMade placement_of tables text
+    → IsWorstStableText reads text
+worst-text reads tables text said made =
+    made-of placement_of _ printed-in reads tables text made (are-read reads tables said)
+
+pub bases-text : (reads : Reads) (tables : Tables) (text : List ℕ)
+    → tables_said reads ≡ Some (Ok tables) → IsMade bases_of tables text → IsBaseText reads text
+bases-text reads tables text said made =
+    made-of bases_of _ bases-in reads tables text made (are-read reads tables said)
+
+pub reasons-text : (reads : Reads) (tables : Tables) (text : List ℕ)
+    → tables_said reads ≡ Some (Ok tables) → IsMade reasons_of tables text
+    → FullMeansFilled (problem_of tables) (mechanism_placement (problem_of tables))
+    → IsReasonsText reads text
+reasons-text reads tables text said made filled =
     let files = are-read reads tables said in
-    let same = subst (λ (v : Tables). IsPlaced v text) files.tables_are placed in
-    worst-of files.three files.read files.faultless same
-  where
-    worst-of : (three : ThreeFiles) → AreThree reads three → HasNoFault three
-        → IsPlaced (tables_in three) text → IsWorstStableText reads text
-    worst-of three read faultless same = record {
-      three = three;
-      read = read;
-      no_fault = faultless;
-      market = same.market;
-      worst = same.worst;
-      printed = same.printed ∙ printed-in three;
-    }
-
--- `place` answers with the text of the tables that were read
-pub place-answers : (told : Option Files) (words : List (List ℕ)) (tables : Tables) (text : List ℕ)
-    (workers before now tally_before tally_now : ℕ)
-    → IsReading told words (Some file.Programmes) tables_said tables_read (Ok tables) before now
-    tally_before tally_now
-    → IsPlaced tables text
-    → IsAnswering told words (Ok (Place workers)) (Ok (done text)) before now tally_before tally_now
-place-answers told words tables text workers before now tally_before tally_now reading placed =
+    let of_files = subst (λ (v : Tables). IsMade reasons_of v text) files.tables_are made in
     record {
-      reading = record {
-        reads = reading.reads;
-        held = reading.held;
-        meets = ap (λ v. answered (λ t. done (placement_of t)) v) reading.meets
-            ∙ ap (λ v. Some (Ok (done v))) (sym placed.printed);
-        taken = λ _. reading.taken tt;
-        begun = λ _. reading.begun (λ e. cc e);
-        causes = causes-ok _ before now tally_before tally_now reading.causes.faults
-            reading.causes.tally;
+      explained = record {
+        three = files.three;
+        read = files.read;
+        no_fault = files.faultless;
+        market = of_files.market;
+        worst = of_files.worst;
+        printed = of_files.made ∙ reasons-in files.three;
       };
-      promise = worst-text reading.reads tables text reading.meets placed;
+      filled = subst (λ (v : Tables). FullMeansFilled (problem_of v)
+          (mechanism_placement (problem_of v))) files.tables_are filled;
     }
 
--- the stop of the files is that of `place`
-pub place-stops : (told : Option Files) (words : List (List ℕ)) (stop : Stop)
-    (workers before now tally_before tally_now : ℕ)
-    → IsReading told words (Some file.Programmes) tables_said tables_read (Err stop) before now
-    tally_before tally_now
-    → IsAnswering told words (Ok (Place workers)) (Err stop) before now tally_before tally_now
-place-stops told words stop workers before now tally_before tally_now reading = record {
-  reading = record {
-    reads = reading.reads;
-    held = reading.held;
-    meets = ⊎_elim (λ free. inl free)
-        (λ said. inr (ap (λ v. answered (λ t. done (placement_of t)) v) said)) reading.meets;
-    taken = reading.taken;
-    begun = λ never. reading.begun (λ e. never (ap (λ v. Err v) (cc e)));
-    causes = record {
-      faults = reading.causes.faults;
-      tally = reading.causes.tally;
-      read = λ e. reading.causes.read (ap (λ v. Err v) (cc e));
-      long = λ kind e. reading.causes.long kind (ap (λ v. Err v) (cc e));
-    };
-  };
-  promise = tt;
-}
+-- a placement file that says its placement has no fault
+says-placement : (codes numbers bytes : List ℕ) (said : List (Option ℕ))
+    → placement_said codes numbers bytes ≡ Ok said
+    → SaysTable (placement_fault codes numbers bytes) (placement_in codes numbers bytes) said bytes
+unfolding placement_said
+says-placement codes numbers bytes said e = says-table file.Placement _ _ said bytes e
 
--- memory may be refused once the files are read
-pub place-refused : (told : Option Files) (words : List (List ℕ)) (tables : Tables)
-    (workers before now tally_before tally_now : ℕ)
-    → IsReading told words (Some file.Programmes) tables_said tables_read (Ok tables) before now
-    tally_before tally_now
-    → IsAnswering told words (Ok (Place workers)) (Err (File unread.Memory)) before now tally_before
-    tally_now
-place-refused told words tables workers before now tally_before tally_now reading = record {
-  reading = record {
-    reads = reading.reads;
-    held = reading.held;
-    meets = inl refl;
-    taken = λ decided. cc decided;
-    begun = λ _. reading.begun (λ e. cc e);
-    causes = record {
-      faults = reading.causes.faults;
-      tally = reading.causes.tally;
-      read = λ e. cc e;
-      long = λ kind e. cc e;
-    };
-  };
-  promise = tt;
-}
+abbrev audited_with : Tables → List (Option ℕ) → Audited
+audited_with tables held = record { tables = tables; held = held }
 
--- what `place` answers does not depend on the number of workers
-pub by-any-workers : (told : Option Files) (words : List (List ℕ)) (command : Command)
-    (workers : ℕ) (answer : Result Answer Stop) (before now tally_before tally_now : ℕ)
-    → IsAnswering told words (Ok (Place workers)) answer before now tally_before tally_now
-    → IsAnswering told words (Ok command) answer before now tally_before tally_now
-by-any-workers told words (Place others) workers answer before now tally_before tally_now answers =
+-- the audit of what a placement file holds beside tables
+record HasAudit (tables : Tables) (bytes : List ℕ) (answer : Answer) : Type 0 where
+  few : length bytes ≤ file_limit
+  none : placement_fault (codes_of tables.programmes.rows) (numbers_of tables.candidates.numbers)
+      bytes ≡ None
+  audit : IsAuditOf (audited_with tables (placement_in (codes_of tables.programmes.rows)
+      (numbers_of tables.candidates.numbers) bytes)) answer
+
+-- a run ends well with the verdict that the placement is stable alone
+stable-ends : (verdict : Verdict) → verdict_ending verdict ≡ Done → verdict ≡ Stable
+stable-ends Stable e = refl
+stable-ends (OverQuota p) e = cc e
+stable-ends (NotAcceptable i) e = cc e
+stable-ends (Blocking i p) e = cc e
+
+ends-well : (verdict : Verdict) (answer : Answer) → answer.ending ≡ verdict_ending verdict
+    → (P : Type 0) → (verdict ≡ Stable) ↔ P → (answer.ending ≡ Done) ↔ P
+ends-well verdict answer is P both = (
+  λ well. both.0 (stable-ends verdict (sym is ∙ well)),
+  λ p. is ∙ ap verdict_ending (both.1 p),
+)
+
+-- four files, one behind the others
+behind-said : {T : Type 0} (said : Option (Result Tables Stop))
+    (next : Tables → Option (Result T Stop)) (end : T)
+    → behind_tables said next ≡ Some (Ok end)
+    → (tables : Tables) × (said ≡ Some (Ok tables)) × (next tables ≡ Some (Ok end))
+behind-said None next end e = cc e
+behind-said (Some (Err stop)) next end e = cc e
+behind-said (Some (Ok tables)) next end e = (tables, refl, e)
+
+-- the audit of four files that were read
+pub audit-answer : (reads : Reads) (audited : Audited) (answer : Answer)
+    → audited_said reads ≡ Some (Ok audited) → IsAuditOf audited answer → IsAudit reads answer
+unfolding tables_in codes_in numbers_in
+audit-answer reads audited answer said is =
+    let behind = behind-said (tables_said reads) _ audited said in
+    let tables = behind.0 in
+    let files = are-read reads tables behind.1 in
+    let last = said-from (reads file.Placement) (placement_said (codes_of tables.programmes.rows)
+    (numbers_of tables.candidates.numbers)) _ audited behind.2 in
+    let one = says-placement (codes_of tables.programmes.rows)
+    (numbers_of tables.candidates.numbers) last.0 last.2 last.3 in
+    let made : audited ≡ audited_with tables last.2 = cc last.4 in
+    let mine = subst (λ (v : Audited). IsAuditOf v answer) made is in
+    let all = subst (λ (v : Tables). HasAudit v last.0 answer) files.tables_are (record {
+      few = one.few;
+      none = one.none;
+      audit = subst (λ (v : List (Option ℕ)). IsAuditOf (audited_with tables v) answer) one.same
+          mine;
+    }) in
     record {
-      reading = record {
-        reads = answers.reading.reads;
-        held = answers.reading.held;
-        meets = answers.reading.meets;
-        taken = answers.reading.taken;
-        begun = answers.reading.begun;
-        causes = answers.reading.causes;
-      };
-      promise = answers.promise;
+      three = files.three;
+      read = files.read;
+      no_fault = files.faultless;
+      bytes = last.0;
+      placement_read = last.1;
+      placement_few = all.few;
+      placement_no_fault = all.none;
+      verdict = all.audit.verdict;
+      first = all.audit.first;
+      stable = ends-well all.audit.verdict answer (ap (λ (v : Answer). v.ending) all.audit.printed)
+          _ all.audit.stable;
+      printed = ap (λ (v : Answer). v.text) all.audit.printed;
     }
-
--- words that are no command are answered with their refusal, before a file is read
-pub words-refused : (told : Option Files) (words : List (List ℕ))
-    (command : Result Command WordsFault) (refused : WordsFault) (before tally_before : ℕ)
-    → command ≡ Err refused
-    → IsAnswering told words command (Err (Words refused)) before before tally_before tally_before
-words-refused told words command refused before tally_before none =
-    subst (λ v. IsAnswering told words v (Err (Words refused)) before before tally_before
-    tally_before) (sym none) (record {
-      reading = record {
-        reads = reads_of told words None None None;
-        held = are-held told words None None None;
-        meets = inr refl;
-        taken = λ _. refl;
-        begun = λ _. tt;
-        causes = record {
-          faults = omega arith;
-          tally = omega arith;
-          read = λ e. cc e;
-          long = λ kind e. cc e;
-        };
-      };
-      promise = tt;
-    })

@@ -1,7 +1,24 @@
-pub mod Finishing
-pub mod Headline
+-- a file that was read whole, and what its table was read as
 pub mod Judging
-pub mod LineTexts
-pub mod Markets
-pub mod Readings
+-- no fault of a table is that its file is too long
 pub mod TableFaults
+-- files that are read and judged one after the other
+pub mod Readings
+-- a placement file behind three files
+pub mod FourFiles
+-- an answer that is made of what was read
+pub mod Answering
+-- what files say that were read
+pub mod Headline
+-- the market of three tables, and what is printed of it
+pub mod Markets
+-- what an audit says of a placement
+pub mod Verdicts
+-- texts that grow by a row
+pub mod RowTexts
+-- texts that are written in parts
+pub mod WrittenTexts
+-- what a run leaves of a sink
+pub mod Finishing
+-- the parts of a line
+pub mod LineTexts

@@ -21,7 +21,15 @@ use Rattle.rank_lists.specs.Table.{RankTable, ranks_table}
 use Rattle.rank_lists.specs.Table.{IsSound}
 use Rattle.place_run.specs.Tables.{Tables, problem_of, problem_with}
 use Rattle.placement_file.specs.Texts.{placement_text}
-use Rattle.place_run.specs.commands.Place.{IsPlaced, placement_of}
+use Rattle.reports.specs.FullEntries.{FullMeansFilled}
+use Rattle.place_run.specs.Placings.{IsNamed, IsNamedPlacement, IsPlacedOf}
+use Rattle.place_run.specs.Problems.{IsProblemOf}
+use Rattle.place_run.specs.commands.Base.{base_text, bases_of}
+use Rattle.place_run.specs.commands.Place.{placement_of}
+use Rattle.place_run.specs.commands.Reasons.{reasons_of, reasons_text}
+use Rattle.place_run.specs.declared.placing.Placed.{Placed}
+use Rattle.place_run.specs.declared.problem.Problem.{Problem as Named}
+use Rattle.place_run.proofs.Headline.{IsMade}
 
 -- a ranks file gives an order to each type
 pub types-in-ranks : (names : List (List ℕ)) (numbers bytes : List ℕ)
@@ -138,23 +146,91 @@ held-within m held valid placement i p holds =
     absurd (omega arith))
     (cases_lt i (length m.lists))
 
--- the text of the placement, with what the laws say of it
-pub placed-text : (tables : Tables) (m : Problem) (text : List ℕ) (held : List (Option ℕ))
-    (programmes : Programmes) (numbers : List (ℕ × ℕ))
-    → m ≡ problem_of tables → IsValid m → IsWorstStable m (mechanism_placement m)
-    → held ≡ mechanism_placement m → programmes ≡ tables.programmes
-    → numbers ≡ tables.candidates.numbers
-    → text ≡ placement_text (codes_of programmes.rows) (numbers_of numbers) held
-    → IsPlaced tables text
-unfolding placement_of
-placed-text tables m text held programmes numbers same valid worst places coded numbered written =
+-- the codes and numbers of a market of three tables are one for each programme and candidate
+pub is-named : (tables : Tables) (named : Named) → IsProblemOf tables named → IsNamed named
+is-named tables named is =
+    let lists : named.market.lists ≡ tables.candidates.lists =
+    ap (λ (v : Problem). v.lists) is.market
+    ∙ lists-of_market tables.programmes tables.candidates.lists tables.ranks in
     record {
-      market = subst IsValid same valid;
-      worst = subst (λ (v : Problem). IsWorstStable v (mechanism_placement v)) same worst;
-      printed = written
-          ∙ ap (λ (v : Programmes). placement_text (codes_of v.rows) (numbers_of numbers) held)
-          coded
-          ∙ ap (λ v. placement_text (codes_of tables.programmes.rows) (numbers_of v) held) numbered
-          ∙ ap (λ v. placement_text (codes_of tables.programmes.rows)
-          (numbers_of tables.candidates.numbers) v) (places ∙ ap mechanism_placement same);
+      programmes = ap (λ (v : Programmes). length (codes_of v.rows)) is.programmes
+          ∙ sym (programmes-of_market tables.programmes tables.candidates.lists tables.ranks)
+          ∙ ap (λ (v : Problem). length v.programmes) (sym is.market);
+      candidates = length-map named.numbers (λ line. line.0) ∙ ap length is.numbers
+          ∙ sym is.paired ∙ ap length (sym lists);
     }
+
+-- so are those of the mechanism's placement
+pub named-placement : (tables : Tables) (placed : Placed) → IsPlacedOf tables placed
+    → IsNamedPlacement placed.problem placed.placement
+named-placement tables placed is = record {
+  valid = is.problem.valid;
+  named = is-named tables placed.problem is.problem;
+  candidates = is.worst.stable.placement.candidates;
+  programmes = held-within placed.problem.market placed.placement is.problem.valid
+      is.worst.stable.placement;
+}
+
+-- what is printed of the mechanism's placement, by its names and its market, is made of the tables
+pub made : (print : List ℕ → List ℕ → Problem → List (Option ℕ) → List ℕ)
+    (make : Tables → List ℕ) (tables : Tables) (placed : Placed) (text : List ℕ)
+    → IsPlacedOf tables placed
+    → make tables ≡ print (codes_of tables.programmes.rows) (numbers_of tables.candidates.numbers)
+    (problem_of tables) (mechanism_placement (problem_of tables))
+    → text ≡ print (codes_of placed.problem.programmes.rows) (numbers_of placed.problem.numbers)
+    placed.problem.market placed.placement
+    → IsMade make tables text
+made print make tables placed text is same printed =
+    let m = placed.problem.market in
+    let rows = placed.problem.programmes in
+    let numbers = placed.problem.numbers in
+    let worst = subst (IsWorstStable m) is.placement is.worst in
+    record {
+      market = subst IsValid is.problem.market is.problem.valid;
+      worst = subst (λ (v : Problem). IsWorstStable v (mechanism_placement v)) is.problem.market
+          worst;
+      made = printed
+          ∙ ap (λ v. print (codes_of rows.rows) (numbers_of numbers) m v) is.placement
+          ∙ ap (λ (v : Problem). print (codes_of rows.rows) (numbers_of numbers) v
+          (mechanism_placement v)) is.problem.market
+          ∙ ap (λ (v : Programmes). print (codes_of v.rows) (numbers_of numbers) (problem_of tables)
+          (mechanism_placement (problem_of tables))) is.problem.programmes
+          ∙ ap (λ v. print (codes_of tables.programmes.rows) (numbers_of v) (problem_of tables)
+          (mechanism_placement (problem_of tables))) is.problem.numbers
+          ∙ sym same;
+    }
+
+-- the three texts
+pub placement-made : (tables : Tables) (placed : Placed) (text : List ℕ) → IsPlacedOf tables placed
+    → text ≡ placement_text (codes_of placed.problem.programmes.rows)
+    (numbers_of placed.problem.numbers) placed.placement
+    → IsMade placement_of tables text
+unfolding placement_of
+placement-made tables placed text is printed =
+    made (λ programmes numbers m held. placement_text programmes numbers held) placement_of tables
+    placed text is refl printed
+
+pub bases-made : (tables : Tables) (placed : Placed) (text : List ℕ) → IsPlacedOf tables placed
+    → text ≡ base_text (codes_of placed.problem.programmes.rows) placed.problem.market
+    placed.placement
+    → IsMade bases_of tables text
+unfolding bases_of
+bases-made tables placed text is printed =
+    made (λ programmes numbers m held. base_text programmes m held) bases_of tables placed text is
+    refl printed
+
+pub reasons-made : (tables : Tables) (placed : Placed) (text : List ℕ) → IsPlacedOf tables placed
+    → text ≡ reasons_text (codes_of placed.problem.programmes.rows)
+    (numbers_of placed.problem.numbers) placed.problem.market placed.placement
+    → IsMade reasons_of tables text
+unfolding reasons_of
+reasons-made tables placed text is printed =
+    made reasons_text reasons_of tables placed text is refl printed
+
+-- what holds of the mechanism's placement holds of that of the tables
+pub filled-in : (tables : Tables) (placed : Placed) → IsPlacedOf tables placed
+    → FullMeansFilled placed.problem.market placed.placement
+    → FullMeansFilled (problem_of tables) (mechanism_placement (problem_of tables))
+filled-in tables placed is filled =
+    subst (λ (v : Problem). FullMeansFilled v (mechanism_placement v)) is.problem.market
+    (subst (FullMeansFilled placed.problem.market) is.placement filled)

@@ -27,14 +27,14 @@ said-ok judge None table e = cc e
 said-ok judge (Some bytes) table e = (bytes, refl, cc e)
 
 -- a file that says its table leads on
-opened-ok : {T U : Type 0} (judge : List ℕ → Result T FileStop)
+pub opened-ok : {T U : Type 0} (judge : List ℕ → Result T FileStop)
     (next : T → Option (Result U Stop)) (given held : Option (List ℕ)) (table : T) → given ≡ held
     → Meets is_free (option_map judge held) (Ok table) → opened given judge next ≡ next table
 opened-ok judge next given held table same meets =
     let said = said-ok judge held table meets in rw same (rw said.1 (rw said.2 refl))
 
 -- a file that has a stop ends it there
-opened-stop : {T U : Type 0} (judge : List ℕ → Result T FileStop)
+pub opened-stop : {T U : Type 0} (judge : List ℕ → Result T FileStop)
     (next : T → Option (Result U Stop)) (given held : Option (List ℕ)) (stop : FileStop)
     → given ≡ held → Meets is_free (option_map judge held) (Err stop)
     → Meets stops.is_free (opened given judge next) (Err (File stop))
@@ -44,7 +44,7 @@ opened-stop judge next given (Some bytes) stop same (inr e) =
     let says : judge bytes ≡ Err stop = cc e in inr (rw same (rw says refl))
 
 -- the files behind one that says its table are taken after it
-taken-ok : {T : Type 0} (judge : List ℕ → Result T FileStop) (next : T → List (List ℕ))
+pub taken-ok : {T : Type 0} (judge : List ℕ → Result T FileStop) (next : T → List (List ℕ))
     (given held : Option (List ℕ)) (table : T) (before between now : ℕ) → given ≡ held
     → Meets is_free (option_map judge held) (Ok table)
     → ((bytes : List ℕ) → held ≡ Some bytes → Unit {0} → IsTaken bytes before between)
@@ -54,7 +54,7 @@ taken-ok judge next given held table before between now same meets taken rest =
     rw same (rw said.1 (rw said.2 (between, taken said.0 said.1 tt, rest)))
 
 -- no file is taken behind one that has a stop
-taken-stop : {T : Type 0} (judge : List ℕ → Result T FileStop) (next : T → List (List ℕ))
+pub taken-stop : {T : Type 0} (judge : List ℕ → Result T FileStop) (next : T → List (List ℕ))
     (given held : Option (List ℕ)) (stop : FileStop) (before now : ℕ) → given ≡ held
     → Meets is_free (option_map judge held) (Err stop)
     → ((bytes : List ℕ) → held ≡ Some bytes → IsFalse (is_free stop) → IsTaken bytes before now)
@@ -72,7 +72,7 @@ more-later first before now later more =
     ⊎_elim (λ many. inl (omega (arith, later, many))) (λ last. inr last) more
 
 -- the causes of a file's stop, counted from before the files before it
-causes-behind : {T U : Type 0} (stop : FileStop) (first before now tally_first tally_before
+pub causes-behind : {T U : Type 0} (stop : FileStop) (first before now tally_first tally_before
     tally_now : ℕ)
     → first ≤ before → tally_first ≤ tally_before
     → HasCauses {T = T} (λ v. v) (Err stop) before now tally_before tally_now
@@ -97,7 +97,7 @@ pub causes-ok : {T : Type 0} (table : T) (before now tally_before tally_now : �
 causes-ok table before now tally_before tally_now later tally =
     record { faults = later; tally = tally; read = λ e. cc e; long = λ kind e. cc e }
 
-begun-later : (bytes : Option (List ℕ)) (before between now : ℕ) → between ≤ now
+pub begun-later : (bytes : Option (List ℕ)) (before between now : ℕ) → between ≤ now
     → HasBegun bytes before between → HasBegun bytes before now
 begun-later bytes before between now later begun =
     ⊎_elim (λ none. inl none) (λ rose. inr (omega (arith, later, rose))) begun

@@ -2,7 +2,7 @@
 -- part of what may be
 -- wrong with a row has a kind of its own, and the first of several faults is one of them.
 use Rattle.std.proofs.Common.{◌≡◌, ℕ, zero, suc, List, [], ◌∷◌, Bool, true, false, Option, Some, None, Result, Ok, Err}
-use Rattle.std.specs.Prelude.{nat_lt, nat_le, nat_eq, length, take, slice_get, slice_index, find, position, is_none, option_map, option_and_then, ◌&&◌, ◌==◌}
+use Rattle.std.specs.Prelude.{bytes_eq, codes, nat_lt, nat_le, nat_eq, length, take, slice_get, slice_index, find, position, is_none, option_map, option_and_then, ◌&&◌, ◌==◌}
 use Rattle.std.specs.List.{list_any}
 use Rattle.std.proofs.lemmas.Bool.{cond_both}
 use Rattle.place_base.specs.TypeName.{is_type_name}
@@ -20,6 +20,7 @@ use Rattle.record_files.specs.declared.form.Header.{Header}
 use Rattle.programme_table.specs.Rows as programmes
 use Rattle.candidate_table.specs.Rows as candidates
 use Rattle.rank_lists.specs.Rows as ranks
+use Rattle.placement_file.specs.Rows as placements
 
 -- a fault that may be there is of another kind
 abbrev pub IsOther : Option FileFault → Type 0
@@ -174,3 +175,34 @@ other-ranks bytes = other-file ranks.ranks_rules bytes (record {
   meaning = λ earlier row.
       other-first _ _ (other-found _ _ 2 (find _ earlier)) (other-found _ _ 3 (find _ earlier));
 })
+
+other-code : (field : List ℕ) → IsOtherReading (placements.code_read field)
+other-code field =
+    cond_both (bytes_eq field (codes "-")) (Ok None)
+    (placements.some_code (number_of field 1 LARGEST_CODE)) IsOtherReading (λ _. tt)
+    (λ _. other-some (number_of field 1 LARGEST_CODE) (other-number field 1 LARGEST_CODE))
+  where
+    other-some : (read : Result ℕ FaultKind) → IsOtherReading read
+        → IsOtherReading (placements.some_code read)
+    other-some (Ok code) p = tt
+    other-some (Err kind) p = p
+
+other-unknown : (programmes : List ℕ) (line : ℕ) (code : Option ℕ)
+    → IsOther (placements.unknown_fault programmes line code)
+other-unknown programmes line None = tt
+other-unknown programmes line (Some code) =
+    other-if (is_none (position (nat_eq code) programmes))
+    (fault_at file.Placement line 2 UnknownProgramme) (λ e. cc e)
+
+pub other-placement : (programmes candidates bytes : List ℕ)
+    → IsOther (placements.placement_fault programmes candidates bytes)
+other-placement programmes candidates bytes =
+    other-file (placements.placement_rules programmes candidates) bytes (record {
+      reading = λ version row.
+          other-first _ _ (other-reading _ _ 1 _ (other-number (field_at row 0) 1 LARGEST_NUMBER))
+          (other-reading _ _ 2 _ (other-code (field_at row 1)));
+      meaning = λ earlier row.
+          other-first _ _ (other-if _ _ (λ e. cc e))
+          (other-first _ _ (other-found _ _ 1 (find _ earlier))
+          (other-unknown programmes row.0 (placements.code_in row)));
+    })

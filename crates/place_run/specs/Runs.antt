@@ -3,7 +3,7 @@ use Rattle.std.specs.Prelude.{◌≡◌, ◌≤◌, ◌<◌, ◌⊎◌, ℕ, ◌
 use Rattle.place_base.specs.declared.fault.FileKind.{FileKind}
 use Rattle.command_words.specs.Words.{command_of}
 use Rattle.command_words.specs.declared.words.Command.{Command}
-use Rattle.command_words.specs.declared.words.Command.TheVariants.{Place}
+use Rattle.command_words.specs.declared.words.Command.TheVariants.{Place, Base, Reasons, Audit}
 use Rattle.command_words.specs.declared.words.WordsFault.{WordsFault}
 use Rattle.market.specs.Mechanism.{mechanism_placement}
 use Rattle.place_edges.specs.Causes.{Rose}
@@ -13,12 +13,17 @@ use Rattle.run_frame.specs.Files.{AreHeld, AreTaken, HasBegun, HasCauses, Reads}
 use Rattle.run_frame.specs.Meetings.{IsDecided, Meets}
 use Rattle.run_frame.specs.Stops.{too_long}
 use Rattle.run_frame.specs.declared.stop.FileStop.TheVariants as file
-use Rattle.place_run.specs.Says.{KeepsPromise, Answer, files_read, first_file, named, says}
+use Rattle.place_run.specs.Answers.{Answer}
+use Rattle.place_run.specs.Says.{KeepsPromise, files_read, first_file, named, says}
 use Rattle.place_run.specs.Statuses.{ended, status_of}
 use Rattle.place_run.specs.Stops.{is_free}
 use Rattle.place_run.specs.Tables.{HasNoFault, ThreeFiles, codes_in, numbers_in, problem_of, tables_in}
 use Rattle.placement_file.specs.Texts.{placement_text}
+use Rattle.place_run.specs.commands.Audit.{IsAudit}
+use Rattle.place_run.specs.commands.Base.{IsBaseText}
 use Rattle.place_run.specs.commands.Place.{AreThree, IsWorstStableText}
+use Rattle.place_run.specs.commands.Reasons.{IsReasonsText}
+use Rattle.place_run.specs.declared.status.Ending.{Ending}
 use Rattle.place_run.specs.declared.status.Status.{Status}
 use Rattle.place_run.specs.declared.status.Status.TheVariants as ends
 use Rattle.place_run.specs.declared.status.Stop.{Stop}
@@ -65,7 +70,7 @@ pub record IsAnswering (told : Option Files) (words : List (List ℕ))
     (before now tally_before tally_now : ℕ) : Type 0 where
   pub reading : IsReading told words (first_file command) (says command) (files_read command)
       answer before now tally_before tally_now
-  pub promise : IfOk answer (λ ready. KeepsPromise command reading.reads ready.text)
+  pub promise : IfOk answer (KeepsPromise command reading.reads)
 
 -- the words were refused
 abbrev pub IsWordsStop : {T : Type 0} → Result T Stop → Type 0
@@ -86,6 +91,39 @@ PrintsWorstStable told words status old new =
     (workers : ℕ) → command_of words ≡ Ok (Place workers) → status ≡ ends.Done
     → (reads : Reads) × AreHeld told (named words) reads
     × (text : List ℕ) × IsWorstStableText reads text × Appended old new text
+
+-- where the words are `base` and the run is done, the base ranks of that placement were appended
+abbrev pub PrintsBases : Option Files → List (List ℕ) → Status → Option (List ℕ)
+    → Option (List ℕ) → Type 0
+PrintsBases told words status old new =
+    (workers : ℕ) → command_of words ≡ Ok (Base workers) → status ≡ ends.Done
+    → (reads : Reads) × AreHeld told (named words) reads
+    × (text : List ℕ) × IsBaseText reads text × Appended old new text
+
+-- where the words are `reasons` and the run is done, the reasons in that placement were appended
+abbrev pub PrintsReasons : Option Files → List (List ℕ) → Status → Option (List ℕ)
+    → Option (List ℕ) → Type 0
+PrintsReasons told words status old new =
+    (workers : ℕ) → command_of words ≡ Ok (Reasons workers) → status ≡ ends.Done
+    → (reads : Reads) × AreHeld told (named words) reads
+    × (text : List ℕ) × IsReasonsText reads text × Appended old new text
+
+-- both, and nothing else was appended
+pub record PrintsReports (told : Option Files) (words : List (List ℕ)) (status : Status)
+    (old new : Option (List ℕ)) : Type 0 where
+  pub bases : PrintsBases told words status old new
+  pub reasons : PrintsReasons told words status old new
+
+-- where the words are `audit` and the run ends with the verdict, this is that of the audit, and
+-- nothing else was appended
+abbrev pub PrintsVerdict : Option Files → List (List ℕ) → Status → Option (List ℕ)
+    → Option (List ℕ) → Type 0
+PrintsVerdict told words status old new =
+    (workers : ℕ) → command_of words ≡ Ok (Audit workers)
+    → (ending : Ending) → status ≡ ended ending
+    → (reads : Reads) × AreHeld told (named words) reads
+    × (answer : Answer) × (answer.ending ≡ ending) × IsAudit reads answer
+    × Appended old new answer.text
 
 -- the status where this is said
 abbrev pub status_said : Result Answer Stop → Status
@@ -137,6 +175,10 @@ StaysInFront old new = (bytes : List ℕ) × Appended old new bytes
 abbrev pub Untouched : {A : Type 0} → Status → A → A → Type 0
 Untouched status old new = (stop : Stop) → status ≡ status_of stop → new ≡ old
 
+-- a run that ends with its text has no line
+abbrev pub HasNoLine : Status → Type 0
+HasNoLine status = (status ≡ ends.Done) ⊎ (status ≡ ends.AuditNo)
+
 -- the words were refused
 abbrev pub IsWordsRefusal : Status → Type 0
 IsWordsRefusal status = (refused : WordsFault) × (status ≡ ends.Words refused)
@@ -147,7 +189,7 @@ pub record WordsCause (command : Result Command WordsFault) (status : Status) : 
   pub always : (refused : WordsFault) → command ≡ Err refused → status ≡ ends.Words refused
 
 -- Each refusal has its cause: words by the grammar, a read fault and a write fault by the counts, a
--- file that is too long by the tally.
+-- file that is too long by the tally. Only an audit says that a placement is not stable.
 pub record HasCause (command : Result Command WordsFault) (status : Status)
     (before now tally_before tally_now out_before out_now : ℕ) : Type 0 where
   pub words : WordsCause command status
@@ -155,6 +197,7 @@ pub record HasCause (command : Result Command WordsFault) (status : Status)
   pub long : (kind : FileKind) → status ≡ ends.FileFault (too_long kind)
       → GaveMore tally_before tally_now file_limit
   pub write : status ≡ ends.WriteFault → Rose out_before out_now
+  pub unstable : status ≡ ends.AuditNo → (workers : ℕ) × (command ≡ Ok (Audit workers))
 
 -- What was written before stays in front, and after a refusal the sink is as it was. No count
 -- falls.

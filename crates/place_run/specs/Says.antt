@@ -1,28 +1,25 @@
 -- What the words come to, and which files are read for it.
-use Rattle.std.specs.Prelude.{◌≡◌, ℕ, List, [], ◌∷◌, Bool, IsTrue, slice_index_or, Option, Some, None, Result, Ok, Err, ⊤}
+use Rattle.std.specs.Prelude.{◌≡◌, ℕ, List, [], ◌∷◌, ◌++◌, Bool, IsTrue, slice_index_or, Option, Some, None, Result, Ok, Err, ⊤}
 use Rattle.place_base.specs.declared.fault.FileKind.{FileKind}
 use Rattle.place_base.specs.declared.fault.FileKind.TheVariants.{Programmes, Candidates, Ranks, Placement, Registrations}
 use Rattle.command_words.specs.declared.words.Command.{Command}
-use Rattle.command_words.specs.declared.words.Command.TheVariants.{Place}
+use Rattle.command_words.specs.declared.words.Command.TheVariants.{Place, Base, Reasons, Audit}
 use Rattle.command_words.specs.declared.words.WordsFault.{WordsFault}
 use Rattle.place_edges.specs.Shelf.{Files}
 use Rattle.programme_table.specs.Table.{codes_of}
 use Rattle.programme_table.specs.Table as programme
 use Rattle.candidate_table.specs.Table.{numbers_of}
 use Rattle.candidate_table.specs.Table as candidate
-use Rattle.run_frame.specs.Files.{IsHeld, Reads}
+use Rattle.run_frame.specs.Files.{AreHeld, IsHeld, Reads}
 use Rattle.run_frame.specs.declared.stop.FileStop.{FileStop}
-use Rattle.place_run.specs.Tables.{Tables, candidates_said, programmes_said, ranks_said}
+use Rattle.place_run.specs.Answers.{Answer, done}
+use Rattle.place_run.specs.Tables.{Tables, candidates_said, placement_said, programmes_said, ranks_said}
+use Rattle.place_run.specs.commands.Audit.{Audited, IsAudit, audit_of}
+use Rattle.place_run.specs.commands.Base.{IsBaseText, bases_of}
 use Rattle.place_run.specs.commands.Place.{IsWorstStableText, placement_of}
-use Rattle.place_run.specs.declared.status.Ending.{Ending}
-use Rattle.place_run.specs.declared.status.Ending.TheVariants.{Done}
+use Rattle.place_run.specs.commands.Reasons.{IsReasonsText, reasons_of}
 use Rattle.place_run.specs.declared.status.Stop.{Stop}
 use Rattle.place_run.specs.declared.status.Stop.TheVariants.{Words, File}
-
--- what a command has ready before its first byte is written
-pub record Answer : Type 0 where
-  pub ending : Ending
-  pub text : List ℕ
 
 -- the word at an index, from 0
 abbrev pub word_at : List (List ℕ) → ℕ → List ℕ
@@ -75,6 +72,33 @@ tables_read reads =
     read_from (reads Ranks) (ranks_said programmes.names (numbers_of candidates.numbers)) (λ ranks.
     [])))
 
+-- go on with what three files say
+abbrev pub behind_tables : {T : Type 0} → Option (Result Tables Stop)
+    → (Tables → Option (Result T Stop)) → Option (Result T Stop)
+behind_tables None next = None
+behind_tables (Some (Err stop)) next = Some (Err stop)
+behind_tables (Some (Ok tables)) next = next tables
+
+-- what a placement file says behind three files
+abbrev pub audited_said : Reads → Option (Result Audited Stop)
+audited_said reads =
+    behind_tables (tables_said reads) (λ tables.
+    opened (reads Placement) (placement_said (codes_of tables.programmes.rows)
+    (numbers_of tables.candidates.numbers)) (λ held.
+    Some (Ok (record { tables = tables; held = held }))))
+
+-- the placement file is read where the three files say their tables
+abbrev pub placement_read : Option (Result Tables Stop) → Option (List ℕ) → List (List ℕ)
+placement_read None bytes = []
+placement_read (Some (Err stop)) bytes = []
+placement_read (Some (Ok tables)) bytes =
+    read_from bytes (placement_said (codes_of tables.programmes.rows)
+    (numbers_of tables.candidates.numbers)) (λ held. [])
+
+-- the files that are read for it: the three, then the placement file
+abbrev pub audited_read : Reads → List (List ℕ)
+audited_read reads = tables_read reads ++ placement_read (tables_said reads) (reads Placement)
+
 -- an answer that is made of what was read
 abbrev pub answered : {T : Type 0} → (T → Answer) → Option (Result T Stop)
     → Option (Result Answer Stop)
@@ -82,31 +106,41 @@ answered make None = None
 answered make (Some (Err stop)) = Some (Err stop)
 answered make (Some (Ok said)) = Some (Ok (make said))
 
--- a text that ends a run well
-abbrev pub done : List ℕ → Answer
-done text = record { ending = Done; text = text }
-
 -- what the words come to over the bytes of the files, none where a file is missed before anything
 -- is refused
 abbrev pub says : Result Command WordsFault → Reads → Option (Result Answer Stop)
 says (Err refused) reads = Some (Err (Words refused))
-says (Ok (Place workers)) reads = answered (λ tables. done (placement_of tables)) (tables_said
-    reads)
+says (Ok (Place workers)) reads =
+    answered (λ tables. done (placement_of tables)) (tables_said reads)
+says (Ok (Base workers)) reads =
+    answered (λ tables. done (bases_of tables)) (tables_said reads)
+says (Ok (Reasons workers)) reads =
+    answered (λ tables. done (reasons_of tables)) (tables_said reads)
+says (Ok (Audit workers)) reads = answered audit_of (audited_said reads)
 
 -- the files that are read for it
 abbrev pub files_read : Result Command WordsFault → Reads → List (List ℕ)
 files_read (Err refused) reads = []
 files_read (Ok (Place workers)) reads = tables_read reads
+files_read (Ok (Base workers)) reads = tables_read reads
+files_read (Ok (Reasons workers)) reads = tables_read reads
+files_read (Ok (Audit workers)) reads = audited_read reads
 
 -- the kind of the file that is opened first
 abbrev pub first_file : Result Command WordsFault → Option FileKind
 first_file (Err refused) = None
 first_file (Ok (Place workers)) = Some Programmes
+first_file (Ok (Base workers)) = Some Programmes
+first_file (Ok (Reasons workers)) = Some Programmes
+first_file (Ok (Audit workers)) = Some Programmes
 
--- what each command promises of its text, in the subject's own words
-abbrev pub KeepsPromise : Result Command WordsFault → Reads → List ℕ → Type 0
-KeepsPromise (Err refused) reads text = ⊤
-KeepsPromise (Ok (Place workers)) reads text = IsWorstStableText reads text
+-- what each command promises of its answer, in the subject's own words
+abbrev pub KeepsPromise : Result Command WordsFault → Reads → Answer → Type 0
+KeepsPromise (Err refused) reads answer = ⊤
+KeepsPromise (Ok (Place workers)) reads answer = IsWorstStableText reads answer.text
+KeepsPromise (Ok (Base workers)) reads answer = IsBaseText reads answer.text
+KeepsPromise (Ok (Reasons workers)) reads answer = IsReasonsText reads answer.text
+KeepsPromise (Ok (Audit workers)) reads answer = IsAudit reads answer
 
 -- The name of each of the three files is granted where the files before it may have no fault. Where
 -- the shelf tells no bytes these are all three names.
@@ -122,8 +156,18 @@ pub record MayOpenTables (told : Option Files) (grants : List ℕ → Bool) (wor
       → candidates_said (codes_of programmes.rows) c ≡ Ok candidates
       → IsTrue (grants (named words Ranks))
 
+-- The name of the placement file is granted too, where the three files before it may have no fault.
+pub record MayOpenAudit (told : Option Files) (grants : List ℕ → Bool) (words : List (List ℕ))
+    : Type 0 where
+  pub tables : MayOpenTables told grants words
+  pub placement : (reads : Reads) (said : Tables) → AreHeld told (named words) reads
+      → tables_said reads ≡ Some (Ok said) → IsTrue (grants (named words Placement))
+
 -- the names that a command reaches are granted
 abbrev pub MayOpen : Option Files → (List ℕ → Bool) → Result Command WordsFault → List (List ℕ)
     → Type 0
 MayOpen told grants (Err refused) words = ⊤
 MayOpen told grants (Ok (Place workers)) words = MayOpenTables told grants words
+MayOpen told grants (Ok (Base workers)) words = MayOpenTables told grants words
+MayOpen told grants (Ok (Reasons workers)) words = MayOpenTables told grants words
+MayOpen told grants (Ok (Audit workers)) words = MayOpenAudit told grants words

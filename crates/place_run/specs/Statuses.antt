@@ -7,7 +7,7 @@ use Rattle.run_frame.specs.declared.stop.FileStop.TheVariants as file
 use Rattle.place_run.specs.declared.status.Ending.{Ending}
 use Rattle.place_run.specs.declared.status.Ending.TheVariants as ending
 use Rattle.place_run.specs.declared.status.Status.{Status}
-use Rattle.place_run.specs.declared.status.Status.TheVariants.{Done, Words, FileFault, ReadFault, WriteFault, Memory}
+use Rattle.place_run.specs.declared.status.Status.TheVariants.{Done, Words, FileFault, ReadFault, WriteFault, Memory, AuditNo}
 use Rattle.place_run.specs.declared.status.Stop.{Stop}
 use Rattle.place_run.specs.declared.status.Stop.TheVariants as stop
 
@@ -19,10 +19,12 @@ code_of (FileFault _) = 3
 code_of ReadFault = 4
 code_of WriteFault = 5
 code_of Memory = 6
+code_of AuditNo = 7
 
 -- the status of an answer whose text was written whole
 abbrev pub ended : Ending → Status
 ended ending.Done = Done
+ended ending.AuditNo = AuditNo
 
 -- the status where there is no answer
 abbrev pub status_of : Stop → Status
@@ -58,3 +60,4 @@ status_line (FileFault found) = fault_line found
 status_line ReadFault = codes "read fault\n"
 status_line WriteFault = codes "write fault\n"
 status_line Memory = codes "want of memory\n"
+status_line AuditNo = []

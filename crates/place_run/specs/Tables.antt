@@ -1,10 +1,12 @@
--- The three tables of a market, and what each file says.
+-- The three tables of a market, and what each file says, a placement file beside them too.
 use Rattle.std.specs.Prelude.{◌≡◌, ℕ, ◌≤◌, List, All, map, nat_lt, length, if◌then◌else◌, Option, Some, None, Result, Ok, Err}
 use Rattle.place_base.specs.declared.fault.FileFault.{FileFault}
 use Rattle.place_base.specs.declared.fault.FileKind.{FileKind}
 use Rattle.place_base.specs.declared.fault.FileKind.TheVariants as file
 use Rattle.market.specs.Problems.{Problem, problem}
 use Rattle.place_edges.specs.Shelf.{file_limit}
+use Rattle.placement_file.specs.Rows.{placement_fault}
+use Rattle.placement_file.specs.Table.{placement_in}
 use Rattle.programme_table.specs.Rows.{programmes_fault}
 use Rattle.programme_table.specs.Table.{Programmes, codes_of, prog_of, programmes_table}
 use Rattle.candidate_table.specs.Rows.{candidates_fault}
@@ -61,6 +63,12 @@ candidates_said codes bytes =
 unfoldable pub ranks_said : List (List ℕ) → List ℕ → List ℕ → Result RankTable FileStop
 ranks_said names numbers bytes =
     judged file.Ranks (ranks_fault bytes) (ranks_table names numbers bytes) bytes
+
+-- what a placement file says beside the programmes' codes and the candidates' numbers
+unfoldable pub placement_said : List ℕ → List ℕ → List ℕ → Result (List (Option ℕ)) FileStop
+placement_said codes numbers bytes =
+    judged file.Placement (placement_fault codes numbers bytes) (placement_in codes numbers bytes)
+    bytes
 
 -- the bytes of three files
 pub record ThreeFiles : Type 0 where

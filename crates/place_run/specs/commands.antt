@@ -1,3 +1,9 @@
--- The text of each command, and what is promised of it.
+-- The answer of each command, and what is promised of it.
 -- the placement of three files
 pub mod Place
+-- the base ranks of the same placement
+pub mod Base
+-- the reason of each list entry in the same placement
+pub mod Reasons
+-- the audit of a placement file beside three files
+pub mod Audit

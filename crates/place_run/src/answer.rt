@@ -1,8 +1,9 @@
 // What a command has ready before its first byte is written.
 ghost use Rattle.std.specs.Prelude.{◌≡◌};
 ghost use Rattle.place_edges.specs.Sink.{IsWritten};
-ghost use Rattle.place_run.specs.Says.{done};
+ghost use Rattle.place_run.specs.Answers.{done};
 
+use crate::reason_rows::ReasonRows;
 use crate::status::Ending;
 use place_edges::{Failed, Sink, write_whole};
 use std::marker::Model;
@@ -19,10 +20,12 @@ pub(crate) struct Answer {
 enum Text {
     // One that stands in memory whole.
     Whole(Vec<u8>),
+    // One that is made a candidate at a time while it is written.
+    Reasons(ReasonRows),
 }
 
 impl Model for Answer {
-    ghost use Rattle.place_run.specs.Says.{Answer};
+    ghost use Rattle.place_run.specs.Answers.{Answer};
     ghost use Rattle.place_run.specs.Texts.{bytes_of};
 
     ghost Value = { Answer };
@@ -41,6 +44,26 @@ impl Answer {
         }
     }
 
+    // The answer of a command that is done, with these reasons.
+    pub(crate) fn reasons(rows: ReasonRows) -> Answer
+        ensures { result ≡ done rows }
+    {
+        Answer {
+            ending: Ending::Done,
+            text: Text::Reasons(rows),
+        }
+    }
+
+    // The answer of an audit that ends so, with this text.
+    pub(crate) fn audited(ending: Ending, text: Vec<u8>) -> Answer
+        ensures { result ≡ record { ending = ending; text = text.items } }
+    {
+        Answer {
+            ending,
+            text: Text::Whole(text),
+        }
+    }
+
     // How the run ends where the text is written whole.
     pub(crate) fn ending(&self) -> Ending
         ensures { result ≡ self.now.ending }
@@ -55,6 +78,7 @@ impl Answer {
     {
         match &self.text {
             Text::Whole(bytes) => write_whole(out, bytes),
+            Text::Reasons(rows) => rows.write(out),
         }
     }
 }

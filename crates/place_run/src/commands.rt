@@ -6,10 +6,19 @@ ghost use Rattle.place_run.specs.Runs.{IsAnswering, IsWordsStop};
 ghost use Rattle.place_run.specs.Says.{MayOpen};
 ghost use Rattle.place_run.specs.declared.status.Stop.TheVariants.{Words};
 
+// The audit of a placement file beside three files.
+mod audit;
+// The base ranks of the placement of three files.
+mod base;
 // The placement of three files.
 mod place;
+// The reasons in the placement of three files.
+mod reasons;
 
+use self::audit::audit;
+use self::base::base;
 use self::place::place;
+use self::reasons::reasons;
 use crate::answer::Answer;
 use crate::status::Stop;
 use command_words::{Command, read_words};
@@ -39,6 +48,9 @@ pub(crate) fn answer_words<R: Threads + Sync, H: Shelf, G: Gate>(
 {
     match read_words(words) {
         Ok(Command::Place(workers)) => place(rt, alloc, words, shelf, workers, gate),
+        Ok(Command::Base(workers)) => base(rt, alloc, words, shelf, workers, gate),
+        Ok(Command::Reasons(workers)) => reasons(rt, alloc, words, shelf, workers, gate),
+        Ok(Command::Audit(workers)) => audit(rt, alloc, words, shelf, workers),
         Err(refused) => Err(Stop::Words(refused)),
     }
 }

@@ -1,20 +1,28 @@
-// The three tables of a market, read from their files.
-ghost use Rattle.std.specs.Prelude.{◌≡◌, ◌≤◌, ◌<◌, All, IfOk, IsTrue, Option, Some, length};
+// The three tables of a market, read from their files, and a placement file beside them.
+ghost use Rattle.std.specs.Prelude.{◌≡◌, ◌≤◌, ◌<◌, ℕ, All, IfOk, IsTrue, Option, Some, length};
 ghost use Rattle.command_words.specs.Words.{texts};
 ghost use Rattle.place_base.specs.declared.fault.FileKind.TheVariants as file;
 ghost use Rattle.programme_table.specs.Table.{codes_of};
 ghost use Rattle.candidate_table.specs.Table.{IsPreferenceList, numbers_of};
+ghost use Rattle.market.specs.Stability.{held_by};
+ghost use Rattle.place_edges.specs.Shelf.{file_limit};
+ghost use Rattle.placement_file.specs.Rows.{placement_fault};
+ghost use Rattle.placement_file.specs.Table.{placement_in};
+ghost use Rattle.record_files.specs.ReadTo.{IsTableRead};
 ghost use Rattle.run_frame.specs.Files.{IsJudged};
 ghost use Rattle.place_run.specs.Runs.{IsReading};
 ghost use Rattle.place_run.specs.Says.{MayOpenTables, tables_read, tables_said, word_at};
-ghost use Rattle.place_run.specs.Tables.{programmes_said, candidates_said, ranks_said};
+ghost use Rattle.place_run.specs.Tables.{programmes_said, candidates_said, placement_said, ranks_said};
 
 use crate::status::Stop;
 use candidate_table::CandidateTable;
+use market::Placement;
 use place_base::FileKind;
 use place_edges::Shelf;
+use placement_file::read_placement;
 use programme_table::ProgrammeTable;
 use rank_lists::RankLists;
+use record_files::TableStop;
 use run_frame::{FileStop, read_file, table_or_stop};
 use std::alloc::Global;
 use std::marker::Model;
@@ -49,7 +57,7 @@ impl Model for Inputs {
 impl Inputs {
     // Reads the files that the words 2 to 4 name: each is read and judged before the next is
     // opened.
-    pub(crate) fn read<R: Threads, H: Shelf>(
+    pub(crate) fn read<R: Threads + Sync, H: Shelf>(
         rt: &R,
         alloc: Global,
         words: &[String],
@@ -76,6 +84,29 @@ impl Inputs {
         })
     }
 
+    // Reads the named placement file, beside the tables.
+    pub(crate) fn read_placement<H: Shelf>(
+        &self,
+        alloc: Global,
+        shelf: &mut H,
+        name: &str,
+    ) -> Result<Placement, FileStop>
+        requires { IsTrue (H.grants shelf.old name.now) }
+        ensures judged { IsJudged (H.files shelf.old) name.now
+            (placement_said (codes_of self.now.programmes.rows)
+            (numbers_of self.now.candidates.numbers)) result
+            (H.faults shelf.old) (H.faults shelf.new) (H.tally shelf.old) (H.tally shelf.new) }
+        ensures candidates { IfOk result (λ held.
+            length held ≡ length self.now.candidates.numbers) }
+        ensures programmes { IfOk result (λ held. (i p : ℕ) → held_by held i ≡ Some p
+            → p < length (codes_of self.now.programmes.rows)) }
+        ensures files { H.files shelf.new ≡ H.files shelf.old }
+        ensures grants { H.grants shelf.new ≡ H.grants shelf.old }
+    {
+        let bytes = read_file(alloc, shelf, name, FileKind::Placement)?;
+        table_or_stop(read_held(alloc, &bytes, &self.programmes, &self.candidates))
+    }
+
     // The tables, which are not copied.
     pub(crate) fn into_parts(self) -> (ProgrammeTable, CandidateTable, RankLists)
         ensures programmes { result.0 ≡ self.programmes }
@@ -90,8 +121,29 @@ impl Inputs {
     }
 }
 
+// The placement of a file of at most 2^30 bytes, or its first fault.
+fn read_held(
+    alloc: Global,
+    bytes: &[u8],
+    programmes: &ProgrammeTable,
+    candidates: &CandidateTable,
+) -> Result<Placement, TableStop>
+    requires { length bytes.now ≤ file_limit }
+    ensures read { IsTableRead
+        (placement_fault (codes_of programmes.now.rows) (numbers_of candidates.now.numbers)
+        bytes.now)
+        (placement_in (codes_of programmes.now.rows) (numbers_of candidates.now.numbers) bytes.now)
+        result }
+    ensures candidates { IfOk result (λ held. length held ≡ length candidates.now.numbers) }
+    ensures programmes { IfOk result (λ held. (i p : ℕ) → held_by held i ≡ Some p
+        → p < length (codes_of programmes.now.rows)) }
+{
+    let held = read_placement(alloc, bytes, programmes, candidates)?;
+    Ok(Placement::from_vec(held))
+}
+
 // The word at a place, counted from 0.
-fn word(words: &[String], place: usize) -> &str
+pub(crate) fn word(words: &[String], place: usize) -> &str
     requires { place < length words.now }
     ensures { result.now ≡ word_at (texts words.now) place }
 {
@@ -99,7 +151,7 @@ fn word(words: &[String], place: usize) -> &str
 }
 
 // Reads the programmes file.
-fn read_programmes<R: Threads, H: Shelf>(
+fn read_programmes<R: Threads + Sync, H: Shelf>(
     rt: &R,
     alloc: Global,
     shelf: &mut H,
@@ -118,7 +170,7 @@ fn read_programmes<R: Threads, H: Shelf>(
 }
 
 // Reads the candidates file, beside the programmes.
-fn read_candidates<R: Threads, H: Shelf>(
+fn read_candidates<R: Threads + Sync, H: Shelf>(
     rt: &R,
     alloc: Global,
     shelf: &mut H,
@@ -141,7 +193,7 @@ fn read_candidates<R: Threads, H: Shelf>(
 }
 
 // Reads the ranks file, beside the types of the programmes and the candidates.
-fn read_ranks<R: Threads, H: Shelf>(
+fn read_ranks<R: Threads + Sync, H: Shelf>(
     rt: &R,
     alloc: Global,
     shelf: &mut H,

@@ -9,10 +9,14 @@ mod commands;
 mod inputs;
 // The line of a status.
 mod notes;
-// The mechanism's placement in a market.
+// A market with the mechanism's placement in it.
 mod placing;
 // The market of three tables.
 mod problem;
+// A base rank in a row.
+mod rank_fields;
+// The reasons of a placement, as a text that is made while it is written.
+mod reason_rows;
 // The top call.
 mod run;
 // How a run ends.

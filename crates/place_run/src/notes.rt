@@ -2,6 +2,7 @@
 ghost use Rattle.std.specs.Prelude.{◌≡◌};
 ghost use Rattle.place_edges.specs.Sink.{IsWritten};
 ghost use Rattle.run_frame.specs.Lines.{IsNoted};
+ghost use Rattle.place_run.specs.Runs.{HasNoLine};
 ghost use Rattle.place_run.specs.Statuses.{status_line, words_line, refusal_name as name_of, refusal_place as place_of};
 
 use crate::Status;
@@ -14,19 +15,19 @@ use run_frame::{FileStop, write_fault, write_parts, write_stop};
 pub(crate) fn note<N: Sink>(notes: &mut N, status: Status)
     ensures line { IsNoted (status_line status) (N.written notes.old) (N.written notes.new)
         (N.faults notes.old) (N.faults notes.new) }
-    ensures done { status ≡ Status.Done → notes.new ≡ notes.old }
+    ensures unnoted { HasNoLine status → notes.new ≡ notes.old }
 {
     let _ = write_line(notes, status);
 }
 
-// Writes the line of a status; Done has none.
+// Writes the line of a status; a run that ends with its text has none.
 fn write_line<N: Sink>(notes: &mut N, status: Status) -> Result<(), Failed>
     ensures line { IsWritten (status_line status) result
         (N.written notes.old) (N.written notes.new) (N.faults notes.old) (N.faults notes.new) }
-    ensures done { status ≡ Status.Done → notes.new ≡ notes.old }
+    ensures unnoted { HasNoLine status → notes.new ≡ notes.old }
 {
     match status {
-        Status::Done => Ok(()),
+        Status::Done | Status::AuditNo => Ok(()),
         Status::Words(refused) => write_refusal(notes, refused),
         Status::FileFault(fault) => write_fault(notes, fault),
         Status::ReadFault => write_stop(notes, FileStop::ReadFault),

@@ -2,17 +2,47 @@
 
 ghost use Rattle.std.specs.Prelude.{◌≡◌, ◌<◌, ◌≤◌, IfOk};
 ghost use Rattle.market.specs.Mechanism.{mechanism_placement};
+ghost use Rattle.place_run.specs.Placings.{IsPlacedOf};
 
+use crate::inputs::Inputs;
+use crate::problem::Problem;
 use gate_workers::Gate;
 use market::{Market, Placement, Steps};
 use round_rerun::place_rounds;
+use stable_laws::worst_stable;
 use std::alloc::{AllocError, Global};
 use std::marker::Brand;
 use std::sync::ledger::{Blank, Ledger};
 use std::thread::Threads;
 
+// A market with its names, and the mechanism's placement in it.
+#[derive(Drop)]
+pub(crate) struct Placed {
+    pub(crate) problem: Problem,
+    pub(crate) placement: Placement,
+}
+
+impl Placed {
+    // The placement in the market of three tables, by teams of so many workers who pass this gate.
+    pub(crate) fn by<R: Threads + Sync, G: Gate>(
+        rt: &R,
+        alloc: Global,
+        inputs: Inputs,
+        workers: u32,
+        gate: &G,
+    ) -> Result<Placed, AllocError>
+        requires { (1 ≤ workers) × (workers ≤ 64) }
+        ensures { IfOk result (IsPlacedOf inputs) }
+    {
+        let problem = Problem::build(rt, alloc, inputs, workers)?;
+        worst_stable(&problem.market);
+        let placement = placement_by(rt, alloc, &problem.market, workers, gate)?;
+        Ok(Placed { problem, placement })
+    }
+}
+
 // The placement, by teams of so many workers who pass this gate.
-pub(crate) fn placement_by<R: Threads + Sync, G: Gate>(
+fn placement_by<R: Threads + Sync, G: Gate>(
     rt: &R,
     alloc: Global,
     market: &Market,

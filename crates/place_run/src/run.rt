@@ -3,7 +3,7 @@ ghost use Rattle.std.specs.Prelude.{◌≡◌, ◌≤◌};
 ghost use Rattle.command_words.specs.Words.{command_of, texts};
 ghost use Rattle.place_edges.specs.Causes.{Rose};
 ghost use Rattle.run_frame.specs.Lines.{IsNoted};
-ghost use Rattle.place_run.specs.Runs.{HasCause, IsComplete, IsConstant, IsFinished, IsAnsweredRun, IsWordsRefusal, LeavesSink, PrintsWorstStable};
+ghost use Rattle.place_run.specs.Runs.{HasCause, IsComplete, IsConstant, IsFinished, IsAnsweredRun, IsWordsRefusal, LeavesSink, HasNoLine, PrintsReports, PrintsVerdict, PrintsWorstStable};
 ghost use Rattle.place_run.specs.Says.{MayOpen};
 ghost use Rattle.place_run.specs.Statuses.{status_line};
 
@@ -52,11 +52,23 @@ pub fn run_words<R: Threads + Sync, H: Shelf, K: Sink, N: Sink, G: Gate>(
     ensures worst { PrintsWorstStable (H.files shelf.old) (texts words.now) result
         (K.written out.old) (K.written out.new) }
 
-    // After a refusal `out` is as it was. The line is the status's, and Done has none.
+    // Where the words are `base` or `reasons` and the run is done, the text is that of the same
+    // placement. A programme that the reasons call full has as many holders as its quota, each with
+    // a better rank than the candidate.
+    ensures reports { PrintsReports (H.files shelf.old) (texts words.now) result
+        (K.written out.old) (K.written out.new) }
+
+    // Where the words are `audit` and the run ends with its text, this is the first verdict on the
+    // placement of the fourth file in the market of the three. The status is Done exactly where
+    // that placement is stable there, and else AuditNo.
+    ensures verdict { PrintsVerdict (H.files shelf.old) (texts words.now) result
+        (K.written out.old) (K.written out.new) }
+
+    // After a refusal `out` is as it was. The line is the status's; Done and AuditNo have none.
     ensures sink { LeavesSink K.written K.faults result out.old out.new }
     ensures line { IsNoted (status_line result) (N.written notes.old) (N.written notes.new)
         (N.faults notes.old) (N.faults notes.new) }
-    ensures unnoted { result ≡ Status.Done → notes.new ≡ notes.old }
+    ensures unnoted { HasNoLine result → notes.new ≡ notes.old }
 
     // Each refusal has its cause, whether or not the shelf and the sinks tell their bytes.
     ensures causes { HasCause (command_of (texts words.now)) result

@@ -22,6 +22,8 @@ pub enum Status {
     WriteFault,
     /// Memory was refused. Nothing of the text was written.
     Memory,
+    /// The placement that was audited is not stable. The verdict was written whole.
+    AuditNo,
 }
 
 impl Status {
@@ -36,6 +38,7 @@ impl Status {
             Status::ReadFault => 4,
             Status::WriteFault => 5,
             Status::Memory => 6,
+            Status::AuditNo => 7,
         }
     }
 }
@@ -44,6 +47,8 @@ impl Status {
 #[derive(Clone, Copy)]
 pub(crate) enum Ending {
     Done,
+    // The placement that was audited is not stable.
+    AuditNo,
 }
 
 impl Ending {
@@ -52,6 +57,7 @@ impl Ending {
     {
         match self {
             Ending::Done => Status::Done,
+            Ending::AuditNo => Status::AuditNo,
         }
     }
 }

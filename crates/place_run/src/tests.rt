@@ -1,6 +1,8 @@
 // Runs over files in memory, which a reader can check by hand.
 ghost use Rattle.std.specs.Prelude.{◌≡◌, ◌≤◌, ◌<◌, IfOk, length};
 
+// Placement files, and what an audit says of them.
+mod audits;
 // Files with a fault.
 mod faulty_files;
 // Gates that count turns.
@@ -8,10 +10,11 @@ mod gates;
 // Markets that are placed.
 mod worked_markets;
 
+use self::audits::{AUDITS, Audit, EXCHANGE, FAULTY_PLACEMENTS};
 use self::faulty_files::FAULTY;
 use self::gates::{Draws, DrawsInPairs};
 use self::worked_markets::{
-    CHAIN_CANDIDATES, CHAIN_PLACED, CHAIN_PROGRAMMES, CHAIN_RANKS, MARKETS,
+    CHAIN_CANDIDATES, CHAIN_PLACED, CHAIN_PROGRAMMES, CHAIN_RANKS, MARKETS, Worked,
 };
 use crate::inputs::Inputs;
 use crate::problem::Problem;
@@ -40,6 +43,22 @@ const PLACE_BY: [&[&str]; 4] = [
     &BY_TWO,
     &PLACE,
     &["place", "p", "c", "r", "--workers", "64"],
+];
+
+// The reports by one worker and by the most.
+const BASE_BY: [&[&str]; 2] = [
+    &["base", "p", "c", "r", "--workers", "1"],
+    &["base", "p", "c", "r", "--workers", "64"],
+];
+
+const REASONS_BY: [&[&str]; 2] = [
+    &["reasons", "p", "c", "r", "--workers", "1"],
+    &["reasons", "p", "c", "r", "--workers", "64"],
+];
+
+const AUDIT_BY: [&[&str]; 2] = [
+    &["audit", "p", "c", "r", "h", "--workers", "1"],
+    &["audit", "p", "c", "r", "h", "--workers", "64"],
 ];
 
 // The files of the freed seat: the first candidate is best in both types, takes both seats, and is
@@ -161,19 +180,27 @@ fn counts_by<R: Threads + Sync, L: Ledger>(
     Ok((outcome.rounds, outcome.cuts, outcome.turns))
 }
 
-// Each three files have so many rounds, cuts and turns.
+// A shelf with the files of a market.
+fn files_of(alloc: Global, market: &Worked) -> Result<MemShelf, AllocError> {
+    shelf(
+        alloc,
+        &[
+            ("p", market.programmes),
+            ("c", market.candidates),
+            ("r", market.ranks),
+        ],
+    )
+}
+
+// Each market has so many rounds, cuts and turns.
 fn are_counted(
     rt: &(impl Threads + Sync + Abort),
     alloc: Global,
-    markets: &[(&[u8], &[u8], &[u8], &[u8], (u32, u32, u64))],
+    markets: &[Worked],
 ) -> Result<(), Fail> {
-    for (programmes, candidates, ranks, _placed, counts) in markets {
-        let shelf = shelf(
-            alloc,
-            &[("p", *programmes), ("c", *candidates), ("r", *ranks)],
-        )?;
-        let found = counts_of(rt, alloc, shelf);
-        assert_eq!(rt; found.ok(), Some(*counts));
+    for market in markets {
+        let found = counts_of(rt, alloc, files_of(alloc, market)?);
+        assert_eq!(rt; found.ok(), Some(market.counts));
     }
     Ok(())
 }
@@ -183,21 +210,31 @@ fn only_what_a_cut_changed_is_run_again(rt: HostRuntime) -> Result<(), Fail> {
     are_counted(&rt, rt.alloc(), &MARKETS)
 }
 
-// These words place each three files so, and their workers draw so many turns.
+// These words print this of a market, and their workers draw as many turns as it takes.
+fn prints(
+    rt: &(impl Threads + Sync + Abort),
+    alloc: Global,
+    texts: &[&str],
+    market: &Worked,
+    text: &[u8],
+) -> Result<(), Fail> {
+    let (_rounds, _cuts, turns) = market.counts;
+    let gate = Draws::none();
+    let shelf = files_of(alloc, market)?;
+    ends(rt, alloc, texts, shelf, &gate, (0, text, b"", 0, 9))?;
+    assert_eq!(rt; gate.several(), turns);
+    Ok(())
+}
+
+// These words place each market.
 fn are_placed(
     rt: &(impl Threads + Sync + Abort),
     alloc: Global,
     texts: &[&str],
-    markets: &[(&[u8], &[u8], &[u8], &[u8], (u32, u32, u64))],
+    markets: &[Worked],
 ) -> Result<(), Fail> {
-    for (programmes, candidates, ranks, placed, (_rounds, _cuts, turns)) in markets {
-        let shelf = shelf(
-            alloc,
-            &[("p", *programmes), ("c", *candidates), ("r", *ranks)],
-        )?;
-        let gate = Draws::none();
-        ends(rt, alloc, texts, shelf, &gate, (0, *placed, b"", 0, 9))?;
-        assert_eq!(rt; gate.several(), *turns);
+    for market in markets {
+        prints(rt, alloc, texts, market, market.placed)?;
     }
     Ok(())
 }
@@ -207,6 +244,128 @@ fn files_without_a_fault_are_placed_by_any_number_of_workers(rt: HostRuntime) ->
     for texts in PLACE_BY {
         are_placed(&rt, rt.alloc(), texts, &MARKETS)?;
     }
+    Ok(())
+}
+
+// These words print the base ranks of each market.
+fn have_bases(
+    rt: &(impl Threads + Sync + Abort),
+    alloc: Global,
+    texts: &[&str],
+    markets: &[Worked],
+) -> Result<(), Fail> {
+    for market in markets {
+        prints(rt, alloc, texts, market, market.base)?;
+    }
+    Ok(())
+}
+
+// These words print the reasons in each market.
+fn have_reasons(
+    rt: &(impl Threads + Sync + Abort),
+    alloc: Global,
+    texts: &[&str],
+    markets: &[Worked],
+) -> Result<(), Fail> {
+    for market in markets {
+        prints(rt, alloc, texts, market, market.reasons)?;
+    }
+    Ok(())
+}
+
+#[test]
+fn the_same_placement_is_reported_by_one_worker_and_by_sixty_four(
+    rt: HostRuntime,
+) -> Result<(), Fail> {
+    for texts in BASE_BY {
+        have_bases(&rt, rt.alloc(), texts, &MARKETS)?;
+    }
+    for texts in REASONS_BY {
+        have_reasons(&rt, rt.alloc(), texts, &MARKETS)?;
+    }
+    Ok(())
+}
+
+// A shelf with the files of a market and a placement file beside them.
+fn files_with(alloc: Global, market: &Worked, placement: &[u8]) -> Result<MemShelf, AllocError> {
+    let mut shelf = files_of(alloc, market)?;
+    shelf.add(String::from_str(alloc, "h")?, placement.to_vec(alloc)?)?;
+    Ok(shelf)
+}
+
+// What is placed in each market is stable there.
+fn are_stable(
+    rt: &(impl Threads + Sync + Abort),
+    alloc: Global,
+    texts: &[&str],
+    markets: &[Worked],
+) -> Result<(), Fail> {
+    for market in markets {
+        let shelf = files_with(alloc, market, market.placed)?;
+        ends(rt, alloc, texts, shelf, &OpenGate, (0, b"STABLE\n", b"", 0, 12))?;
+    }
+    Ok(())
+}
+
+// These placements have these verdicts.
+fn are_audited(
+    rt: &(impl Threads + Sync + Abort),
+    alloc: Global,
+    texts: &[&str],
+    audits: &[Audit],
+) -> Result<(), Fail> {
+    for audit in audits {
+        let shelf = files_with(alloc, &audit.market, audit.placement)?;
+        let code = if audit.verdict == b"STABLE\n".as_slice() { 0 } else { 7 };
+        ends(rt, alloc, texts, shelf, &OpenGate, (code, audit.verdict, b"", 0, 12))?;
+    }
+    Ok(())
+}
+
+#[test]
+fn the_first_verdict_is_printed_by_one_worker_and_by_sixty_four(
+    rt: HostRuntime,
+) -> Result<(), Fail> {
+    for texts in AUDIT_BY {
+        are_stable(&rt, rt.alloc(), texts, &MARKETS)?;
+        are_audited(&rt, rt.alloc(), texts, &AUDITS)?;
+    }
+    Ok(())
+}
+
+// These placement files have these first faults, and a fault of the three files comes before them.
+fn are_no_placements(
+    rt: &(impl Threads + Sync + Abort),
+    alloc: Global,
+    texts: &[&str],
+    placements: &[(&[u8], &[u8])],
+) -> Result<(), Fail> {
+    for (placement, note) in placements {
+        let shelf = files_with(alloc, &EXCHANGE, placement)?;
+        ends(rt, alloc, texts, shelf, &OpenGate, (3, b"", *note, 0, 12))?;
+        let mut shelf = files_with(alloc, &EXCHANGE, placement)?;
+        shelf.add(String::from_str(alloc, "r")?, BAD_RANKS.to_vec(alloc)?)?;
+        let note = b"fault ranks line 2 field 2 F05 BadTypeName earlier 0\n";
+        ends(rt, alloc, texts, shelf, &OpenGate, (3, b"", note, 0, 9))?;
+    }
+    Ok(())
+}
+
+#[test]
+fn the_first_fault_of_a_placement_file_is_noted_behind_the_three(
+    rt: HostRuntime,
+) -> Result<(), Fail> {
+    for texts in AUDIT_BY {
+        are_no_placements(&rt, rt.alloc(), texts, &FAULTY_PLACEMENTS)?;
+    }
+    Ok(())
+}
+
+#[test]
+fn an_audit_without_its_placement_file_is_a_read_fault(rt: HostRuntime) -> Result<(), Fail> {
+    let shelf = files_of(rt.alloc(), &EXCHANGE)?;
+    let ended = (4, b"".as_slice(), b"read fault\n".as_slice(), 1, 10);
+    ends(&rt, rt.alloc(), AUDIT_BY[0], shelf, &OpenGate, ended)?;
     Ok(())
 }
 
@@ -456,6 +615,50 @@ fn a_write_that_fails_leaves_the_front_of_the_text(rt: HostRuntime) -> Result<()
     assert_eq!(rt; out.bytes(), b"candidate,progra".as_slice());
     assert_eq!(rt; out.faults(), 1);
     assert_eq!(rt; notes.bytes(), b"write fault\n".as_slice());
+    Ok(())
+}
+
+#[test]
+fn reasons_that_cannot_be_written_leave_the_front_of_their_text(
+    rt: HostRuntime,
+) -> Result<(), Fail> {
+    let alloc = rt.alloc();
+    for (put, front) in [
+        (2, b"candidate,progra".as_slice()),
+        (3, b"candidate,programme,reason,base\n".as_slice()),
+    ] {
+        let mut shelf = shelf(alloc, &FREED_SEAT)?;
+        let mut out = MemSink::new(alloc, 16, 65_536)?;
+        out.fail_at(put)?;
+        let mut notes = MemSink::new(alloc, 16, 65_536)?;
+        let words = words(alloc, &["reasons", "p", "c", "r"])?;
+        let status = run_words(
+            &rt, alloc, &words, &mut shelf, &mut out, &mut notes, &OpenGate,
+        );
+        assert_eq!(rt; (status.code(), out.faults()), (5, 1));
+        assert_eq!(rt; out.bytes(), front);
+    }
+    Ok(())
+}
+
+#[test]
+fn notes_that_fail_at_once_change_no_refusal(rt: HostRuntime) -> Result<(), Fail> {
+    let alloc = rt.alloc();
+    for (files, code) in [
+        ([("p", PROGRAMMES), ("c", BAD_CANDIDATES)], 3),
+        ([("p", PROGRAMMES), ("r", RANKS)], 4),
+    ] {
+        let mut shelf = shelf(alloc, &files)?;
+        let mut out = MemSink::new(alloc, 16, 65_536)?;
+        let mut notes = MemSink::new(alloc, 4, 65_536)?;
+        notes.fail_at(1)?;
+        let words = words(alloc, &PLACE)?;
+        let status = run_words(
+            &rt, alloc, &words, &mut shelf, &mut out, &mut notes, &OpenGate,
+        );
+        assert_eq!(rt; (status.code(), notes.faults()), (code, 1));
+        assert_eq!(rt; (out.bytes(), notes.bytes()), (b"".as_slice(), b"".as_slice()));
+    }
     Ok(())
 }
 

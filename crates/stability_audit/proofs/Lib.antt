@@ -8,3 +8,5 @@ pub mod Listed
 pub mod Stable
 -- the look through a candidate's list
 pub mod Looking
+-- the first verdict by relations is the first by tests
+pub mod FirstSaid

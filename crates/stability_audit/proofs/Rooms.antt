@@ -9,7 +9,7 @@ use Rattle.market.specs.Stability.{HasWorseHolder, IsBetter}
 use Rattle.reports.proofs.WorstHolders.{base_rank-holder, base_rank-most}
 
 -- a rank, and it is worse than this one
-record IsWorse (rank : ℕ) (other : Option ℕ) : Type 0 where
+pub record IsWorse (rank : ℕ) (other : Option ℕ) : Type 0 where
   pub worse : ℕ
   pub is : other ≡ Some worse
   pub more : rank < worse
@@ -34,7 +34,7 @@ worse-holder m held i p rank base r b less =
     }
 
 -- and where a holder has a worse rank, so is the base rank
-worst-is : (m : Problem) (held : List (Option ℕ)) (i p rank : ℕ)
+pub worst-is : (m : Problem) (held : List (Option ℕ)) (i p rank : ℕ)
     → rank_of m (kind_of m p) i ≡ Some rank → HasWorseHolder m held i p
     → IsWorse rank (base_rank m held p)
 worst-is m held i p rank r w =

@@ -4,6 +4,7 @@ ghost use Rattle.std.specs.Prelude.{◌≡◌, ◌<◌, ◌↔◌, ℕ, length, 
 ghost use Rattle.market.specs.Stability.{IsStable};
 ghost use Rattle.reports.specs.BaseTables.{HoldsProgrammes, IsBaseTable};
 ghost use Rattle.stability_audit.specs.Entries.{BlocksWithSome, IsFirstHolder, IsFirstToBlock};
+ghost use Rattle.stability_audit.specs.FirstVerdicts.{verdict_of};
 ghost use Rattle.stability_audit.specs.Verdicts.{HoldsAcceptable, IsFirstOverQuota, IsOverQuota, IsVerdict};
 
 use crate::Verdict;
@@ -27,6 +28,8 @@ pub fn audit<R: Threads + Sync>(
     requires candidates { length placement.now ≡ length market.now.lists }
     requires programmes { HoldsProgrammes market.now placement.now }
     ensures verdict { IfOk result (IsVerdict market.now placement.now) }
+    // There is one first verdict.
+    ensures first { IfOk result (λ v. v ≡ verdict_of market.now placement.now) }
     // It is stable exactly where no pair blocks, and what is held is a placement.
     ensures stable { IfOk result (λ v. (v ≡ Verdict.Stable) ↔ IsStable market.now placement.now) }
 {

@@ -16,27 +16,29 @@ placement_of tables =
     placement_text (codes_of tables.programmes.rows) (numbers_of tables.candidates.numbers)
     (mechanism_placement (problem_of tables))
 
--- that text, of a valid market in which the mechanism's placement is the worst of the stable ones
-pub record IsPlaced (tables : Tables) (text : List ℕ) : Type 0 where
-  pub market : IsValid (problem_of tables)
-  pub worst : IsWorstStable (problem_of tables) (mechanism_placement (problem_of tables))
-  pub printed : text ≡ placement_of tables
-
 -- these three files were read
 pub record AreThree (reads : Reads) (three : ThreeFiles) : Type 0 where
   pub programmes : reads file.Programmes ≡ Some three.programmes
   pub candidates : reads file.Candidates ≡ Some three.candidates
   pub ranks : reads file.Ranks ≡ Some three.ranks
 
+-- A text is printed so of three files without a fault. The mechanism's placement in their market is
+-- stable there, and in every stable placement there each candidate holds the same programme or one
+-- listed higher.
+pub record IsOfWorstStable (print : ThreeFiles → List ℕ) (reads : Reads) (text : List ℕ) : Type 0
+  where
+    pub three : ThreeFiles
+    pub read : AreThree reads three
+    pub no_fault : HasNoFault three
+    pub market : IsValid (problem_of (tables_in three))
+    pub worst : IsWorstStable (problem_of (tables_in three))
+        (mechanism_placement (problem_of (tables_in three)))
+    pub printed : text ≡ print three
+
 -- A text is that of three files without a fault: the placement of the mechanism in their market. It
 -- is stable there, and in every stable placement there each candidate holds the same programme or
 -- one listed higher.
-pub record IsWorstStableText (reads : Reads) (text : List ℕ) : Type 0 where
-  pub three : ThreeFiles
-  pub read : AreThree reads three
-  pub no_fault : HasNoFault three
-  pub market : IsValid (problem_of (tables_in three))
-  pub worst : IsWorstStable (problem_of (tables_in three))
-      (mechanism_placement (problem_of (tables_in three)))
-  pub printed : text ≡ placement_text (codes_in three) (numbers_in three)
-      (mechanism_placement (problem_of (tables_in three)))
+abbrev pub IsWorstStableText : Reads → List ℕ → Type 0
+IsWorstStableText reads text =
+    IsOfWorstStable (λ three. placement_text (codes_in three) (numbers_in three)
+    (mechanism_placement (problem_of (tables_in three)))) reads text

@@ -3,19 +3,20 @@
 ghost use Rattle.std.specs.Prelude.{◌≡◌, ◌≤◌, IfOk, Ok, length};
 ghost use Rattle.command_words.specs.Words.{texts};
 ghost use Rattle.command_words.specs.declared.words.Command.TheVariants as command;
+ghost use Rattle.candidate_table.specs.Table.{numbers_of};
+ghost use Rattle.placement_file.specs.Texts.{placement_text as text_of_placement};
+ghost use Rattle.programme_table.specs.Table.{codes_of};
+ghost use Rattle.place_run.specs.Placings.{IsNamedPlacement};
 ghost use Rattle.place_run.specs.Runs.{IsAnswering};
 ghost use Rattle.place_run.specs.Says.{MayOpenTables};
-ghost use Rattle.place_run.specs.commands.Place.{IsPlaced};
 
 use crate::answer::Answer;
 use crate::inputs::Inputs;
-use crate::placing::placement_by;
-use crate::problem::Problem;
+use crate::placing::Placed;
 use crate::status::Stop;
 use gate_workers::Gate;
 use place_edges::Shelf;
 use placement_file::placement_text;
-use stable_laws::worst_stable;
 use std::alloc::{AllocError, Global};
 use std::thread::Threads;
 
@@ -37,24 +38,19 @@ pub(crate) fn place<R: Threads + Sync, H: Shelf, G: Gate>(
     ensures grants { H.grants shelf.new ≡ H.grants shelf.old }
 {
     let inputs = Inputs::read(rt, alloc, words, shelf, workers)?;
-    let text = placed_text(rt, alloc, inputs, workers, gate)?;
+    let placed = Placed::by(rt, alloc, inputs, workers, gate)?;
+    let text = placed_text(alloc, &placed)?;
     Ok(Answer::done(text))
 }
 
-// The text of the mechanism's placement in the market of three tables.
-fn placed_text<R: Threads + Sync, G: Gate>(
-    rt: &R,
-    alloc: Global,
-    inputs: Inputs,
-    workers: u32,
-    gate: &G,
-) -> Result<Vec<u8>, AllocError>
-    requires { (1 ≤ workers) × (workers ≤ 64) }
-    ensures { IfOk result (λ text. IsPlaced inputs text.items) }
+// The text of a placement.
+fn placed_text(alloc: Global, placed: &Placed) -> Result<Vec<u8>, AllocError>
+    requires { IsNamedPlacement placed.now.problem placed.now.placement }
+    ensures { IfOk result (λ text. text.items
+        ≡ text_of_placement (codes_of placed.now.problem.programmes.rows)
+        (numbers_of placed.now.problem.numbers) placed.now.placement) }
 {
-    let problem = Problem::build(rt, alloc, inputs, workers)?;
-    worst_stable(&problem.market);
-    let placement = placement_by(rt, alloc, &problem.market, workers, gate)?;
-    let held = placement.held();
+    let problem = &placed.problem;
+    let held = placed.placement.held();
     placement_text(alloc, held, &problem.programmes, &problem.numbers)
 }

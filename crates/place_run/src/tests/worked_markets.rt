@@ -11,103 +11,173 @@ pub(super) const CHAIN_RANKS: &[u8] =
 
 pub(super) const CHAIN_PLACED: &[u8] = b"candidate,programme\n1,11\n2,21\n3,12\n";
 
-// Programmes, candidates and ranks, what is placed, and in how many rounds, by how many cuts and
-// turns.
-pub(super) const MARKETS: [(&[u8], &[u8], &[u8], &[u8], (u32, u32, u64)); 12] = [
+// A market as its three files, what `place`, `base` and `reasons` print of it, and how many rounds,
+// cuts and turns it takes.
+#[derive(Clone, Copy)]
+pub(super) struct Worked {
+    pub(super) programmes: &'static [u8],
+    pub(super) candidates: &'static [u8],
+    pub(super) ranks: &'static [u8],
+    pub(super) placed: &'static [u8],
+    pub(super) base: &'static [u8],
+    pub(super) reasons: &'static [u8],
+    pub(super) counts: (u32, u32, u64),
+}
+
+pub(super) const MARKETS: [Worked; 13] = [
     // An exchange: both candidates want the other's programme, and hold the one in which their rank
     // is better.
-    (
-        PROGRAMMES,
-        b"candidate,list\n1,101;201\n2,201;101\n",
-        b"candidate,type,rank\n2,SAY,1\n1,SAY,2\n1,EA,1\n2,EA,2\n",
-        b"candidate,programme\n1,201\n2,101\n",
-        (1, 0, 4),
-    ),
-    (PROGRAMMES, CANDIDATES, RANKS, PLACED, (2, 1, 6)),
+    Worked {
+        programmes: PROGRAMMES,
+        candidates: b"candidate,list\n1,101;201\n2,201;101\n",
+        ranks: b"candidate,type,rank\n2,SAY,1\n1,SAY,2\n1,EA,1\n2,EA,2\n",
+        placed: b"candidate,programme\n1,201\n2,101\n",
+        base: b"programme,quota,held,base\n101,1,1,1\n201,1,1,1\n",
+        reasons: b"candidate,programme,reason,base\n1,101,FULL,1\n1,201,PLACED,-\n2,201,FULL,1\n\
+            2,101,PLACED,-\n",
+        counts: (1, 0, 4),
+    },
+    Worked {
+        programmes: PROGRAMMES,
+        candidates: CANDIDATES,
+        ranks: RANKS,
+        placed: PLACED,
+        base: b"programme,quota,held,base\n101,1,1,1\n201,1,1,2\n",
+        reasons: b"candidate,programme,reason,base\n1,101,PLACED,-\n1,201,BELOW,-\n\
+            2,201,PLACED,-\n",
+        counts: (2, 1, 6),
+    },
     // Three rounds.
-    (
-        CHAIN_PROGRAMMES,
-        CHAIN_CANDIDATES,
-        CHAIN_RANKS,
-        CHAIN_PLACED,
-        (3, 2, 11),
-    ),
+    Worked {
+        programmes: CHAIN_PROGRAMMES,
+        candidates: CHAIN_CANDIDATES,
+        ranks: CHAIN_RANKS,
+        placed: CHAIN_PLACED,
+        base: b"programme,quota,held,base\n11,1,1,1\n12,1,1,3\n21,1,1,2\n",
+        reasons: b"candidate,programme,reason,base\n1,11,PLACED,-\n1,21,BELOW,-\n2,21,PLACED,-\n\
+            2,11,BELOW,-\n2,12,BELOW,-\n3,12,PLACED,-\n",
+        counts: (3, 2, 11),
+    },
     // Headers alone.
-    (
-        b"programme,type,quota\n",
-        b"candidate,list\n",
-        b"candidate,type,rank\n",
-        b"candidate,programme\n",
-        (1, 0, 0),
-    ),
+    Worked {
+        programmes: b"programme,type,quota\n",
+        candidates: b"candidate,list\n",
+        ranks: b"candidate,type,rank\n",
+        placed: b"candidate,programme\n",
+        base: b"programme,quota,held,base\n",
+        reasons: b"candidate,programme,reason,base\n",
+        counts: (1, 0, 0),
+    },
     // No seat.
-    (
-        b"programme,type,quota\n101,SAY,0\n",
-        b"candidate,list\n1,101\n",
-        b"candidate,type,rank\n1,SAY,1\n",
-        b"candidate,programme\n1,-\n",
-        (1, 0, 1),
-    ),
+    Worked {
+        programmes: b"programme,type,quota\n101,SAY,0\n",
+        candidates: b"candidate,list\n1,101\n",
+        ranks: b"candidate,type,rank\n1,SAY,1\n",
+        placed: b"candidate,programme\n1,-\n",
+        base: b"programme,quota,held,base\n101,0,0,-\n",
+        reasons: b"candidate,programme,reason,base\n1,101,FULL,-\n",
+        counts: (1, 0, 1),
+    },
     // No rank at all.
-    (
-        b"programme,type,quota\n101,SAY,1\n",
-        b"candidate,list\n1,101\n",
-        b"candidate,type,rank\n",
-        b"candidate,programme\n1,-\n",
-        (1, 0, 0),
-    ),
+    Worked {
+        programmes: b"programme,type,quota\n101,SAY,1\n",
+        candidates: b"candidate,list\n1,101\n",
+        ranks: b"candidate,type,rank\n",
+        placed: b"candidate,programme\n1,-\n",
+        base: b"programme,quota,held,base\n101,1,0,-\n",
+        reasons: b"candidate,programme,reason,base\n1,101,NORANK,-\n",
+        counts: (1, 0, 0),
+    },
     // No rank, and an empty list.
-    (
-        b"programme,type,quota\n101,SAY,1\n",
-        b"candidate,list\n1,101\n2,\n",
-        b"candidate,type,rank\n2,SAY,1\n",
-        b"candidate,programme\n1,-\n2,-\n",
-        (1, 0, 1),
-    ),
+    Worked {
+        programmes: b"programme,type,quota\n101,SAY,1\n",
+        candidates: b"candidate,list\n1,101\n2,\n",
+        ranks: b"candidate,type,rank\n2,SAY,1\n",
+        placed: b"candidate,programme\n1,-\n2,-\n",
+        base: b"programme,quota,held,base\n101,1,0,-\n",
+        reasons: b"candidate,programme,reason,base\n1,101,NORANK,-\n",
+        counts: (1, 0, 1),
+    },
     // Ranks of an unknown candidate and in an unknown type.
-    (
-        PROGRAMMES,
-        CANDIDATES,
-        b"candidate,type,rank\n1,SAY,1\n2,SAY,2\n1,EA,1\n2,EA,2\n99,SAY,7\n1,TYT,1\n",
-        PLACED,
-        (2, 1, 6),
-    ),
+    Worked {
+        programmes: PROGRAMMES,
+        candidates: CANDIDATES,
+        ranks: b"candidate,type,rank\n1,SAY,1\n2,SAY,2\n1,EA,1\n2,EA,2\n99,SAY,7\n1,TYT,1\n",
+        placed: PLACED,
+        base: b"programme,quota,held,base\n101,1,1,1\n201,1,1,2\n",
+        reasons: b"candidate,programme,reason,base\n1,101,PLACED,-\n1,201,BELOW,-\n\
+            2,201,PLACED,-\n",
+        counts: (2, 1, 6),
+    },
     // A list of 24 entries.
-    (
-        TWENTY_FIVE_PROGRAMMES,
-        b"candidate,list\n1,1;2;3;4;5;6;7;8;9;10;11;12;13;14;15;16;17;18;19;20;21;22;23;24\n",
-        b"candidate,type,rank\n1,A,1\n",
-        b"candidate,programme\n1,1\n",
-        (1, 0, 1),
-    ),
+    Worked {
+        programmes: TWENTY_FIVE_PROGRAMMES,
+        candidates: b"candidate,list\n1,1;2;3;4;5;6;7;8;9;10;11;12;13;14;15;16;17;18;19;20;21;22;23;24\n",
+        ranks: b"candidate,type,rank\n1,A,1\n",
+        placed: b"candidate,programme\n1,1\n",
+        base: b"programme,quota,held,base\n1,1,1,1\n2,1,0,-\n3,1,0,-\n4,1,0,-\n5,1,0,-\n\
+            6,1,0,-\n7,1,0,-\n8,1,0,-\n9,1,0,-\n10,1,0,-\n11,1,0,-\n12,1,0,-\n13,1,0,-\n\
+            14,1,0,-\n15,1,0,-\n16,1,0,-\n17,1,0,-\n18,1,0,-\n19,1,0,-\n20,1,0,-\n\
+            21,1,0,-\n22,1,0,-\n23,1,0,-\n24,1,0,-\n25,1,0,-\n",
+        reasons: b"candidate,programme,reason,base\n1,1,PLACED,-\n1,2,BELOW,-\n1,3,BELOW,-\n\
+            1,4,BELOW,-\n1,5,BELOW,-\n1,6,BELOW,-\n1,7,BELOW,-\n1,8,BELOW,-\n1,9,BELOW,-\n\
+            1,10,BELOW,-\n1,11,BELOW,-\n1,12,BELOW,-\n1,13,BELOW,-\n1,14,BELOW,-\n\
+            1,15,BELOW,-\n1,16,BELOW,-\n1,17,BELOW,-\n1,18,BELOW,-\n1,19,BELOW,-\n\
+            1,20,BELOW,-\n1,21,BELOW,-\n1,22,BELOW,-\n1,23,BELOW,-\n1,24,BELOW,-\n",
+        counts: (1, 0, 1),
+    },
     // A byte order mark, lines that end in CR LF, an empty line, no last LF.
-    (
-        b"\xef\xbb\xbfprogramme,type,quota\r\n\r\n101,SAY,1\r\n201,EA,1",
-        CANDIDATES,
-        RANKS,
-        PLACED,
-        (2, 1, 6),
-    ),
+    Worked {
+        programmes: b"\xef\xbb\xbfprogramme,type,quota\r\n\r\n101,SAY,1\r\n201,EA,1",
+        candidates: CANDIDATES,
+        ranks: RANKS,
+        placed: PLACED,
+        base: b"programme,quota,held,base\n101,1,1,1\n201,1,1,2\n",
+        reasons: b"candidate,programme,reason,base\n1,101,PLACED,-\n1,201,BELOW,-\n\
+            2,201,PLACED,-\n",
+        counts: (2, 1, 6),
+    },
     // The limits of numbers and of a type name, and leading zeros.
-    (
-        b"programme,type,quota\n999999999,ABCDEFG8,100000\n7,EA,007\n",
-        b"candidate,list\n99999999999,0007;0999999999\n",
-        b"candidate,type,rank\n99999999999,ABCDEFG8,99999999\n",
-        b"candidate,programme\n99999999999,999999999\n",
-        (1, 0, 1),
-    ),
+    Worked {
+        programmes: b"programme,type,quota\n999999999,ABCDEFG8,100000\n7,EA,007\n",
+        candidates: b"candidate,list\n99999999999,0007;0999999999\n",
+        ranks: b"candidate,type,rank\n99999999999,ABCDEFG8,99999999\n",
+        placed: b"candidate,programme\n99999999999,999999999\n",
+        base: b"programme,quota,held,base\n999999999,100000,1,99999999\n7,7,0,-\n",
+        reasons: b"candidate,programme,reason,base\n99999999999,7,NORANK,-\n\
+            99999999999,999999999,PLACED,-\n",
+        counts: (1, 0, 1),
+    },
     // Five score types.
-    (
-        b"programme,type,quota\n102210277,SAY,2\n103910169,EA,1\n105510032,SOZ,1\n106510077,DIL,1\n\
-        202110455,TYT,1\n",
-        b"candidate,list\n10000000146,102210277;103910169\n\
-        10000000238,103910169;105510032;202110455\n10000000320,102210277;202110455\n\
-        10000000412,106510077\n",
-        b"candidate,type,rank\n10000000146,SAY,1204\n10000000146,EA,3310\n10000000146,TYT,2050\n\
-        10000000238,EA,5121\n10000000238,SOZ,877\n10000000238,TYT,40211\n10000000320,SAY,98004\n\
-        10000000320,TYT,61200\n10000000412,TYT,15000\n10000000412,DIL,412\n",
-        b"candidate,programme\n10000000146,102210277\n10000000238,103910169\n\
-        10000000320,102210277\n10000000412,106510077\n",
-        (3, 4, 16),
-    ),
+    Worked {
+        programmes: b"programme,type,quota\n102210277,SAY,2\n103910169,EA,1\n105510032,SOZ,1\n106510077,DIL,1\n\
+            202110455,TYT,1\n",
+        candidates: b"candidate,list\n10000000146,102210277;103910169\n\
+            10000000238,103910169;105510032;202110455\n10000000320,102210277;202110455\n\
+            10000000412,106510077\n",
+        ranks: b"candidate,type,rank\n10000000146,SAY,1204\n10000000146,EA,3310\n10000000146,TYT,2050\n\
+            10000000238,EA,5121\n10000000238,SOZ,877\n10000000238,TYT,40211\n10000000320,SAY,98004\n\
+            10000000320,TYT,61200\n10000000412,TYT,15000\n10000000412,DIL,412\n",
+        placed: b"candidate,programme\n10000000146,102210277\n10000000238,103910169\n\
+            10000000320,102210277\n10000000412,106510077\n",
+        base: b"programme,quota,held,base\n102210277,2,2,98004\n103910169,1,1,5121\n\
+            105510032,1,0,-\n106510077,1,1,412\n202110455,1,0,-\n",
+        reasons: b"candidate,programme,reason,base\n10000000146,102210277,PLACED,-\n\
+            10000000146,103910169,BELOW,-\n10000000238,103910169,PLACED,-\n\
+            10000000238,105510032,BELOW,-\n10000000238,202110455,BELOW,-\n\
+            10000000320,102210277,PLACED,-\n10000000320,202110455,BELOW,-\n\
+            10000000412,106510077,PLACED,-\n",
+        counts: (3, 4, 16),
+    },
+    // A quota with leading zeros.
+    Worked {
+        programmes: b"programme,type,quota\n101,SAY,007\n201,EA,1\n",
+        candidates: CANDIDATES,
+        ranks: RANKS,
+        placed: PLACED,
+        base: b"programme,quota,held,base\n101,7,1,1\n201,1,1,2\n",
+        reasons: b"candidate,programme,reason,base\n1,101,PLACED,-\n1,201,BELOW,-\n\
+            2,201,PLACED,-\n",
+        counts: (2, 1, 6),
+    },
 ];

@@ -1,19 +1,63 @@
-use Rattle.std.proofs.Common.{Result, subst, sym, ◌∙◌}
-use Rattle.command_words.specs.Words.{texts}
-use Rattle.command_words.specs.declared.words.Command.{Command}
-use Rattle.command_words.specs.declared.words.WordsFault.{WordsFault}
-use Rattle.place_run.specs.Runs.{IsAnswering}
-use Rattle.place_run.proofs.Headline.{by-any-workers, words-refused}
+use Rattle.std.proofs.Common.{◌≡◌, ◌≤◌, Ok, length, sym, arith}
+use Rattle.std.specs.Prelude.{string_bytes}
+use Rattle.std.proofs.lemmas.List.{length-map}
+use Rattle.command_words.specs.Words.{command_of, texts}
+use Rattle.command_words.specs.declared.words.Command.TheVariants.{Place, Base, Reasons, Audit}
+use Rattle.command_words.proofs.Fitting.{fits}
+use Rattle.place_run.proofs.Answering.{words-refused}
 use Rattle.place_run.proofs.commands.answer_words.Goals as goal
 
-pub returns-in-Ok-Place-clause-answers : goal.returns-in-Ok-Place-clause-answers
-returns-in-Ok-Place-clause-answers g c =
-    subst (λ (v : Result Command WordsFault). IsAnswering (g.H.Shelf.files c.args.shelf.now)
-    (texts c.args.words.now) v c.place.result
-    (g.H.Shelf.faults c.args.shelf.now) (g.H.Shelf.faults c.place.new.shelf)
-    (g.H.Shelf.tally c.args.shelf.now) (g.H.Shelf.tally c.place.new.shelf))
-    (sym c.in-Ok-Place.is ∙ c.read_words.ensures)
-    (by-any-workers _ _ c.in-Ok-Place.field-0 _ _ _ _ _ _ c.place.ensures.answers)
+pub place-requires-clause-workers : goal.place-requires-clause-workers
+place-requires-clause-workers g c κs within =
+    let words = c.args.words.now in
+    let given : command_of (texts words) ≡ Ok (Place c.in-Ok-Place.workers) = cc
+    (c.read_words.ensures, c.in-Ok-Place.is, c.in-Ok-Place.field-0-is, c.in-Ok-Place.workers-is) in
+    (fits (texts words) (Place c.in-Ok-Place.workers) given).workers
+
+pub base-requires-clause-words : goal.base-requires-clause-words
+base-requires-clause-words g c κs within =
+    let words = c.args.words.now in
+    let given : command_of (texts words) ≡ Ok (Base c.in-Ok-Base.workers) = cc
+    (c.read_words.ensures, c.in-Ok-Base.is, c.in-Ok-Base.field-0-is, c.in-Ok-Base.workers-is) in
+    let enough = (fits (texts words) (Base c.in-Ok-Base.workers) given).words in
+    omega (arith, enough, length-map words string_bytes)
+
+pub base-requires-clause-workers : goal.base-requires-clause-workers
+base-requires-clause-workers g c κs within =
+    let words = c.args.words.now in
+    let given : command_of (texts words) ≡ Ok (Base c.in-Ok-Base.workers) = cc
+    (c.read_words.ensures, c.in-Ok-Base.is, c.in-Ok-Base.field-0-is, c.in-Ok-Base.workers-is) in
+    (fits (texts words) (Base c.in-Ok-Base.workers) given).workers
+
+pub reasons-requires-clause-words : goal.reasons-requires-clause-words
+reasons-requires-clause-words g c κs within =
+    let words = c.args.words.now in
+    let given : command_of (texts words) ≡ Ok (Reasons c.in-Ok-Reasons.workers) = cc
+    (c.read_words.ensures, c.in-Ok-Reasons.is, c.in-Ok-Reasons.field-0-is, c.in-Ok-Reasons.workers-is) in
+    let enough = (fits (texts words) (Reasons c.in-Ok-Reasons.workers) given).words in
+    omega (arith, enough, length-map words string_bytes)
+
+pub reasons-requires-clause-workers : goal.reasons-requires-clause-workers
+reasons-requires-clause-workers g c κs within =
+    let words = c.args.words.now in
+    let given : command_of (texts words) ≡ Ok (Reasons c.in-Ok-Reasons.workers) = cc
+    (c.read_words.ensures, c.in-Ok-Reasons.is, c.in-Ok-Reasons.field-0-is, c.in-Ok-Reasons.workers-is) in
+    (fits (texts words) (Reasons c.in-Ok-Reasons.workers) given).workers
+
+pub audit-requires-clause-words : goal.audit-requires-clause-words
+audit-requires-clause-words g c κs within =
+    let words = c.args.words.now in
+    let given : command_of (texts words) ≡ Ok (Audit c.in-Ok-Audit.workers) = cc
+    (c.read_words.ensures, c.in-Ok-Audit.is, c.in-Ok-Audit.field-0-is, c.in-Ok-Audit.workers-is) in
+    let enough = (fits (texts words) (Audit c.in-Ok-Audit.workers) given).words in
+    omega (arith, enough, length-map words string_bytes)
+
+pub audit-requires-clause-workers : goal.audit-requires-clause-workers
+audit-requires-clause-workers g c κs within =
+    let words = c.args.words.now in
+    let given : command_of (texts words) ≡ Ok (Audit c.in-Ok-Audit.workers) = cc
+    (c.read_words.ensures, c.in-Ok-Audit.is, c.in-Ok-Audit.field-0-is, c.in-Ok-Audit.workers-is) in
+    (fits (texts words) (Audit c.in-Ok-Audit.workers) given).workers
 
 pub returns-in-Err-clause-answers : goal.returns-in-Err-clause-answers
 returns-in-Err-clause-answers g c =

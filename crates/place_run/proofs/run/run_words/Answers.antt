@@ -1,10 +1,24 @@
 use Rattle.command_words.specs.Words.{texts}
-use Rattle.place_run.proofs.Finishing.{causes-run, complete-run, constant-count, leaves-sink, worst-done}
+use Rattle.place_run.proofs.Finishing.{causes-run, complete-run, constant-count, leaves-sink, reports-done, verdict-done, worst-done}
 use Rattle.place_run.proofs.run.run_words.Goals as goal
 
 pub returns-clause-worst : goal.returns-clause-worst
 returns-clause-worst g c =
     worst-done g.K.Sink.written g.K.Sink.faults _ (texts c.args.words.now)
+    c.answer_words-answer.result c.finish-status.result c.args.out.now c.finish-status.new.out _ _ _
+    _
+    c.answer_words-answer.ensures.answers c.finish-status.ensures.finished
+
+pub returns-clause-reports : goal.returns-clause-reports
+returns-clause-reports g c =
+    reports-done g.K.Sink.written g.K.Sink.faults _ (texts c.args.words.now)
+    c.answer_words-answer.result c.finish-status.result c.args.out.now c.finish-status.new.out _ _ _
+    _
+    c.answer_words-answer.ensures.answers c.finish-status.ensures.finished
+
+pub returns-clause-verdict : goal.returns-clause-verdict
+returns-clause-verdict g c =
+    verdict-done g.K.Sink.written g.K.Sink.faults _ (texts c.args.words.now)
     c.answer_words-answer.result c.finish-status.result c.args.out.now c.finish-status.new.out _ _ _
     _
     c.answer_words-answer.ensures.answers c.finish-status.ensures.finished

@@ -5,6 +5,7 @@ use Rattle.market.specs.Problems.{quota_of}
 use Rattle.market.specs.Stability.{IsStable}
 use Rattle.stability_audit.specs.Verdicts.{IsFirstBlocking, IsFirstNotAcceptable}
 use Rattle.stability_audit.specs.declared.verdict.Verdict.TheVariants.{Stable, OverQuota, NotAcceptable, Blocking}
+use Rattle.stability_audit.proofs.FirstSaid.{first-verdict}
 use Rattle.stability_audit.proofs.Stable.{verdict-stable}
 use Rattle.stability_audit.proofs.auditing.audit.Goals as goal
 
@@ -13,6 +14,8 @@ returns-in-Some g c =
     let first = c.in-Some.ensures in
     record {
       verdict = first;
+      first = first-verdict c.args.market.now c.args.placement.now c.requires.programmes
+          c.requires.candidates (OverQuota c.in-Some.programme) first;
       stable = verdict-stable c.args.market.now c.args.placement.now
           (OverQuota c.in-Some.programme) first;
     }
@@ -28,6 +31,8 @@ returns-in-Some-first_not_acceptable g c =
     } in
     record {
       verdict = verdict;
+      first = first-verdict c.args.market.now c.args.placement.now c.requires.programmes
+          c.requires.candidates (NotAcceptable c.in-Some-first_not_acceptable.candidate) verdict;
       stable = verdict-stable c.args.market.now c.args.placement.now
           (NotAcceptable c.in-Some-first_not_acceptable.candidate) verdict;
     }
@@ -47,7 +52,11 @@ returns-in_default-first_to_block g c =
       };
       unblocked = λ i p b. c.in_default-first_to_block.ensures i (p, b);
     } in
-    record { verdict = verdict; stable = verdict-stable m held Stable verdict }
+    record {
+      verdict = verdict;
+      first = first-verdict m held c.requires.programmes c.requires.candidates Stable verdict;
+      stable = verdict-stable m held Stable verdict;
+    }
 
 pub returns : goal.returns
 returns g c =
@@ -64,4 +73,9 @@ returns g c =
       first_candidate = λ j q l b. first.first j l (q, b);
       first_entry = entry.first;
     } in
-    record { verdict = verdict; stable = verdict-stable m held (Blocking i p) verdict }
+    record {
+      verdict = verdict;
+      first = first-verdict m held c.requires.programmes c.requires.candidates (Blocking i p)
+          verdict;
+      stable = verdict-stable m held (Blocking i p) verdict;
+    }

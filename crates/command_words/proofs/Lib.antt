@@ -1,0 +1,2 @@
+-- what holds of a command that words give
+pub mod Fitting

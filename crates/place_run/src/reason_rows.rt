@@ -1,0 +1,172 @@
+// The reasons of a placement, as a text that is made a candidate at a time while it is written.
+
+ghost use Rattle.std.specs.Prelude.{◌≡◌, ◌+◌, ◌++◌, ◌<◌, ◌≤◌, length};
+ghost use Rattle.std.specs.List.{flat_map, range_with_len};
+ghost use Rattle.market.specs.Problems.{list_of};
+ghost use Rattle.place_edges.specs.Sink.{IsWritten};
+ghost use Rattle.candidate_table.specs.Table.{numbers_of};
+ghost use Rattle.programme_table.specs.Table.{codes_of};
+ghost use Rattle.record_files.specs.Texts.{IsShort, text_of};
+ghost use Rattle.reports.specs.BaseTables.{IsBaseTable};
+ghost use Rattle.place_run.specs.Placings.{IsNamedPlacement};
+ghost use Rattle.place_run.specs.commands.Reasons.{candidate_rows, entry_row, reason_base as base_of, reason_word as word_of, reasons_text};
+
+use crate::placing::Placed;
+use crate::rank_fields::rank_field;
+use place_base::Finder;
+use place_edges::{Failed, Sink, write_whole};
+use record_files::{Field, RowBuffer};
+use reports::{BaseRanks, Reason, reason};
+use std::marker::Model;
+
+// A placement with its base ranks. Contracts see the text of its reasons.
+#[derive(Drop)]
+pub(crate) struct ReasonRows {
+    placed: Placed,
+    bases: BaseRanks,
+}
+
+impl Model for ReasonRows {
+    ghost use Rattle.std.specs.Prelude.{ℕ, List};
+    ghost use Rattle.candidate_table.specs.Table.{numbers_of};
+    ghost use Rattle.programme_table.specs.Table.{codes_of};
+    ghost use Rattle.place_run.specs.commands.Reasons.{reasons_text};
+    ghost use Rattle.place_run.specs.Placings.{AreReasonRows};
+
+    ghost Value = { List ℕ };
+
+    ghost view = { λ r. reasons_text (codes_of r.placed.problem.programmes.rows)
+        (numbers_of r.placed.problem.numbers) r.placed.problem.market r.placed.placement };
+
+    ghost invariant = { λ r. AreReasonRows r.placed r.bases };
+}
+
+impl ReasonRows {
+    // The reasons of this placement, which has these base ranks. It takes no memory.
+    pub(crate) fn new(placed: Placed, bases: BaseRanks) -> ReasonRows
+        requires named { IsNamedPlacement placed.problem placed.placement }
+        requires bases { IsBaseTable placed.problem.market placed.placement bases }
+        ensures { result ≡ reasons_text (codes_of placed.problem.programmes.rows)
+            (numbers_of placed.problem.numbers) placed.problem.market placed.placement }
+    {
+        ReasonRows { placed, bases }
+    }
+
+    // Writes the text, and takes no memory for it.
+    pub(crate) fn write<K: Sink>(&self, out: &mut K) -> Result<(), Failed>
+        ensures { IsWritten self.now result (K.written out.old) (K.written out.new)
+            (K.faults out.old) (K.faults out.new) }
+    {
+        write_reasons(&self.placed, &self.bases, out)
+    }
+}
+
+// Writes the reasons of a placement with these base ranks: a header, and then the rows.
+fn write_reasons<K: Sink>(placed: &Placed, bases: &BaseRanks, out: &mut K) -> Result<(), Failed>
+    requires named { IsNamedPlacement placed.now.problem placed.now.placement }
+    requires bases { IsBaseTable placed.now.problem.market placed.now.placement bases.now }
+    ensures { IsWritten (reasons_text (codes_of placed.now.problem.programmes.rows)
+        (numbers_of placed.now.problem.numbers) placed.now.problem.market placed.now.placement)
+        result (K.written out.old) (K.written out.new) (K.faults out.old) (K.faults out.new) }
+{
+    let mut rows = RowBuffer::new();
+    rows.put_row_4(
+        Field::Text(b"candidate"),
+        Field::Text(b"programme"),
+        Field::Text(b"reason"),
+        Field::Text(b"base"),
+    );
+    write_whole(out, rows.bytes())?;
+    write_rows(placed, bases, &mut rows, out)
+}
+
+// Writes the rows of a candidate after the other, each candidate's from the buffer.
+fn write_rows<K: Sink>(
+    placed: &Placed,
+    bases: &BaseRanks,
+    rows: &mut RowBuffer,
+    out: &mut K,
+) -> Result<(), Failed>
+    requires named { IsNamedPlacement placed.now.problem placed.now.placement }
+    requires bases { IsBaseTable placed.now.problem.market placed.now.placement bases.now }
+    ensures { IsWritten (flat_map (candidate_rows (codes_of placed.now.problem.programmes.rows)
+        (numbers_of placed.now.problem.numbers) placed.now.problem.market placed.now.placement)
+        (range_with_len 0 (length placed.now.problem.market.lists)))
+        result (K.written out.old) (K.written out.new) (K.faults out.old) (K.faults out.new) }
+{
+    for candidate in 0..placed.problem.market.candidate_count() {
+        fill(rows, placed, bases, candidate);
+        write_whole(out, rows.bytes())?;
+    }
+    Ok(())
+}
+
+// Puts the rows of a candidate into the buffer, in place of what it has.
+fn fill(rows: &mut RowBuffer, placed: &Placed, bases: &BaseRanks, candidate: u32)
+    requires named { IsNamedPlacement placed.now.problem placed.now.placement }
+    requires bases { IsBaseTable placed.now.problem.market placed.now.placement bases.now }
+    requires candidate { candidate < length placed.now.problem.market.lists }
+    ensures { rows.new ≡ candidate_rows (codes_of placed.now.problem.programmes.rows)
+        (numbers_of placed.now.problem.numbers) placed.now.problem.market placed.now.placement
+        candidate }
+{
+    rows.clear();
+    let places = placed.problem.market.list(candidate).len() as u32;
+    for place in 0..places {
+        put_entry(rows, placed, bases, candidate, place);
+    }
+}
+
+// Appends the row of the entry at a place of a candidate's list.
+fn put_entry(
+    rows: &mut RowBuffer,
+    placed: &Placed,
+    bases: &BaseRanks,
+    candidate: u32,
+    place: u32,
+)
+    requires room { length rows.old + 96 ≤ 4096 }
+    requires named { IsNamedPlacement placed.now.problem placed.now.placement }
+    requires bases { IsBaseTable placed.now.problem.market placed.now.placement bases.now }
+    requires candidate { candidate < length placed.now.problem.market.lists }
+    requires place { place < length (list_of placed.now.problem.market candidate) }
+    ensures text { rows.new ≡ rows.old ++ entry_row (codes_of placed.now.problem.programmes.rows)
+        (numbers_of placed.now.problem.numbers) placed.now.problem.market placed.now.placement
+        candidate place }
+    ensures len { length rows.new ≤ length rows.old + 84 }
+{
+    let problem = &placed.problem;
+    let programme = problem.market.list(candidate)[place as usize];
+    let reason = reason(&problem.market, &placed.placement, bases, candidate, place);
+    rows.put_row_4(
+        Field::Number(problem.numbers.number_at(candidate)),
+        Field::Number(problem.programmes.number_at(programme)),
+        Field::Text(reason_word(reason).as_bytes()),
+        reason_base(reason),
+    );
+}
+
+// The word of a reason.
+fn reason_word(reason: Reason) -> &'static str
+    ensures word { result.now ≡ word_of reason }
+    ensures short { length result.now ≤ 16 }
+{
+    match reason {
+        Reason::Placed => "PLACED",
+        Reason::Below => "BELOW",
+        Reason::NoRank => "NORANK",
+        Reason::Full(_) => "FULL",
+    }
+}
+
+// The base rank that stands beside a reason, a dash for none.
+fn reason_base(reason: Reason) -> Field<'static>
+    ensures text { text_of result ≡ base_of reason }
+    ensures short { IsShort result }
+    ensures len { length (text_of result) ≤ 20 }
+{
+    match reason {
+        Reason::Full(base) => rank_field(base),
+        Reason::Placed | Reason::Below | Reason::NoRank => Field::Text(b"-"),
+    }
+}
