@@ -57,7 +57,7 @@ impl Model for Inputs {
 impl Inputs {
     // Reads the files that the words 2 to 4 name: each is read and judged before the next is
     // opened.
-    pub(crate) fn read<R: Threads, H: Shelf>(
+    pub(crate) fn read<R: Threads + Sync, H: Shelf>(
         rt: &R,
         alloc: Global,
         words: &[String],
@@ -151,7 +151,7 @@ pub(crate) fn word(words: &[String], place: usize) -> &str
 }
 
 // Reads the programmes file.
-fn read_programmes<R: Threads, H: Shelf>(
+fn read_programmes<R: Threads + Sync, H: Shelf>(
     rt: &R,
     alloc: Global,
     shelf: &mut H,
@@ -170,7 +170,7 @@ fn read_programmes<R: Threads, H: Shelf>(
 }
 
 // Reads the candidates file, beside the programmes.
-fn read_candidates<R: Threads, H: Shelf>(
+fn read_candidates<R: Threads + Sync, H: Shelf>(
     rt: &R,
     alloc: Global,
     shelf: &mut H,
@@ -193,7 +193,7 @@ fn read_candidates<R: Threads, H: Shelf>(
 }
 
 // Reads the ranks file, beside the types of the programmes and the candidates.
-fn read_ranks<R: Threads, H: Shelf>(
+fn read_ranks<R: Threads + Sync, H: Shelf>(
     rt: &R,
     alloc: Global,
     shelf: &mut H,

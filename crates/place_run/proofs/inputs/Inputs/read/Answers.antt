@@ -15,7 +15,7 @@ returns-in_err-programmes-clause-reading g c =
     (first-stops _ (texts c.args.words.now) stop _ _ _ _ one)
 
 pub read_candidates-requires-clause-granted : goal.read_candidates-requires-clause-granted
-read_candidates-requires-clause-granted g c =
+read_candidates-requires-clause-granted g c κs within =
     let programmes = c.in_ok-programmes.programmes in
     let one = judged-as _ _ _ _ programmes_said (Ok programmes) _ _ _ _ refl c.word.ensures
     c.in_ok-programmes.ensures.judged in
@@ -35,7 +35,7 @@ returns-in_err-candidates-clause-reading g c =
     (second-stops _ (texts c.args.words.now) programmes stop _ _ _ _ _ _ one two)
 
 pub read_ranks-requires-clause-granted : goal.read_ranks-requires-clause-granted
-read_ranks-requires-clause-granted g c =
+read_ranks-requires-clause-granted g c κs within =
     let programmes = c.in_ok-programmes.programmes in
     let candidates = c.in_ok-candidates.candidates in
     let one = judged-as _ _ _ _ programmes_said (Ok programmes) _ _ _ _ refl c.word.ensures
