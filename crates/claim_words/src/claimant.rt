@@ -27,12 +27,14 @@ pub fn claim(round: &SharedRound, me: &mut WorkSeat) -> Option<u32>
     me.claim = Some(ClaimCopy {
         turn,
         passed: 0,
+        looked: false,
         met: false,
     });
     Some(turn)
 }
 
-/// Reads the seat count of the next entry of the claimed turn's list. `true` comes exactly where it
+/// Reads the seat count of the next entry of the claimed turn's list, whose flag was found lowered.
+/// `true` comes exactly where it
 /// has reached the quota; the entry is then passed, and else met.
 pub fn read_entry(round: &SharedRound, dict: &Dict, me: &mut WorkSeat) -> bool
     requires seat { IsSeatOf round.now me.old }
@@ -51,10 +53,15 @@ pub fn read_entry(round: &SharedRound, dict: &Dict, me: &mut WorkSeat) -> bool
     me.claim = Some(if full {
         ClaimCopy {
             passed: claim.passed + 1,
+            looked: false,
             ..claim
         }
     } else {
-        ClaimCopy { met: true, ..claim }
+        ClaimCopy {
+            looked: true,
+            met: true,
+            ..claim
+        }
     });
     full
 }

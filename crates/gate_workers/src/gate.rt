@@ -2,7 +2,7 @@
 
 /// A point of a worker's way through its turns. `BeforeRead` stands before the reading of an
 /// entry; every other point stands after its step.
-#[derive(Clone, Copy)]
+#[derive(Clone, Copy, PartialEq, Eq, Debug)]
 pub enum GatePoint {
     /// This turn was drawn.
     Claimed(u32),

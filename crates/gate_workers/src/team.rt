@@ -2,7 +2,7 @@
 
 ghost use Rattle.std.specs.Prelude.{◌≡◌, ℕ, ◌+◌, ◌<◌, ◌≤◌, length, slice_index_or, IfOk, is_ok, if◌then◌else◌};
 ghost use Rattle.word_rule.specs.declared.seat.WorkSeat.{WorkSeat};
-ghost use Rattle.word_rule.specs.Rounds.{dict_of};
+ghost use Rattle.word_rule.specs.Rounds.{key_of, dict_of, AreNew};
 ghost use Rattle.gate_workers.specs.Workers.{IsReady, HasFinished};
 
 use crate::gate::Gate;
@@ -34,12 +34,32 @@ pub fn run_team<R: Threads + Sync, G: Gate, L: Ledger>(
     ensures every { IfOk result (λ words. words.committed ≡ length dict.now.lists) }
     ensures turns { turns.new ≡ turns.old + (if is_ok result then length dict.now.lists else 0) }
 {
-    let (round, mut seats) = open_round(alloc, dict, workers)?;
+    let (round, seats) = open_round(alloc, dict, workers)?;
+    let words = run_round(rt, round, seats, dict, gate);
+    turns.count(u64::from(dict.turns()));
+    Ok(words)
+}
+
+// Runs an open round by its seats, each lent to a worker, to its end: the seats that have worked
+// are joined into one, which commits the turns that are left. It takes no memory.
+fn run_round<R: Threads + Sync, G: Gate>(
+    rt: &R,
+    round: SharedRound,
+    mut seats: Vec<WorkSeat>,
+    dict: &Dict,
+    gate: &G,
+) -> Words
+    requires dict { dict.now ≡ dict_of round }
+    requires new { AreNew round seats.items }
+    requires some { 0 < length seats.items }
+    requires all { length seats.items ≡ (key_of round).workers }
+    ensures dict { result.dict ≡ dict.now }
+    ensures every { result.committed ≡ length dict.now.lists }
+{
     run_all(rt, &round, dict, seats.as_mut_slice(), gate);
     let mut last = join_all(&round, seats);
     let _ = commit_prefix(&round, dict, &mut last);
-    turns.count(u64::from(dict.turns()));
-    Ok(close_round(round, last))
+    close_round(round, last)
 }
 
 // Lends each seat to a worker, until all have worked. A worker for which no thread can be made

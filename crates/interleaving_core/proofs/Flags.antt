@@ -8,15 +8,15 @@ use Rattle.std.proofs.lemmas.Bool.{lt-ltb, le-ltb, eqb-true, not-false, and_part
 use Rattle.std.proofs.lemmas.Nat.Bits.{bit_at_or, bit_at-lt, bit_at-zero, bit_at-pow_same, bit_at-pow_other}
 use Rattle.std.proofs.lemmas.List.{length-map, get_or-drop, get_or_past, length-drop, length-take}
 use Rattle.std.proofs.lemmas.List.FromFn.{length-range_with_len, get_or-map-range_with_len}
-use Rattle.std.proofs.lemmas.List.Sums.{fails_before_first}
+use Rattle.std.proofs.lemmas.List.Sums.{position_or_len_is, fails_before_first}
 use Rattle.std.proofs.lemmas.List.Folds.{length-prefix_len}
 use mathlib.Core.Logic.{dite}
 use native.Mathlib.Decide.{ℕ_discrete}
 use Rattle.market.specs.Dictatorships.{Dictatorship, list_at}
 use Rattle.interleaving_core.specs.declared.limits.TheConstants.{FLAGS_PER_WORD}
-use Rattle.interleaving_core.specs.Flags.{flag_word_count, flag_group, flag_bit, is_raised_in, with_flag, begins_full, with_bit_if, word_of, first_flag_word, first_flags}
+use Rattle.interleaving_core.specs.Flags.{flag_word_count, flag_group, flag_bit, is_raised_in, with_flag, begins_full, begins_full_at, with_bit_if, word_of, first_flag_word, first_flags}
 use Rattle.interleaving_core.specs.Core.{entry}
-use Rattle.interleaving_core.specs.Events.{is_raised_among, place_past_flags}
+use Rattle.interleaving_core.specs.Events.{is_raised_among, place_past_flags, shares_flag_word, claim_past_flags}
 use Rattle.interleaving_core.specs.Sound.{bit}
 
 -- ---- one bit
@@ -54,6 +54,21 @@ word_below f (suc n) b l =
     (bit_set (f n) (word_of f n) n (word_above f n n (omega arith))))
     (λ other. bit_kept (f n) (word_of f n) n b other ∙ word_below f n b (omega arith))
 
+-- a word of flags at the opening, made bit by bit
+pub word_begins : (d : Dictatorship) (group : ℕ) → 0 ≡ word_of (begins_full_at d group) 0
+unfolding word_of
+word_begins d group = refl
+
+-- the next bit, by whether its programme is full
+pub word_more : (d : Dictatorship) (group n word : ℕ) (full : Bool)
+    → word ≡ word_of (begins_full_at d group) n
+    → full ≡ begins_full d (FLAGS_PER_WORD * group + n)
+    → with_bit_if full word n ≡ word_of (begins_full_at d group) (n + 1)
+unfolding word_of
+word_more d group n word full is test =
+    let next : suc n ≡ n + 1 = omega arith in
+    (λ k. with_bit_if (test k) (is k) n) ∙ ap (word_of (begins_full_at d group)) next
+
 -- a bit is 1 where it is not 0, by its test
 pub test_of_bit : (t : Bool) (b : ℕ) → b ≡ bit t → eqb b 1 ≡ t
 test_of_bit true b e = eq-eqb b 1 e
@@ -80,7 +95,7 @@ pub first_raised : (d : Dictatorship) (p : ℕ) → p < length d.quota
     → is_raised_in (get_or (first_flags d) (flag_group p) 0) p
     ≡ nat_le (get_or d.quota p 0) (get_or d.fill p 0)
 first_raised d p l =
-    let f = λ (b : ℕ). begins_full d (FLAGS_PER_WORD * flag_group p + b) in
+    let f = begins_full_at d (flag_group p) in
     let same : FLAGS_PER_WORD * flag_group p + flag_bit p ≡ p = omega arith in
     test_of_bit _ _
     (ap (λ (w : ℕ). bit_at w (flag_bit p)) (first_word_at d (flag_group p) (omega arith))
@@ -106,7 +121,7 @@ pub first_unused : (d : Dictatorship) (group b : ℕ) → b < FLAGS_PER_WORD
 first_unused d group b l past =
     let p : ℕ = FLAGS_PER_WORD * group + b in
     first_bit d group b
-    (word_below (λ (b : ℕ). begins_full d (FLAGS_PER_WORD * group + b)) FLAGS_PER_WORD b l
+    (word_below (begins_full_at d group) FLAGS_PER_WORD b l
     ∙ ap (λ t. bit (t && nat_le (get_or d.quota p 0) (get_or d.fill p 0)))
     (le-ltb p (length d.quota) past))
 
@@ -115,7 +130,7 @@ pub first_narrow : (d : Dictatorship) (group b : ℕ) → FLAGS_PER_WORD ≤ b
     → bit_at (get_or (first_flags d) group 0) b ≡ 0
 first_narrow d group b past =
     first_bit d group b
-    (word_above (λ (b : ℕ). begins_full d (FLAGS_PER_WORD * group + b)) FLAGS_PER_WORD b past)
+    (word_above (begins_full_at d group) FLAGS_PER_WORD b past)
 
 -- ---- a flag is raised
 
@@ -194,3 +209,76 @@ raised_before d k j word i from l =
     not-false _ (subst (λ (p : ℕ). not (is_raised_among group word p) ≡ false) at fails) in
     let parts = and_parts _ _ raised in
     (eqb-true _ _ parts.0, parts.1)
+
+-- where the entries from j on up to i, and that one not, are raised, the look passes up to i
+past_flags_is : (d : Dictatorship) (k j word i : ℕ) → j ≤ i → i ≤ length (list_at d k)
+    → ((n : ℕ) → j ≤ n → n < i
+    → is_raised_among (flag_group (entry d k j)) word (entry d k n) ≡ true)
+    → (i < length (list_at d k)
+    → is_raised_among (flag_group (entry d k j)) word (entry d k i) ≡ false)
+    → place_past_flags d k j word ≡ i
+past_flags_is d k j word i from within raised lowered =
+    let list = list_at d k in
+    let rest = drop j list in
+    let stops = λ (p : ℕ). not (is_raised_among (flag_group (entry d k j)) word p) in
+    let long = length-drop j list in
+    let at : (n : ℕ) → get_or rest n 0 ≡ entry d k (j + n) = λ n. get_or-drop j list n 0 in
+    let found = position_or_len_is stops rest (i - j) 0 (omega arith)
+    (λ n l. ap stops (at n) ∙ ap not (raised (j + n) (omega arith) (omega arith)))
+    (λ l.
+    let here : j + (i - j) ≡ i = omega arith in
+    ap stops (at (i - j)) ∙ (ap (λ (n : ℕ). stops (entry d k n)) here
+    ∙ ap not (lowered (omega arith)))) in
+    omega arith
+
+-- the claim of a look that comes to a flag which is elsewhere, or lowered
+pub stopped_at : (d : Dictatorship) (k j word i : ℕ) → j ≤ i → i < length (list_at d k)
+    → ((n : ℕ) → j ≤ n → n < i
+    → is_raised_among (flag_group (entry d k j)) word (entry d k n) ≡ true)
+    → is_raised_among (flag_group (entry d k j)) word (entry d k i) ≡ false
+    → record {
+      turn = k;
+      passed = i;
+      looked = eqb (flag_group (entry d k i)) (flag_group (entry d k j));
+      met = false;
+    } ≡ claim_past_flags d k j word
+stopped_at d k j word i from inside raised lowered =
+    let is = past_flags_is d k j word i from (omega arith) raised (λ _. lowered) in
+    let here = lt-ltb i (length (list_at d k)) inside in
+    (λ z. record {
+      turn = k;
+      passed = i;
+      looked = sym here z && eqb (flag_group (entry d k i)) (flag_group (entry d k j));
+      met = false;
+    })
+    ∙ ap
+    (λ (n : ℕ). record {
+      turn = k;
+      passed = n;
+      looked = shares_flag_word d k j n;
+      met = false;
+    })
+    (sym is)
+
+-- the claim of a look that passes the whole list
+pub passed_all : (d : Dictatorship) (k j word i : ℕ) → j ≤ i → i ≡ length (list_at d k)
+    → ((n : ℕ) → j ≤ n → n < i
+    → is_raised_among (flag_group (entry d k j)) word (entry d k n) ≡ true)
+    → record { turn = k; passed = i; looked = false; met = false } ≡ claim_past_flags d k j word
+passed_all d k j word i from end raised =
+    let is = past_flags_is d k j word i from (omega arith) raised (λ l. absurd (omega arith)) in
+    let past = le-ltb i (length (list_at d k)) (omega arith) in
+    (λ z. record {
+      turn = k;
+      passed = i;
+      looked = sym past z && eqb (flag_group (entry d k i)) (flag_group (entry d k j));
+      met = false;
+    })
+    ∙ ap
+    (λ (n : ℕ). record {
+      turn = k;
+      passed = n;
+      looked = shares_flag_word d k j n;
+      met = false;
+    })
+    (sym is)

@@ -168,25 +168,26 @@ module _ (s : Inside) (i : ℕ) (w u : Worker) (room : vec_capacity u.own ≡ ve
       (acted s _ i w u (Seats c j) _ x (ap (λ b. tells.Seated b) last)
       (is ∙ ap (λ b. with_hold (view_of w) (hold_at c (Seated j b))) last) room refl refl refl)
 
-  pub raises_flag : (c j p word raised : ℕ) → MayAct s i w (Raises c j) → p ≡ entry s.dict c j
+  pub raises_flag : (c j p group word raised : ℕ) → MayAct s i w (Raises c j)
+      → p ≡ entry s.dict c j → group ≡ flag_group p
       → word ≡ get_or s.flags.items (flag_group p) 0 → raised ≡ with_flag word p
       → view_of u ≡ with_hold (view_of w) (hold_at c (Raised j))
       → Acted s record s {
-        flags = with_item s.flags (flag_group p) raised;
+        flags = with_item s.flags group raised;
         workers = with_item s.workers i u;
       } i Raise (tells.Raised p)
-  raises_flag c j p word raised x which read is_raised is =
+  raises_flag c j p group word raised x which its read is_raised is =
       let q : ℕ = entry s.dict c j in
       let old : word ≡ get_or s.flags.items (flag_group q) 0 =
       read ∙ ap (λ (n : ℕ). get_or s.flags.items (flag_group n) 0) which in
       let new : raised ≡ with_flag (get_or s.flags.items (flag_group q) 0) q =
       is_raised ∙ (λ k. with_flag (old k) (which k)) in
       subst
-      (λ (z : ℕ × ℕ). Acted s record s {
-        flags = with_item s.flags (flag_group z.0) z.1;
+      (λ (z : ℕ × (ℕ × ℕ)). Acted s record s {
+        flags = with_item s.flags z.1.0 z.1.1;
         workers = with_item s.workers i u;
       } i Raise (tells.Raised z.0))
-      (λ k. (sym which k, sym new k))
+      (λ k. (sym which k, (sym (its ∙ ap (λ (n : ℕ). flag_group n) which) k, sym new k)))
       (acted s _ i w u (Raises c j) _ x refl is room refl refl refl)
 
   pub seals_turn : (c j : ℕ) (phase : Phase) → MayAct s i w (Seals c j phase)

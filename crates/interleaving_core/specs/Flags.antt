@@ -31,6 +31,10 @@ abbrev pub begins_full : Dictatorship → ℕ → Bool
 begins_full d p =
     nat_lt p (length d.quota) && nat_le (slice_index d.quota p) (slice_index d.fill p)
 
+-- the same for the programme at a bit of a word of flags
+abbrev pub begins_full_at : Dictatorship → ℕ → ℕ → Bool
+begins_full_at d group b = begins_full d (FLAGS_PER_WORD * group + b)
+
 -- the word with bit n set too, or as it was
 abbrev pub with_bit_if : Bool → ℕ → ℕ → ℕ
 with_bit_if true word n = bit_or word (2 ^ n)
@@ -43,8 +47,7 @@ word_of f (suc n) = with_bit_if (f n) (word_of f n) n
 
 -- the word of flags that has those of a group of programmes, before the first turn
 abbrev pub first_flag_word : Dictatorship → ℕ → ℕ
-first_flag_word d group =
-    word_of (λ b. begins_full d (FLAGS_PER_WORD * group + b)) FLAGS_PER_WORD
+first_flag_word d group = word_of (begins_full_at d group) FLAGS_PER_WORD
 
 -- the words of flags before the first turn: the flags of exactly the full programmes are raised
 abbrev pub first_flags : Dictatorship → List ℕ

@@ -61,7 +61,7 @@
 // How many workers there may be, and how many flags a word has.
 mod limits;
 // Words of flags: where the flag of a programme stands, and what a look at a word passes.
-mod flags;
+mod flag_words;
 // What a core state is made of: cells, claims, own turns, phases, holdings.
 mod parts;
 // The eleven events, and what each tells.
@@ -80,7 +80,7 @@ mod entries;
 mod tests;
 
 pub use events::{CoreEvent, NotNow, Told};
-pub use flags::{first_flag_word, flag_group, flag_mask, flag_word_count, is_raised_in, past_flags};
+pub use flag_words::{first_flag_word, flag_group, flag_mask, flag_word_count, is_raised_in, past_flags};
 pub use law::any_run;
 pub use limits::{FLAGS_PER_WORD, MAX_WORKERS};
 pub use parts::{Cell, Claiming, Holding, OwnTurn, Phase};

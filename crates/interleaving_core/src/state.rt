@@ -12,7 +12,7 @@ mod claimant;
 mod holder;
 
 use crate::events::{CoreEvent, NotNow, Told};
-use crate::flags::first_flags;
+use crate::flag_words::first_flags;
 use crate::limits::MAX_WORKERS;
 use crate::opening::fresh_workers;
 use crate::parts::Cell;

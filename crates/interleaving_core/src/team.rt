@@ -188,7 +188,8 @@ impl Worker {
         };
         let turn = holding.committed;
         match holding.phase {
-            Phase::Seated(place, false) | Phase::Raised(place) => Ok((turn, place)),
+            Phase::Seated(place, filled) if !filled => Ok((turn, place)),
+            Phase::Raised(place) => Ok((turn, place)),
             Phase::Scan(place) if place == list_length(dict, turn) => Ok((turn, place)),
             _ => Err(NotNow),
         }

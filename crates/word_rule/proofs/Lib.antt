@@ -4,6 +4,7 @@ pub mod Undrawn
 pub mod Keeps
 pub mod Claimant
 pub mod Holder
+pub mod HolderCopies
 pub mod Shares
 pub mod Openings
 pub mod Alone

@@ -2,7 +2,7 @@
 use Rattle.std.specs.Prelude.{◌≡◌, ℕ, ◌<◌, ◌≤◌, Bool, true, length, Option, Some, None}
 use Rattle.market.specs.Dictatorships.{Dictatorship, list_at}
 use Rattle.interleaving_core.specs.declared.parts.Phase.{Phase}
-use Rattle.interleaving_core.specs.declared.parts.Phase.TheVariants.{Scan, Ready, Seated, Raised}
+use Rattle.interleaving_core.specs.declared.parts.Phase.TheVariants.{Idle, Halted, Scan, Ready, Seated, Raised}
 use Rattle.interleaving_core.specs.declared.parts.Holding.{Holding}
 use Rattle.interleaving_core.specs.Core.{View, turn_count, claim_at, hold_at}
 
@@ -11,6 +11,15 @@ use Rattle.interleaving_core.specs.Core.{View, turn_count, claim_at, hold_at}
 abbrev pub holding_of : Option Phase → ℕ → Option Holding
 holding_of None committed = None
 holding_of (Some phase) committed = hold_at committed phase
+
+-- the place of a phase, 0 where it has none
+abbrev pub place_of : Phase → ℕ
+place_of Idle = 0
+place_of Halted = 0
+place_of (Scan j) = j
+place_of (Ready j) = j
+place_of (Seated j filled) = j
+place_of (Raised j) = j
 
 -- the turns and places that a view speaks of are those of the round
 pub record IsInRange (d : Dictatorship) (v : View) : Type 0 where

@@ -18,7 +18,7 @@ pub fn raise_step(round: &SharedRound, dict: &Dict, me: &mut WorkSeat)
     ensures stays { Stays me.old me.new }
     ensures event { IsRaise me.old me.new }
 {
-    let Some(PhaseCopy::Seated(place, true)) = me.phase else {
+    let Some(PhaseCopy::Seated(place, _)) = me.phase else {
         unreachable!()
     };
     let programme = dict.list(me.committed)[place as usize];

@@ -4,7 +4,7 @@ ghost use Rattle.std.specs.Prelude.{◌≡◌, IfOk};
 ghost use Rattle.word_rule.specs.Rounds.{knows, dict_of, shares_of, AreOver};
 ghost use Rattle.commit_book.specs.Seats.{IsWorking, AreWorking};
 
-use super::{commits, draws, ends, posts, reads};
+use super::{commits, draws, ends, looks_at_flags, posts, reads};
 use market::{Dict, List};
 use std::alloc::{AllocError, Global};
 use std::process::Abort;
@@ -24,8 +24,13 @@ fn many_turns(alloc: Global) -> Result<Dict, AllocError> {
     Ok(Dict::from_parts(quota, fill, lists))
 }
 
-// The seat reads its turn's list up to the first entry with a seat left, posts the turn there, and
-// commits what it then can.
+// Whether the seat has passed all three entries of its turn's list.
+fn is_at_end(me: &WorkSeat) -> bool {
+    matches!(me.claim, Some(claim) if claim.passed >= 3)
+}
+
+// The seat goes along its turn's list up to the first entry with a seat left, posts the turn there,
+// and commits what it then can.
 fn works(rt: &impl Abort, round: &SharedRound, dict: &Dict, me: &mut WorkSeat) -> Option<u32>
     requires ready { IsWorking round.now me.old }
     requires dict { dict.now ≡ dict_of round.now }
@@ -33,7 +38,7 @@ fn works(rt: &impl Abort, round: &SharedRound, dict: &Dict, me: &mut WorkSeat) -
     ensures share { (knows me.new).share ≡ (knows me.old).share }
 {
     for _entry in 0..3 {
-        if !reads(rt, round, dict, me) {
+        if is_at_end(me) || looks_at_flags(rt, round, dict, me) && !reads(rt, round, dict, me) {
             break;
         }
     }

@@ -6,7 +6,7 @@ ghost use Rattle.interleaving_core.specs.Runs.{Answers};
 
 use crate::entries::{entry_at, has_seat};
 use crate::events::{NotNow, Told};
-use crate::flags::{flag_group, past_flags};
+use crate::flag_words::{flag_group, past_flags};
 use crate::parts::{Cell, Claiming, OwnTurn};
 use crate::state::CoreState;
 

@@ -6,7 +6,7 @@ ghost use Rattle.interleaving_core.specs.Runs.{Answers};
 
 use crate::entries::{entry_at, has_seat};
 use crate::events::{NotNow, Told};
-use crate::flags::{flag_group, flag_mask};
+use crate::flag_words::{flag_group, flag_mask};
 use crate::parts::{Cell, Holding, Phase};
 use crate::state::CoreState;
 

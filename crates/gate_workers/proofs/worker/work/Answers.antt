@@ -1,7 +1,11 @@
 use Rattle.std.proofs.Common.{ap, ◌∙◌, arith}
 use Rattle.interleaving_core.specs.Core.{turn_count}
-use Rattle.gate_workers.proofs.Turns.{stays_on, one_turn}
+use Rattle.gate_workers.proofs.Turns.{stays_on, one_turn, has_posted}
 use Rattle.gate_workers.proofs.worker.work.Goals as goal
+
+pub pass-requires-in-Some-after_bounds : goal.pass-requires-in-Some-after_bounds
+pass-requires-in-Some-after_bounds g c κs within =
+    has_posted _ _ _ _ _ _ c.in-Some.ensures.event c.read_list.ensures.read c.post.ensures.event
 
 pub loop-turn-preserved : goal.loop-turn-preserved
 loop-turn-preserved g c =

@@ -30,7 +30,7 @@ invariant_of-self c =
     c.in_ok-claim.claim.met)
     c.self.invariant c.self.view_is c.requires c.index.ensures c.index_mut-2.ensures.value
     c.in_ok-claim.ensures in
-    (posts_turn c.self.inside _ _ _ c.post.ensures.room _ _ _ x c.post.ensures.view).kept
+    (posts_turn c.self.inside _ _ _ c.post.ensures.room _ _ _ _ x c.post.ensures.view).kept
 
 pub returns : goal.returns
 returns c =
@@ -39,5 +39,5 @@ returns c =
     c.in_ok-claim.claim.met)
     c.self.invariant c.self.view_is c.requires c.index.ensures c.index_mut-2.ensures.value
     c.in_ok-claim.ensures in
-    (posts_turn c.self.inside _ _ _ c.post.ensures.room _ _ _ x c.post.ensures.view).step _
+    (posts_turn c.self.inside _ _ _ c.post.ensures.room _ _ _ _ x c.post.ensures.view).step _
     c.self.view_is

@@ -39,11 +39,12 @@ pub fn is_raised_in(word: u64, programme: u32) -> bool
     (word >> (programme % FLAGS_PER_WORD)) & 1 == 1
 }
 
-// Whether a programme is full before the first turn.
-fn begins_full(dict: &Dict, programme: u32) -> bool
+// Whether a programme, of so many, is full before the first turn.
+fn begins_full(dict: &Dict, programmes: u32, programme: u32) -> bool
+    requires { programmes ≡ length dict.now.quota }
     ensures { result ≡ begins_full dict.now programme }
 {
-    programme < dict.programmes() && dict.quota(programme) <= dict.fill(programme)
+    programme < programmes && dict.quota(programme) <= dict.fill(programme)
 }
 
 /// The word that has the flags of a group of programmes, before the first turn: raised are those
@@ -52,10 +53,12 @@ pub fn first_flag_word(dict: &Dict, group: u32) -> u64
     requires { group < flag_word_count (length dict.now.quota) }
     ensures { result ≡ first_flag_word dict.now group }
 {
+    let programmes = dict.programmes();
     let mut word = 0;
     for bit in 0..FLAGS_PER_WORD {
-        if begins_full(dict, FLAGS_PER_WORD * group + bit) {
-            word |= 1 << bit;
+        let programme = FLAGS_PER_WORD * group + bit;
+        if begins_full(dict, programmes, programme) {
+            word |= flag_mask(programme);
         }
     }
     word
