@@ -1,6 +1,6 @@
 -- The opening words with one seat that stands for every worker are the opening state of the core,
 -- which is sound; and the seats that it is split into stand for every worker.
-use Rattle.std.proofs.Common.{◌≡◌, ℕ, zero, suc, ◌+◌, ◌<◌, ◌≤◌, false, List, [], ◌∷◌, ◌++◌, length, map, take, drop, replicate, Some, sym, refl, ap, inl, subst, ◌∙◌, arith, append-nil, append-assoc, length-append}
+use Rattle.std.proofs.Common.{◌≡◌, ℕ, zero, suc, ◌+◌, ◌<◌, ◌≤◌, false, List, [], ◌∷◌, ◌++◌, length, map, take, drop, replicate, Some, sym, refl, ap, inl, subst, ◌∙◌, arith, append-nil, append_assoc, length-append}
 use Rattle.std.specs.Prelude.{slice_get}
 use Rattle.std.proofs.Math.ListN.{length-replicate}
 use Rattle.std.proofs.Math.Seq.{take-append_seam, drop-append_seam}
@@ -54,7 +54,7 @@ words_open d workers views valid fresh =
     (let e : 2 + programme_count d + turn_count d ≡ suc (suc (length (d.fill ++ zeros))) =
     omega arith in e)
     ∙ (ap (λ (l : List ℕ). drop (length (d.fill ++ zeros)) l)
-    (sym (append-assoc d.fill zeros (first_flags d)))
+    (sym (append_assoc d.fill zeros (first_flags d)))
     ∙ drop-append_seam (d.fill ++ zeros) (first_flags d)) in
     let cells =
     ap (λ (l : List ℕ). map cell_of (take (turn_count d) l)) past
@@ -69,8 +69,9 @@ words_open d workers views valid fresh =
       views = fresh k;
     }
 
-wide : (d : Dictatorship) → IsValidDictatorship d → length (first_words d) ≡ word_count d
-wide d valid =
+-- there are as many words as there should be
+pub first_words_long : (d : Dictatorship) → IsValidDictatorship d → length (first_words d) ≡ word_count d
+first_words_long d valid =
     let zeros : List ℕ = replicate (turn_count d) 0 in
     let flags : List ℕ = first_flags d in
     let a : length (d.fill ++ (zeros ++ flags)) ≡ length d.fill + length (zeros ++ flags) =
@@ -93,7 +94,7 @@ opens_with_first key valid some few =
     record {
       valid = valid;
       team = few;
-      wide = wide d valid;
+      wide = first_words_long d valid;
       sound =
           let shown = words_open d key.workers (core_views (x ∷ [])) valid views in
           subst (IsSound d) (sym shown) (begins d key.workers valid);

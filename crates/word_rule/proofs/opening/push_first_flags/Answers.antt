@@ -1,4 +1,4 @@
-use Rattle.std.proofs.Common.{◌≡◌, ℕ, ◌+◌, List, [], ◌∷◌, ◌++◌, map, sym, ap, ◌∙◌, arith, append-assoc}
+use Rattle.std.proofs.Common.{◌≡◌, ℕ, ◌+◌, List, [], ◌∷◌, ◌++◌, map, sym, ap, ◌∙◌, arith, append_assoc}
 use Rattle.std.specs.List.{range_with_len}
 use Rattle.std.proofs.lemmas.List.FromFn.{map-range_with_len_more}
 use Rattle.interleaving_core.specs.Flags.{first_flag_word}
@@ -16,7 +16,7 @@ loop-group-preserved c =
       items =
           pushed.items
           ∙ ((λ k. v.items k ++ c.first_flag_word.ensures k ∷ [])
-          ∙ (append-assoc c.args.words.now.items (map f (range_with_len 0 group)) (f group ∷ [])
+          ∙ (append_assoc c.args.words.now.items (map f (range_with_len 0 group)) (f group ∷ [])
           ∙ ap (λ (l : List ℕ). c.args.words.now.items ++ l)
           (sym (map-range_with_len_more f 0 group group (omega arith)))));
       len = omega arith;

@@ -11,8 +11,8 @@ fetch_or-requires c =
     let me = c.args.me.now in
     let round = c.args.round.now in
     let place = c.in-Some-Seated.place in
-    let shown : me.phase ≡ Some (Seated place c.in-Some-Seated.field-1) = search rules in
-    let next = next_raise round me (Seated place c.in-Some-Seated.field-1) c.requires.seat shown
+    let shown : me.phase ≡ Some (Seated place c.in-Some-Seated.field-0-1) = search rules in
+    let next = next_raise round me (Seated place c.in-Some-Seated.field-0-1) c.requires.seat shown
     c.requires.may in
     let list = c.list.ensures ∙ ap (λ d. list_at d me.committed) c.requires.dict in
     let programme = ap (λ l. slice_index_or l place 0) list in
