@@ -11,3 +11,4 @@ pub mod Alone
 pub mod ShownOpenings
 pub mod Endings
 pub mod Seats
+pub mod OnlyProgrammes

@@ -1,5 +1,7 @@
 // Rounds are opened for several numbers of workers.
 
+ghost use Rattle.std.specs.Prelude.{◌≤◌};
+
 use crate::{SharedRound, WorkSeat, open_round};
 use market::{Dict, List};
 use std::alloc::{AllocError, Global};
