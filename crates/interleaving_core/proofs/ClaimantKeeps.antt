@@ -178,12 +178,12 @@ read_flags_keeps d c i v k j valid s at ok =
       passed = within;
       full = λ n m.
           elim (native.Mathlib.Decide.dec_le j n) [
-            yes from ↦ (let raised = raised_before d k j word n from m in
-            raised_full d c s (entry d k n)
-            (valid.list_entries k n was.turn (omega arith))
-            (subst
-            (λ (g : ℕ). is_raised_in (get_or c.flags g 0) (entry d k n) ≡ true)
-            (sym raised.0) raised.1))
+            | yes from ↦ (let raised = raised_before d k j word n from m in
+                raised_full d c s (entry d k n)
+                (valid.list_entries k n was.turn (omega arith))
+                (subst
+                (λ (g : ℕ). is_raised_in (get_or c.flags g 0) (entry d k n) ≡ true)
+                (sym raised.0) raised.1))
             | no before ↦ was.full n (omega arith)
           ];
       met = λ is. absurd (cc (is));

@@ -109,9 +109,9 @@ first_bit : (d : Dictatorship) (group b : ℕ)
     → bit_at (first_flag_word d group) b ≡ 0 → bit_at (get_or (first_flags d) group 0) b ≡ 0
 first_bit d group b none =
     elim (native.Mathlib.Decide.dec_le (flag_word_count (length d.quota)) group) [
-      yes far ↦ (let long = first_flags_long d in
-      ap (λ (w : ℕ). bit_at w b) (get_or_past (first_flags d) group 0 (omega arith))
-      ∙ bit_at-zero b)
+      | yes far ↦ (let long = first_flags_long d in
+          ap (λ (w : ℕ). bit_at w b) (get_or_past (first_flags d) group 0 (omega arith))
+          ∙ bit_at-zero b)
       | no near ↦ ap (λ (w : ℕ). bit_at w b) (first_word_at d group (omega arith)) ∙ none
     ]
 

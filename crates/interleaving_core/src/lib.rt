@@ -80,7 +80,9 @@ mod entries;
 mod tests;
 
 pub use events::{CoreEvent, NotNow, Told};
-pub use flag_words::{first_flag_word, flag_group, flag_mask, flag_word_count, is_raised_in, past_flags};
+pub use flag_words::{
+    first_flag_word, flag_group, flag_mask, flag_word_count, is_raised_in, past_flags,
+};
 pub use law::any_run;
 pub use limits::{FLAGS_PER_WORD, MAX_WORKERS};
 pub use parts::{Cell, Claiming, Holding, OwnTurn, Phase};

@@ -3,9 +3,7 @@
 
 ghost use Rattle.std.specs.Prelude.{◌≡◌, length, IfOk};
 
-use crate::CoreEvent::{
-    Claim, Flags, Look, Post, Raise, Read, Release, Seal, Seat, Take, Weigh,
-};
+use crate::CoreEvent::{Claim, Flags, Look, Post, Raise, Read, Release, Seal, Seat, Take, Weigh};
 use crate::{Cell, CoreEvent, CoreState, Told};
 use market::examples::two_turns;
 use market::{Dict, List};

@@ -9,7 +9,7 @@ replicate_most zero x p = omega arith
 replicate_most (suc n) x zero = omega arith
 replicate_most (suc n) x (suc p) = replicate_most n x p
 
-pub only_valid : (n : ℕ) (quota fill : List ℕ) (lists : List (List ℕ)) → n ≤ 100
+pub only_valid : (n : ℕ) (quota fill : List ℕ) (lists : List (List ℕ)) → n ≤ 200
     → quota ≡ replicate n 1 → fill ≡ replicate n 0 → lists ≡ []
     → IsValidDictatorship (dictatorship quota fill lists)
 only_valid n quota fill lists few quotas fills none =
