@@ -34,8 +34,7 @@ pub fn claim(round: &SharedRound, me: &mut WorkSeat) -> Option<u32>
 }
 
 /// Reads the seat count of the next entry of the claimed turn's list, whose flag was found lowered.
-/// `true` comes exactly where it
-/// has reached the quota; the entry is then passed, and else met.
+/// `true` comes exactly where it has reached the quota; the entry is then passed, and else met.
 pub fn read_entry(round: &SharedRound, dict: &Dict, me: &mut WorkSeat) -> bool
     requires seat { IsSeatOf round.now me.old }
     requires dict { dict.now ≡ dict_of round.now }

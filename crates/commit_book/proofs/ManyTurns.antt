@@ -1,5 +1,5 @@
 -- Many turns with short lists are a valid dictatorship.
-use Rattle.std.proofs.Common.{◌≡◌, ℕ, zero, suc, ◌<◌, ◌≤◌, List, [], ◌∷◌, ◌++◌, length, Some, refl, arith}
+use Rattle.std.proofs.Common.{◌≡◌, ℕ, zero, suc, ◌+◌, ◌<◌, ◌≤◌, List, [], ◌∷◌, ◌++◌, length, length-append, Some, refl, ap, arith}
 use Rattle.std.specs.Prelude.{slice_get, slice_index, slice_index_or}
 use Rattle.std.proofs.lemmas.Option.{slice_get-get_or}
 use Rattle.word_rule.proofs.Seats.{each_snoc}
@@ -31,6 +31,14 @@ small_three programmes a b c la lb lc = record { short = omega arith; below = at
 pub small_snoc : (programmes : ℕ) (l xs : List (List ℕ)) (m : List ℕ) → l ≡ xs ++ m ∷ []
     → AreSmall programmes xs → IsSmall programmes m → AreSmall programmes l
 small_snoc programmes = each_snoc (λ _ list. IsSmall programmes list)
+
+-- how many they are then
+pub count_more : (l xs : List (List ℕ)) (m : List ℕ) → l ≡ xs ++ m ∷ []
+    → length l ≡ length xs + 1
+count_more l xs m is =
+    let more = length-append xs (m ∷ []) in
+    let all = ap (λ (z : List (List ℕ)). length z) is in
+    omega arith
 
 -- the seven programmes, of which no seat is taken, without a turn
 pub seven_programmes_valid : IsValidDictatorship

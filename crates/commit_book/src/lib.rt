@@ -3,8 +3,7 @@
 //! Where a turn takes a programme's last seat, the programme's flag is raised before the turn is
 //! committed.
 //!
-//! Each call on the mark is one atomic operation on one shared word, and one event of the core.
-//! What it answers is told by the word that it finds at that step, whatever other workers do
+//! Each call on the mark moves its seat by one event of the core. What it answers is told by the word that it finds at that step, whatever other workers do
 //! before and after.
 #![tactic(auto)]
 

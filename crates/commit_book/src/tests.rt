@@ -64,8 +64,11 @@ fn looks_at_flags(rt: &impl Abort, round: &SharedRound, dict: &Dict, me: &mut Wo
     let Some(claim) = me.claim else {
         panic!(rt; "no claim")
     };
-    if claim.looked || claim.met {
+    if claim.looked {
         panic!(rt; "a lowered flag was found")
+    }
+    if claim.met {
+        panic!(rt; "an entry is met")
     }
     let places = dict.list(claim.turn).len();
     if claim.passed as usize >= places {
@@ -166,12 +169,12 @@ fn raises(rt: &impl Abort, round: &SharedRound, dict: &Dict, me: &mut WorkSeat)
     raise_flag(round, dict, me);
 }
 
-// The holder commits the turn that it took a seat for, and answers it.
+// The holder commits the turn that it took the last seat of a programme for, and answers it.
 fn seals(rt: &impl Abort, round: &SharedRound, dict: &Dict, me: &mut WorkSeat) -> u32
     requires seat { IsSeatOf round.now me.old × (dict.now ≡ dict_of round.now) }
     ensures step { HasStepped round.now me.old me.new (knows me.old).core.owes }
 {
-    let Some(PhaseCopy::Seated(_, false) | PhaseCopy::Raised(_)) = me.phase else {
+    let Some(PhaseCopy::Raised(_)) = me.phase else {
         panic!(rt; "no turn to commit")
     };
     seal(round, dict, me)

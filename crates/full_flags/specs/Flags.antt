@@ -25,8 +25,8 @@ pub record IsReadFlags (old new : WorkSeat) (answer : ℕ) : Type 0 where
   pub claim : (knows old).core.claim ≡ claim_at turn place false false
   pub view : knows new ≡ flags_by (knows old) (claim_at turn place false false) answer
 
--- whatever the table is while a seat knows this, each programme whose flag was raised in a word
--- that the seat has read is full
+-- whatever the table is while a seat knows this, each flag that was raised in a word that the seat
+-- has read is a programme's, which is full
 abbrev pub KnowsFull : RoundKey → SeatKnows → Type 0
 KnowsFull key x = (s : State ℕ SeatKnows) (i : ℕ) → IsSoundTable key s → IsLive s.views i x
     → HasReadFull key.dict.value (table_core key s).seats x

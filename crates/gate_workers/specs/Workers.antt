@@ -26,13 +26,13 @@ pub record HasRead (old new : WorkSeat) : Type 0 where
   pub moved : HasMoved old new claim
   pub may : MayPost new
 
--- the seat has gone from this place of its turn's list on: to a later one, as far as the list's end,
--- or to an entry that has a seat left
+-- the seat has gone from this place of its turn's list on to a later one, as far as the list's end
 pub record HasPassed (old new : WorkSeat) (turn place next : ℕ) : Type 0 where
   pub moved : HasMoved old new (claim_at turn next false false)
   pub later : place < next
   pub within : next ≤ length (list_at (knows old).dict turn)
 
+-- the seat has met an entry of its turn's list that has a seat left
 pub record HasMet (old new : WorkSeat) (turn : ℕ) : Type 0 where
   pub place : ℕ
   pub moved : HasMoved old new (claim_at turn place true true)

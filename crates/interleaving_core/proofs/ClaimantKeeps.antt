@@ -1,17 +1,18 @@
 -- A claimant's events keep a sound state. A draw gives each turn to one worker; a reading sees a
 -- count that only rises; a post fills a cell that was empty, since the worker claimed it.
-use Rattle.std.proofs.Common.{◌≡◌, ℕ, ◌+◌, ◌<◌, ◌≤◌, ◌≢◌, Bool, true, false, length, get_or, set, Option, Some, None, nat_lt, nat_le, eqb, eq-eqb, ne_eqb, sym, refl, ap, subst, ◌∙◌, arith, length-set, get_or-set_same, get_or-set_other}
+use Rattle.std.proofs.Common.{◌≡◌, ℕ, ◌+◌, ◌*◌, ◌<◌, ◌≤◌, ◌≢◌, Bool, true, false, length, get_or, set, Option, Some, None, nat_lt, nat_le, eqb, eq-eqb, ne_eqb, sym, refl, ap, subst, ◌∙◌, arith, length-set, get_or-set_same, get_or-set_other}
 use Rattle.std.specs.Prelude.{slice_get}
 use Rattle.std.specs.List.{sum_by}
-use Rattle.std.proofs.lemmas.Bool.{ltb-true, ltb-false, leb-true}
+use Rattle.std.proofs.lemmas.Bool.{ltb-true, ltb-false, leb-true, eqb-true}
 use mathlib.Core.Logic.{dite}
 use native.Mathlib.Decide.{ℕ_discrete}
 use Rattle.market.specs.Dictatorships.{Dictatorship, IsValidDictatorship, list_at}
+use Rattle.interleaving_core.specs.declared.limits.TheConstants.{FLAGS_PER_WORD}
 use Rattle.interleaving_core.specs.declared.parts.Cell.{Cell}
 use Rattle.interleaving_core.specs.declared.parts.Cell.TheVariants.{Empty, Posted, Committed}
 use Rattle.interleaving_core.specs.declared.parts.Claiming.{Claiming}
 use Rattle.interleaving_core.specs.declared.parts.Holding.{Holding}
-use Rattle.interleaving_core.specs.Flags.{flag_group, is_raised_in}
+use Rattle.interleaving_core.specs.Flags.{flag_group, flag_bit, is_raised_in}
 use Rattle.interleaving_core.specs.Core.{View, Core, turn_count, entry, quota_of, seats_of, is_open, cell_at, is_committed, is_raised, claim_at}
 use Rattle.interleaving_core.specs.Events.{Claims, ReadsFlags, Reads, Posts, IsAllowed, after_claim_if, with_claim, claim_past_flags, after_read, after_post, after}
 use Rattle.interleaving_core.specs.Sound.{bit, turn_bit, done_bit, claim_bit, empty_bit, IsFullBefore, IsCellFrom, AreSoundOwnTurns, IsSoundClaim, DoesOneThing, IsSound}
@@ -161,6 +162,19 @@ raised_full d c s p l raised =
     up : (b : Bool) → 1 ≤ bit b → b ≡ true
     up true l = refl
     up false l = absurd (omega arith)
+
+-- a flag that is raised is a programme's
+pub raised_inside : (d : Dictatorship) (c : Core) (s : IsSound d c) (p : ℕ)
+    → is_raised c p ≡ true → p < length d.quota
+raised_inside d c s p raised =
+    elim (native.Mathlib.Decide.dec_le (length d.quota) p) [
+      | yes past ↦ absurd
+          (let same : FLAGS_PER_WORD * flag_group p + flag_bit p ≡ p = omega arith in
+          let none = s.flags.unused (flag_group p) (flag_bit p) (omega arith) (omega arith) in
+          let one = eqb-true _ 1 raised in
+          omega arith)
+      | no inside ↦ omega arith
+    ]
 
 -- a look at flags: the entries passed have their flags raised, so they are full
 pub read_flags_keeps : (d : Dictatorship) (c : Core) (i : ℕ) (v : View) (k j : ℕ)

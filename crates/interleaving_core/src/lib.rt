@@ -7,9 +7,9 @@
 //! seat. One worker needs a seat count for each programme and goes through the turns in their
 //! order. Here several workers share the seat counts; a cell for each turn, which is empty,
 //! posted at a place of the turn's list, or committed at a place; a flag for each programme, 64 of
-//! them in a word, which is raised where the programme is full; a claim number, which says how
-//! many turns were drawn; and a mark, which at most one worker holds and which says how many
-//! turns are committed.
+//! them in a word, which is raised where the programme is full, but for the moment between the
+//! seat that filled it and the raising; a claim number, which says how many turns were drawn; and
+//! a mark, which at most one worker holds and which says how many turns are committed.
 //!
 //! # The eleven events
 //!
@@ -26,16 +26,16 @@
 //! holder looks at the cell of the first turn that is not committed (`Look`). Where it is posted,
 //! the holder weighs the entries from the posted place on (`Weigh`), takes a seat at the first
 //! that has one (`Seat`), raises the programme's flag where this seat was the last (`Raise`), and
-//! commits the turn there (`Seal`), or at the end of the list where none has. At an empty cell, or once all turns are committed, it gives the mark back
-//! (`Release`).
+//! commits the turn there (`Seal`), or at the end of the list where none has. At an empty cell, or
+//! once all turns are committed, it gives the mark back (`Release`).
 //!
 //! # Why no event is undone
 //!
 //! A posted place is a guess: other turns may take the seat that the claimant met. But only the
 //! holder raises a seat count, no count ever falls, and so what was full when the claimant passed
 //! it is full for good. A flag is raised only where its programme is full, so it is never lowered
-//! again. A wrong guess is never too late in the list, only too early. The holder
-//! weighs on from there, and nothing that anybody wrote has to be taken back.
+//! again. A wrong guess is never too late in the list, only too early. The holder weighs on from
+//! there, and nothing that anybody wrote has to be taken back.
 //!
 //! # Why what is committed is the answer of one worker
 //!

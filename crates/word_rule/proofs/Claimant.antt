@@ -14,7 +14,7 @@ use Rattle.interleaving_core.specs.Core.{View, Core, turn_count, entry, quota_of
 use Rattle.interleaving_core.specs.Events.{Claims, ReadsFlags, Reads, Posts, IsAllowed, after_claim, after_flags, after_read, after_post, after}
 use Rattle.interleaving_core.specs.Sound.{bit, done_bit, AreSoundOwnTurns}
 use Rattle.interleaving_core.proofs.Places.{at_snoc}
-use Rattle.interleaving_core.proofs.ClaimantKeeps.{raised_full}
+use Rattle.interleaving_core.proofs.ClaimantKeeps.{raised_inside, raised_full}
 use Rattle.word_rule.specs.Layout.{cell_of, core_of, programme_count}
 use Rattle.word_rule.specs.Views.{SeatKnows, SeatMe, with_core, other_view, shared_views, core_views}
 use Rattle.word_rule.specs.Rule.{IsSoundTable, HasReadFull, share_of, table_core}
@@ -94,15 +94,15 @@ flags_released x (Some c) found = refl
 -- one word of flags more, whose raised flags are those of full programmes
 read_one_more : (d : Dictatorship) (seats : List ℕ) (x : SeatKnows) (flags : List (ℕ × ℕ))
     (word : ℕ × ℕ)
-    → ((p : ℕ) → p < length d.quota → flag_group p ≡ word.0 → is_raised_in word.1 p ≡ true
-    → quota_of d p ≤ get_or seats p 0)
+    → ((p : ℕ) → flag_group p ≡ word.0 → is_raised_in word.1 p ≡ true
+    → (p < length d.quota) × (quota_of d p ≤ get_or seats p 0))
     → HasReadFull d seats x → flags ≡ x.flags ++ word ∷ []
     → HasReadFull d seats record x { flags = flags }
-read_one_more d seats x flags word new old is n other at p l group raised =
+read_one_more d seats x flags word new old is n other at p group raised =
     ⊎_elim
-    (λ (t : slice_get x.flags n ≡ Some other). old n other t p l group raised)
+    (λ (t : slice_get x.flags n ≡ Some other). old n other t p group raised)
     (λ (t : (n ≡ length x.flags) × (word ≡ other)).
-    new p l (group ∙ ap (λ (w : ℕ × ℕ). w.0) (sym t.1))
+    new p (group ∙ ap (λ (w : ℕ × ℕ). w.0) (sym t.1))
     (subst (λ (w : ℕ × ℕ). is_raised_in w.1 p ≡ true) (sym t.1) raised))
     (at_snoc x.flags word other n (ap (λ (f : List (ℕ × ℕ)). slice_get f n) (sym is) ∙ at))
 
@@ -234,12 +234,13 @@ module _ (key : RoundKey) where
       let reads : HasReadFull d (seats_in key words) x → HasReadFull d (seats_in key words) y =
       λ old.
       read_one_more d (seats_in key words) x y.flags (group, found)
-      (λ p l its raised.
-      let full = raised_full d (table_core key s) h.sound p l
-      (subst (λ (w : ℕ). is_raised_in w p ≡ true)
-      (seen ∙ ap (λ (g : ℕ). get_or (table_core key s).flags g 0) (sym its)) raised) in
+      (λ p its raised.
+      let up = subst (λ (w : ℕ). is_raised_in w p ≡ true)
+      (seen ∙ ap (λ (g : ℕ). get_or (table_core key s).flags g 0) (sym its)) raised in
+      let inside = raised_inside d (table_core key s) h.sound p up in
+      let full = raised_full d (table_core key s) h.sound p inside up in
       let here = ap (λ (ws : List ℕ). get_or (seats_in key ws) p 0) as_was in
-      omega arith)
+      (inside, omega arith))
       old flags in
       let kept =
       event_keeps key s h id x y words (ReadsFlags k j) live same may (length-set s.words i found)

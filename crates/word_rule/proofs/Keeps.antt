@@ -80,10 +80,11 @@ seats_rise d c i v (Releases h phase) p = omega arith
 -- what was read of flags stays so where seat counts rise
 read_full_rises : (d : Dictatorship) (old new : List ℕ) (x : SeatKnows)
     → ((p : ℕ) → get_or old p 0 ≤ get_or new p 0) → HasReadFull d old x → HasReadFull d new x
-read_full_rises d old new x rise full n word at p l group raised =
-    let was = full n word at p l group raised in
+read_full_rises d old new x rise full n word at p group raised =
+    let was = full n word at p group raised in
     let up = rise p in
-    omega arith
+    let most = was.1 in
+    (was.0, omega arith)
 
 -- a live seat after one has changed is a live seat from before, with the same number and share
 pub record Was (l : List SeatKnows) (i : ℕ) (a : SeatKnows) : Type 0 where

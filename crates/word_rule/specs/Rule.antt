@@ -33,12 +33,12 @@ pub record IsLive (seats : List SeatKnows) (i : ℕ) (x : SeatKnows) : Type 0 wh
   pub there : slice_get seats i ≡ Some x
   pub live : 0 < x.share
 
--- each programme whose flag was raised in a word that the seat has read is full
+-- each flag that was raised in a word that the seat has read is a programme's, which is full
 abbrev pub HasReadFull : Dictatorship → List ℕ → SeatKnows → Type 0
 HasReadFull d seats x =
-    (n : ℕ) (word : ℕ × ℕ) → slice_get x.flags n ≡ Some word → (p : ℕ) → p < length d.quota
-    → flag_group p ≡ word.0 → is_raised_in word.1 p ≡ true
-    → quota_of d p ≤ slice_index seats p
+    (n : ℕ) (word : ℕ × ℕ) → slice_get x.flags n ≡ Some word → (p : ℕ) → flag_group p ≡ word.0
+    → is_raised_in word.1 p ≡ true
+    → (p < length d.quota) × (quota_of d p ≤ slice_index seats p)
 
 -- the view of a worker that has drawn no number
 abbrev pub HasNotDrawn : View → Type 0

@@ -2,10 +2,10 @@
 //!
 //! A round runs one dictatorship on a table of words: the claim number, the mark, a seat count for
 //! each programme, a cell for each turn, and words of flags, with a flag for each programme. Each
-//! worker steps on them with a seat, which has a view
-//! of what the worker knows. The rule says that words and views together are one sound state of the
-//! core. Every atomic step is proved to keep it, whatever the table is when the step comes. So it
-//! holds between any two steps, in whatever order the workers make them.
+//! worker steps on them with a seat, which has a view of what the worker knows. The rule says that
+//! words and views together are one sound state of the core. Every atomic step is proved to keep
+//! it, whatever the table is when the step comes. So it holds between any two steps, in whatever
+//! order the workers make them.
 #![tactic(auto)]
 
 // The words of a table by name: where each stands, and how its contents are written and read.

@@ -22,14 +22,14 @@ fn many_turns(alloc: Global) -> Result<Dict, AllocError> {
     Ok(Dict::from_parts(quota, fill, lists))
 }
 
-// 128 turns over 130 programmes of one seat each, whose flags stand in three words. The three
-// entries of a list have their flags in different words, and the first two get full at once.
+// 128 turns over 130 programmes of one seat each, whose flags stand in three words. The entries of
+// a list have their flags in two or three of them, and the first two get full at once.
 fn spread_turns(alloc: Global) -> Result<Dict, AllocError> {
     let quota = vec![in alloc; 1u32; 130]?;
     let fill = vec![in alloc; 0u32; 130]?;
     let mut lists = Vec::with_capacity(alloc, 128)?;
     for turn in 0..128 {
-        lists.push(List::from_slice(alloc, &[turn % 2, 64 + turn % 3, 129 - turn % 64])?)?;
+        lists.push(List::from_slice(alloc, &[turn % 2, 64 + turn % 3, 66 + turn % 64])?)?;
     }
     Ok(Dict::from_parts(quota, fill, lists))
 }

@@ -36,7 +36,7 @@ read_flags-requires-clause-may g c =
       place = x.passed;
       allowed = (
         sym me.claim_is ∙ (c.in-Some.is
-            ∙ ap (λ met. claim_at x.turn x.passed met) c.if-claim.false),
+            ∙ (λ k. claim_at x.turn x.passed (c.if-claim.false k) (c.if-claim-2.false k))),
         omega arith,
       );
     }

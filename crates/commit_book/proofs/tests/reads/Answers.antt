@@ -1,4 +1,5 @@
-use Rattle.std.proofs.Common.{length, sym, ap, ◌∙◌, arith}
+use Rattle.std.proofs.Common.{◌≡◌, true, length, sym, ap, ◌∙◌, arith, rules}
+use Rattle.std.proofs.lemmas.Bool.{not-false}
 use Rattle.market.specs.Dictatorships.{Dictatorship, list_at}
 use Rattle.interleaving_core.specs.Core.{turn_count, claim_at}
 use Rattle.commit_book.proofs.tests.reads.Goals as goal
@@ -31,12 +32,13 @@ read_entry-requires-clause-may g c =
     let places = ap (λ (d : Dictatorship). length (list_at d x.turn)) same in
     let list = ap length c.list-places.ensures in
     let left = c.if-claim-places.false in
+    let looked : x.looked ≡ true = search (rules, not-false) in
     record {
       turn = x.turn;
       place = x.passed;
       allowed = (
         sym me.claim_is ∙ (c.in-Some.is
-            ∙ (λ k. claim_at x.turn x.passed (not_false c.if-not-claim.false k) (c.if-claim.false k))),
+            ∙ (λ k. claim_at x.turn x.passed (looked k) (c.if-claim.false k))),
         omega arith,
       );
     }

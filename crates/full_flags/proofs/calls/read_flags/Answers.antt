@@ -22,3 +22,6 @@ load-found-requires c =
       flags_allowed round.table.shared.key _ _ _ _ _ _ me.live me.narrow c.requires.seat.dict
           next.may (omega arith),
     )
+
+pub returns-clause-full : goal.returns-clause-full
+returns-clause-full c = λ s i h live. h.full i _ live
