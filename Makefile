@@ -1,21 +1,21 @@
-# make          proves and builds the program, with what it stands on
-# make install  copies the one binary to $(DESTDIR)$(PREFIX)/bin; it needs nothing of the kit when it runs
+# make          proves and builds the programs, with what they stand on
+# make install  copies the two binaries to $(DESTDIR)$(PREFIX)/bin; they need nothing of the kit when they run
 # make test     the whole gate: every proof, wrong body, test and program
 
 PREFIX ?= /usr/local
-PROGRAM = crates/place_program/out/place_program
+PLACE = crates/place_program/out/place_program
+DESK = crates/desk_program/out/desk_program
 SOURCES := crates.txt $(shell find crates -name out -prune -o \( -name '*.rt' -o -name '*.antt' \) -print)
 
-all: $(PROGRAM)
+all: $(PLACE) $(DESK)
 
-# rt run proves and builds the program, and then runs it on files of its own
-$(PROGRAM): $(SOURCES)
-	cd crates/place_program && rt run -- place data/programmes.csv data/candidates.csv data/ranks.csv </dev/null
-	touch $@
+$(PLACE) $(DESK): $(SOURCES)
+	tools/build $(notdir $@)
 
-install: $(PROGRAM)
+install: all
 	install -d $(DESTDIR)$(PREFIX)/bin
-	install -m 755 $(PROGRAM) $(DESTDIR)$(PREFIX)/bin/place
+	install -m 755 $(PLACE) $(DESTDIR)$(PREFIX)/bin/place
+	install -m 755 $(DESK) $(DESTDIR)$(PREFIX)/bin/place-desk
 
 test:
 	.ci/run

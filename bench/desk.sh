@@ -22,8 +22,8 @@ cp "$here/desk/main.txt" "$repository/crates/desk_times/src/main.rt"
 (cd "$repository/crates/desk_times" && rt run) >&2
 rustc -O -o "$here/out/desk_plain" "$here/desk/plain.rs"
 # all candidates are placed, and each is asked for once, in an order that the map does not have
-awk -v n="$count" 'BEGIN { print "candidate,programme"; for (k = 0; k < n; k++) printf "%d,%d\n", 10000000000 + 7 * k, 101 + k % 60000 }' >"$here/out/desk_placement"
-awk -v n="$count" 'BEGIN { print "candidate"; for (k = 0; k < n; k++) printf "%d\n", 10000000000 + 7 * ((k * 7919) % n) }' >"$here/out/desk_requests"
+awk -v n="$count" 'BEGIN { print "candidate,programme"; for (k = 0; k < n; k++) printf "%.0f,%d\n", 10000000000 + 7 * k, 101 + k % 60000 }' >"$here/out/desk_placement"
+awk -v n="$count" 'BEGIN { print "candidate"; for (k = 0; k < n; k++) printf "%.0f\n", 10000000000 + 7 * ((k * 7919) % n) }' >"$here/out/desk_requests"
 for turn in 1 2 3; do
     plain=$("$here/out/desk_plain" "$here/out/desk_placement" "$here/out/desk_requests")
     for clerks in 1 4 64; do

@@ -1,7 +1,11 @@
-//! The same work as `place place`, in plain single-threaded Rust written to be quick: `rustc -O bench/plain.rs`.
+//! The same work as `place place` and `place make`, in plain single-threaded Rust written to be quick:
+//! `rustc -O bench/plain.rs`.
 //!
-//! It reads the three files, makes the same checks, runs whole rounds and prints the placement. A fault ends it with
-//! status 3 and says no more than the file. Times of its phases go to standard error.
+//! It reads the three files, makes the same checks, runs whole rounds and prints the placement; or it makes the market of
+//! a seed, and prints the summary without its turns. A fault ends it with status 3 and says no more than the file. Times
+//! of its phases go to standard error.
+
+mod maker;
 
 use std::collections::HashMap;
 use std::hash::{BuildHasherDefault, Hasher};
@@ -272,10 +276,36 @@ fn text_of(held: &[u32], programmes: &Programmes, candidates: &Candidates) -> Ve
     text
 }
 
+fn market_of(orders: Vec<Vec<u32>>, programmes: &Programmes, candidates: &Candidates) -> Vec<Turns> {
+    orders.into_iter().enumerate().map(|(kind, order)| turns_of(kind as u32, order, programmes, candidates)).collect()
+}
+
+/// The summary of a made market, a line for each word.
+fn make(words: &[String], phase: impl Fn(&str)) {
+    let number = |at: usize| words[at].parse::<u64>().expect("a number");
+    let sizes = [number(2), number(3), number(4)].map(|size| size as u32);
+    let made = maker::make(number(1), sizes[0], sizes[1], sizes[2]);
+    let programmes = Programmes { kinds: made.kinds, quotas: made.quotas, ..Programmes::default() };
+    let numbers = (1..=u64::from(sizes[0])).collect();
+    let candidates = Candidates { numbers, items: made.items, ends: made.ends, ..Candidates::default() };
+    phase("made");
+    let turns = market_of(made.orders, &programmes, &candidates);
+    phase("market");
+    let (held, rounds, cuts) = mechanism(&turns, &programmes, &candidates);
+    phase("rounds");
+    println!("candidates {}\nprogrammes {}\ntypes {}", sizes[0], sizes[1], sizes[2]);
+    println!("entries {}\nrounds {rounds}\ncuts {cuts}", candidates.items.len());
+    println!("placed {}", held.iter().filter(|programme| **programme != u32::MAX).count());
+    println!("seats {}", programmes.quotas.iter().map(|quota| u64::from(*quota)).sum::<u64>());
+}
+
 fn main() {
     let words: Vec<String> = std::env::args().skip(1).collect();
     let start = Instant::now();
     let phase = |name: &str| eprintln!("{name} {:.3}", start.elapsed().as_secs_f64());
+    if words[0] == "make" {
+        return make(&words, phase);
+    }
     let read = |at: usize| std::fs::read(&words[at]).unwrap_or_else(|_| std::process::exit(4));
     let programmes = read_programmes(&read(1));
     phase("programmes");
@@ -283,8 +313,7 @@ fn main() {
     phase("candidates");
     let orders = read_ranks(&read(3), &programmes, &candidates);
     phase("ranks");
-    let turns: Vec<Turns> =
-        orders.into_iter().enumerate().map(|(kind, order)| turns_of(kind as u32, order, &programmes, &candidates)).collect();
+    let turns = market_of(orders, &programmes, &candidates);
     phase("market");
     let (held, rounds, cuts) = mechanism(&turns, &programmes, &candidates);
     phase(&format!("rounds({rounds},{cuts})"));

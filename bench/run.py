@@ -1,7 +1,7 @@
 #!/usr/bin/env python3
 """Times the program beside plain Rust on the same files: run.py SIZE..
 
-A size is one of small, middle, full and unlisted. Each market is made once under bench/out. The program runs with one
+A size is one of small, middle, million, full and unlisted. Each market is made once under bench/out. The program runs with one
 worker and with four. For each run the wall time, the processor time, the peak memory and the wall time of each phase are
 printed, and the ratios to plain Rust, which has one thread. A phase ends where the program opens its next file, or writes
 its first byte; it is seen from outside, the same way for both programs.
@@ -21,6 +21,7 @@ FILES = ["programmes.csv", "candidates.csv", "ranks.csv"]
 SIZES = {
     "small": (20_000, 500, 5, 60_000),
     "middle": (200_000, 5_000, 8, 1_100_000),
+    "million": (1_000_000, 20_000, 16, 5_700_000),
     "full": (3_500_000, 60_000, 16, 20_000_000),
 }
 
@@ -78,11 +79,11 @@ class Run:
         return "  %s status %d: wall %.2f s, processors %.2f s, peak %.0f MB, phases %s" % figures
 
 
-def timed(command, files, *words):
-    printed = os.path.join(OUT, "printed-" + "-".join([os.path.basename(command), *words]))
+def timed(command, files, *words, do="place"):
+    printed = os.path.join(OUT, "printed-" + "-".join([os.path.basename(command), do, *words]))
     with open(printed, "wb") as out:
         start = time.monotonic()
-        child = subprocess.Popen([command, "place", *files, *words], stdout=out, stderr=subprocess.DEVNULL)
+        child = subprocess.Popen([command, do, *files, *words], stdout=out, stderr=subprocess.DEVNULL)
         starts = [None] * len(files)
         while True:
             done, status, usage = os.wait4(child.pid, os.WNOHANG)
@@ -121,4 +122,5 @@ def main():
         print("  wall, four workers to one %.2f, to plain %.2f" % (four.wall / one.wall, four.wall / plain.wall))
 
 
-main()
+if __name__ == "__main__":
+    main()

@@ -2,7 +2,6 @@
 use Rattle.std.proofs.Common.{◌≡◌, ℕ, zero, suc, ◌+◌, ◌%◌, ◌<◌, ◌≤◌, ◌==◌, List, ◌∷◌, length, map, refl, arith, ⊎_elim, Some, None}
 use Rattle.std.specs.List.{cons_option, filter_map, range_with_len}
 use Rattle.std.proofs.lemmas.Bool.{cond_both}
-use Rattle.case_maker.specs.declared.keys.TheConstants.{NO_RANK_DIVISOR}
 use Rattle.case_maker.specs.Draws.{Key, key_of}
 use Rattle.case_maker.proofs.Copies.{copies, one_if, one_if-cases, one_if-other, one_if-same}
 
@@ -14,7 +13,7 @@ keys_from words o n = filter_map (λ i. key_of (words i) i) (range_with_len o n)
 front : (P : List Key → Type 0) (word i : ℕ) (rest : List Key) → P rest → P ((word, i) ∷ rest)
     → P (cons_option (key_of word i) rest)
 front P word i rest without with_it =
-    cond_both (word % NO_RANK_DIVISOR == 0) None (Some (word, i)) (λ key. P (cons_option key rest))
+    cond_both (word % 8 == 0) None (Some (word, i)) (λ key. P (cons_option key rest))
     (λ none. without)
     (λ some. with_it)
 

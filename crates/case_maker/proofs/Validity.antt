@@ -6,7 +6,7 @@ use Rattle.std.proofs.lemmas.List.Elements.{All-from_get_or, All-get_or}
 use Rattle.std.proofs.lemmas.List.FromFn.{get_or-map-range_with_len, get_or-range_with_len, length-map-range_with_len, length-range_with_len}
 use Rattle.market.specs.Problems.{IsValid, HasNoRepeats, kind_of, quota_of, list_of, order_of, ranks_of, no_programme}
 use Rattle.market.specs.declared.programme.Prog.{Prog}
-use Rattle.market.specs.declared.limits.TheConstants.{MAX_PROGRAMMES, MAX_CANDIDATES, MAX_ENTRIES}
+use Rattle.market.specs.declared.limits.TheConstants.{MAX_PROGRAMMES, MAX_CANDIDATES}
 use Rattle.case_maker.specs.declared.sizes.Sizes.{Sizes}
 use Rattle.case_maker.specs.Words.{Words, words_after, words_of, seeded}
 use Rattle.case_maker.specs.Draws.{draw_count, drawn_entries, drawn_list, list_words}
@@ -22,7 +22,7 @@ length-entries : (programmes : ℕ) (words : Words)
 length-entries programmes words =
     length-map-range_with_len (λ n. words (1 + n) % programmes) 0 (draw_count programmes words)
 
-length-list : (programmes : ℕ) (words : Words) → length (drawn_list programmes words) ≤ MAX_ENTRIES
+length-list : (programmes : ℕ) (words : Words) → length (drawn_list programmes words) ≤ 24
 length-list programmes words =
     let fewer = length-without_repeats (drawn_entries programmes words) in
     let drawn = length-entries programmes words in
@@ -133,6 +133,12 @@ module _ (s : Sizes) (words : Words) where
         (λ i. drawn_list s.programmes (own_words s rest i)) 0 s.candidates;
     programmes_are = length-map-range_with_len one 0 s.programmes;
     types_are = refl;
+    few_entries = λ i lt.
+        let count = length-map-range_with_len
+        (λ i. drawn_list s.programmes (own_words s rest i)) 0 s.candidates in
+        let size = ap (λ xs. length {A = ℕ} xs) (list-at i (omega arith)) in
+        let short = length-list s.programmes (own_words s rest i) in
+        omega arith;
   }
 
   pub market_of-valid : AreFit s → IsValid (market_of s words)

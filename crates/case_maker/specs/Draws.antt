@@ -2,12 +2,10 @@
 use Rattle.std.specs.Prelude.{ℕ, ◌+◌, ◌%◌, min, not, ◌==◌, List, [], ◌∷◌, filter, map, if◌then◌else◌, Option, Some, None}
 use Rattle.std.specs.List.{range_with_len}
 use Rattle.case_maker.specs.Words.{Words}
-use Rattle.case_maker.specs.declared.draws.TheConstants.{DRAWS}
-use Rattle.case_maker.specs.declared.keys.TheConstants.{NO_RANK_DIVISOR}
 
--- how many entries are drawn, among so many programmes: the first word says it
+-- how many entries are drawn among so many programmes, fewer than 25: the first word says it
 abbrev pub draw_count : ℕ → Words → ℕ
-draw_count programmes words = min programmes (words 0 % DRAWS)
+draw_count programmes words = min programmes (words 0 % 25)
 
 -- the entries that the words behind it give
 abbrev pub drawn_entries : ℕ → Words → List ℕ
@@ -27,9 +25,9 @@ drawn_list programmes words = without_repeats (drawn_entries programmes words)
 abbrev pub Key : Type 0
 Key = ℕ × ℕ
 
--- the key that a word gives a candidate in a type: the word itself, or none for no rank
+-- the key that a word gives a candidate in a type: the word itself; one word in eight gives no rank
 abbrev pub key_of : ℕ → ℕ → Option Key
-key_of word candidate = if word % NO_RANK_DIVISOR == 0 then None else Some (word, candidate)
+key_of word candidate = if word % 8 == 0 then None else Some (word, candidate)
 
 -- how many words come before those of the types
 abbrev pub list_words : ℕ → Words → ℕ

@@ -1,8 +1,8 @@
 -- The market of a seed: which words are drawn for what, in which order.
 use Rattle.std.specs.Prelude.{◌≡◌, ℕ, zero, suc, ◌+◌, ◌*◌, ◌/◌, ◌%◌, ◌<◌, ◌≤◌, min, List, length, map}
 use Rattle.std.specs.List.{filter_map, range_with_len}
-use Rattle.market.specs.Problems.{Problem, problem}
-use Rattle.market.specs.declared.limits.TheConstants.{MAX_TYPES, MAX_PROGRAMMES, MAX_CANDIDATES, MAX_QUOTA}
+use Rattle.market.specs.Problems.{Problem, list_of, problem}
+use Rattle.market.specs.declared.limits.TheConstants.{MAX_TYPES, MAX_PROGRAMMES, MAX_CANDIDATES}
 use Rattle.market.specs.declared.programme.Prog.{Prog}
 use Rattle.case_maker.specs.Words.{Words, words_of, words_after, seeded}
 use Rattle.case_maker.specs.Draws.{Key, drawn_list, drawn_key, word_count}
@@ -16,11 +16,11 @@ pub record AreFit (sizes : Sizes) : Type 0 where
   pub types : sizes.types ≤ MAX_TYPES
   pub some_type : 0 < sizes.types
 
--- the programme that a word gives: its type by its index, its quota by the word
+-- the programme that a word gives: its type by its index, its quota by the word, at most 100,000
 abbrev pub programme_of : Sizes → ℕ → ℕ → Prog
 programme_of sizes word index = record {
   kind = index % sizes.types;
-  quota = min MAX_QUOTA (word % (2 * (sizes.candidates / sizes.programmes) + 2));
+  quota = min 100000 (word % (2 * (sizes.candidates / sizes.programmes) + 2));
 }
 
 -- the programmes: a word for each, the first of all words
@@ -75,8 +75,9 @@ made_market seed candidates programmes types =
     market_of (record { candidates = candidates; programmes = programmes; types = types })
     (words_of (seeded seed))
 
--- a market has so many candidates, programmes and types
+-- a market has so many candidates, programmes and types, and lists of at most 24 entries
 pub record HasSizes (m : Problem) (candidates programmes types : ℕ) : Type 0 where
   pub candidates_are : length m.lists ≡ candidates
   pub programmes_are : length m.programmes ≡ programmes
   pub types_are : m.types ≡ types
+  pub few_entries : (i : ℕ) → i < length m.lists → length (list_of m i) ≤ 24

@@ -1,5 +1,6 @@
-//! Markets made from a number: every word of a seeded generator, taken in turn, says a quota, an
-//! entry of a preference list or a key by which a type is ordered.
+//! Markets made from a number: every word of a seeded generator, taken in turn, says a quota, how
+//! many entries are drawn for a preference list, one of these entries, or a candidate's key in a
+//! type, by which the type is ordered, or that the candidate has no rank in it.
 #![tactic(auto)]
 
 // How large a market is to be.

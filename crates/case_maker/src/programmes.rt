@@ -28,7 +28,8 @@ pub(crate) fn draw_programmes(
     Ok(made)
 }
 
-// The programme that a word gives. The quotas add up to about the number of candidates.
+// The programme that a word gives. Quotas below this bound are expected to add up to about the
+// number of candidates.
 fn programme_of(sizes: Sizes, word: u32, index: u32) -> Prog
     requires fit { AreFit sizes }
     requires one { index < sizes.programmes }

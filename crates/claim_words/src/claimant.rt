@@ -27,13 +27,14 @@ pub fn claim(round: &SharedRound, me: &mut WorkSeat) -> Option<u32>
     me.claim = Some(ClaimCopy {
         turn,
         passed: 0,
+        looked: false,
         met: false,
     });
     Some(turn)
 }
 
-/// Reads the seat count of the next entry of the claimed turn's list. `true` comes exactly where it
-/// has reached the quota; the entry is then passed, and else met.
+/// Reads the seat count of the next entry of the claimed turn's list, whose flag was found lowered.
+/// `true` comes exactly where it has reached the quota; the entry is then passed, and else met.
 pub fn read_entry(round: &SharedRound, dict: &Dict, me: &mut WorkSeat) -> bool
     requires seat { IsSeatOf round.now me.old }
     requires dict { dict.now ≡ dict_of round.now }
@@ -51,10 +52,15 @@ pub fn read_entry(round: &SharedRound, dict: &Dict, me: &mut WorkSeat) -> bool
     me.claim = Some(if full {
         ClaimCopy {
             passed: claim.passed + 1,
+            looked: false,
             ..claim
         }
     } else {
-        ClaimCopy { met: true, ..claim }
+        ClaimCopy {
+            looked: true,
+            met: true,
+            ..claim
+        }
     });
     full
 }

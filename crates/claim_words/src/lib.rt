@@ -1,8 +1,8 @@
-//! A claimant's steps on the words of a round: it draws the next turn, reads the entries of the
-//! turn's list until one has a seat left, and posts the place found.
+//! A claimant's steps on the words of a round: it draws the next turn, reads the seat counts of the
+//! entries of the turn's list until one has a seat left, and posts the place found. Between a draw
+//! or an entry passed and a reading it looks at flags (`full_flags::read_flags`).
 //!
-//! Each call is one atomic operation on one shared word, and one event of the core. What it answers
-//! is told by the word that it finds at that step, whatever other workers do before and after.
+//! Each call moves its seat by one event of the core. What it answers is told by the word that it finds at that step, whatever other workers do before and after.
 #![tactic(auto)]
 
 // The three calls.

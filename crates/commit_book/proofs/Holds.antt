@@ -5,41 +5,20 @@ use Rattle.market.specs.Dictatorships.{Dictatorship, IsValidDictatorship, list_a
 use Rattle.interleaving_core.specs.declared.parts.Cell.{Cell}
 use Rattle.interleaving_core.specs.declared.parts.Cell.TheVariants.{Empty, Posted, Committed}
 use Rattle.interleaving_core.specs.declared.parts.Phase.{Phase}
-use Rattle.interleaving_core.specs.declared.parts.Phase.TheVariants.{Idle, Halted, Scan, Ready, Seated}
+use Rattle.interleaving_core.specs.declared.parts.Phase.TheVariants.{Idle, Halted, Scan, Ready, Seated, Raised}
 use Rattle.interleaving_core.specs.declared.parts.Holding.{Holding}
 use Rattle.interleaving_core.specs.Core.{turn_count, entry, is_committed, hold_at}
 use Rattle.interleaving_core.specs.Events.{Looks, Weighs, Seats, Seals, Releases, IsAllowed, CanSeal, phase_after_look}
 use Rattle.word_rule.specs.Layout.{cell_of}
-use Rattle.word_rule.specs.Copies.{holding_of}
+use Rattle.word_rule.specs.Copies.{place_of}
 use Rattle.word_rule.specs.Views.{SeatMe}
 use Rattle.word_rule.specs.Holder.{look_by, TellsLook}
 use Rattle.word_rule.proofs.Layouts.{place_in, shows_small}
+use Rattle.word_rule.proofs.HolderCopies.{phase_or, held}
 use Rattle.word_rule.specs.Rounds.{knows, dict_of, IsSeatOf}
 use Rattle.word_rule.specs.declared.seat.SharedRound.{SharedRound}
 use Rattle.word_rule.specs.declared.seat.WorkSeat.{WorkSeat}
-use Rattle.commit_book.specs.Holder.{place_of, MayLook, MayWeigh, MaySeat, MaySeal, MayRelease}
-
-abbrev pub phase_in : Option Holding → Phase
-phase_in None = Idle
-phase_in (Some h) = h.phase
-
-abbrev pub count_in : Option Holding → ℕ
-count_in None = 0
-count_in (Some h) = h.committed
-
-abbrev phase_or : Option Phase → Phase
-phase_or None = Idle
-phase_or (Some x) = x
-
-shown : (o : Option Phase) (k c : ℕ) (x : Phase) → holding_of o k ≡ hold_at c x
-    → (o ≡ Some x) × (k ≡ c)
-shown None k c x e = absurd (cc (e))
-shown (Some y) k c x e = (ap (λ h. Some (phase_in h)) e, ap count_in e)
-
--- the copies of a holder
-pub held : (me : WorkSeat) (c : ℕ) (x : Phase) → (knows me).core.hold ≡ hold_at c x
-    → (me.phase ≡ Some x) × (me.committed ≡ c)
-held me c x is = shown me.phase me.committed c x (me.hold_is ∙ is)
+use Rattle.commit_book.specs.Holder.{MayLook, MayWeigh, MaySeat, MaySeal, MayRelease}
 
 -- a cell that is neither posted nor committed is empty
 pub is_empty : (c : Cell) → is_committed c ≡ false → ((j : ℕ) → c ≡ Posted j → ⊥) → c ≡ Empty
@@ -146,7 +125,8 @@ seal_place places j Idle e = absurd e
 seal_place places j Halted e = absurd e
 seal_place places j (Scan i) e = e.0
 seal_place places j (Ready i) e = absurd e
-seal_place places j (Seated i filled) e = e
+seal_place places j (Seated i filled) e = e.0
+seal_place places j (Raised i) e = e
 
 pub next_seal : (round : SharedRound) (me : WorkSeat) (place : ℕ) (x : Phase) → IsSeatOf round me
     → me.phase ≡ Some x → place_of x ≡ place → MaySeal me → NextSeal round me place
@@ -178,8 +158,12 @@ next_seal round me place x of_round is at m =
     in_list (Ready i) e can = absurd can
     in_list (Seated i filled) e can =
         let t = me.in_range.seated_place _ _ _ e in
-        let s = can in
+        let s = can.0 in
         (me.in_range.seated _ _ _ e, omega arith)
+    in_list (Raised i) e can =
+        let t = me.in_range.raised_place _ _ e in
+        let s = can in
+        (me.in_range.raised _ _ e, omega arith)
 
 -- the seat may release with the count that its copy shows
 pub record NextRelease (round : SharedRound) (me : WorkSeat) : Type 0 where

@@ -11,7 +11,7 @@ use Rattle.word_rule.specs.Rounds.{knows}
 use Rattle.word_rule.specs.declared.seat.WorkSeat.{WorkSeat}
 use Rattle.commit_book.specs.Holder.{IsTake, IsLook, IsRelease}
 use Rattle.commit_book.specs.Prefix.{HasSwept, IsSweep}
-use Rattle.commit_book.proofs.Holds.{phase_in, count_in, held}
+use Rattle.word_rule.proofs.HolderCopies.{phase_in, count_in, held}
 
 same_hold : (c g : ℕ) (x y : Phase) → hold_at c x ≡ hold_at g y → (c ≡ g) × (x ≡ y)
 same_hold c g x y e = (ap count_in e, ap phase_in e)

@@ -3,7 +3,7 @@ use Rattle.std.specs.Prelude.{◌≡◌, ℕ, ◌+◌, ◌<◌, ◌≤◌, Bool,
 use Rattle.interleaving_core.specs.declared.parts.Cell.{Cell}
 use Rattle.interleaving_core.specs.declared.parts.Cell.TheVariants.{Empty, Posted}
 use Rattle.interleaving_core.specs.declared.parts.Phase.{Phase}
-use Rattle.interleaving_core.specs.declared.parts.Phase.TheVariants.{Idle, Halted, Scan, Ready, Seated}
+use Rattle.interleaving_core.specs.declared.parts.Phase.TheVariants.{Idle, Scan, Ready, Seated}
 use Rattle.interleaving_core.specs.Core.{turn_count, entry, quota_of, hold_at}
 use Rattle.interleaving_core.specs.Events.{Takes, Weighs, Seats, Seals, Releases, IsAllowed, phase_after_look, phase_after_weigh}
 use Rattle.word_rule.specs.Views.{SeatKnows}
@@ -11,14 +11,6 @@ use Rattle.word_rule.specs.Layout.{is_held, mark_number}
 use Rattle.word_rule.specs.Holder.{as_holder, tried, released_with}
 use Rattle.word_rule.specs.Rounds.{knows}
 use Rattle.word_rule.specs.declared.seat.WorkSeat.{WorkSeat}
-
--- the place of a phase, 0 where it has none
-abbrev pub place_of : Phase → ℕ
-place_of Idle = 0
-place_of Halted = 0
-place_of (Scan j) = j
-place_of (Ready j) = j
-place_of (Seated j filled) = j
 
 -- the seat may try to take the mark: it has no claim and does not hold the mark
 abbrev pub MayTake : WorkSeat → Type 0

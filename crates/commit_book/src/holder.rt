@@ -1,9 +1,10 @@
 // The six calls of the mark's holder, and of who tries to take it.
 
 ghost use Rattle.std.specs.Prelude.{◌≡◌};
+ghost use Rattle.word_rule.specs.Copies.{place_of};
 ghost use Rattle.word_rule.specs.Rounds.{IsSeatOf, Stays, dict_of};
 ghost use Rattle.commit_book.specs.Holder.{MayTake, MayLook, MayWeigh, MaySeat, MaySeal, MayRelease};
-ghost use Rattle.commit_book.specs.Holder.{place_of, IsTake, IsLook, IsWeigh, IsSeat, IsSeal, IsRelease};
+ghost use Rattle.commit_book.specs.Holder.{IsTake, IsLook, IsWeigh, IsSeat, IsSeal, IsRelease};
 
 use interleaving_core::Cell;
 use market::Dict;
@@ -130,7 +131,10 @@ fn place_in(phase: PhaseCopy) -> u32
     ensures { result ≡ place_of phase }
 {
     match phase {
-        PhaseCopy::Scan(place) | PhaseCopy::Ready(place) | PhaseCopy::Seated(place, _) => place,
+        PhaseCopy::Scan(place)
+        | PhaseCopy::Ready(place)
+        | PhaseCopy::Seated(place, _)
+        | PhaseCopy::Raised(place) => place,
         PhaseCopy::Idle | PhaseCopy::Halted => 0,
     }
 }

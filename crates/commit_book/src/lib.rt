@@ -1,8 +1,9 @@
 //! The commit book: whoever takes the mark commits posted turns, in the order of turns, each at
 //! the place that its weighing finds, and gives the mark back once the next turn is not posted.
+//! Where a turn takes a programme's last seat, the programme's flag is raised before the turn is
+//! committed.
 //!
-//! Each call on the mark is one atomic operation on one shared word, and one event of the core.
-//! What it answers is told by the word that it finds at that step, whatever other workers do
+//! Each call on the mark moves its seat by one event of the core. What it answers is told by the word that it finds at that step, whatever other workers do
 //! before and after.
 #![tactic(auto)]
 

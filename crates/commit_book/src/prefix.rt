@@ -10,7 +10,7 @@ ghost use Rattle.commit_book.specs.Prefix.{IsSettled, HasSwept, IsPrefixCommit};
 
 use crate::holder::{look, release, seal, seat, take, weigh};
 use market::Dict;
-use word_rule::{SharedRound, WorkSeat};
+use word_rule::{SharedRound, WorkSeat, raise_step};
 
 /// Takes the mark, commits turns in their order until a look gives `None`, gives the mark back,
 /// and answers how many turns it committed: what its release wrote less what its take found.
@@ -60,7 +60,8 @@ pub fn commit_turn(round: &SharedRound, dict: &Dict, me: &mut WorkSeat, place: u
     seal(round, dict, me)
 }
 
-// Weighs the entries from this place on, and takes a seat of the first that has one left.
+// Weighs the entries from this place on, and takes a seat of the first that has one left; where
+// that was the last one, it raises the programme's flag.
 fn settle(round: &SharedRound, dict: &Dict, me: &mut WorkSeat, place: u32)
     requires seat { IsSeatOf round.now me.old }
     requires dict { dict.now ≡ dict_of round.now }
@@ -71,7 +72,9 @@ fn settle(round: &SharedRound, dict: &Dict, me: &mut WorkSeat, place: u32)
     let places = dict.list(me.committed).len() as u32;
     for _entry in place..places {
         if !weigh(round, dict, me) {
-            seat(round, dict, me);
+            if seat(round, dict, me) {
+                raise_step(round, dict, me);
+            }
             return;
         }
     }

@@ -6,6 +6,7 @@ ghost use Rattle.commit_book.specs.Seats.{HasStepped, IsWorking};
 
 use crate::{commit_prefix, look, release, seal, seat, take, weigh};
 use claim_words::{claim, post, read_entry};
+use full_flags::{raise_flag, read_flags};
 use market::Dict;
 use market::examples::two_turns;
 use std::alloc::{AllocError, Global};
@@ -54,6 +55,29 @@ fn ends(rt: &impl Abort, round: &SharedRound, me: &mut WorkSeat)
     }
 }
 
+// The seat looks at the flags of the next entries of its turn's list, and answers whether it came to
+// one that is lowered.
+fn looks_at_flags(rt: &impl Abort, round: &SharedRound, dict: &Dict, me: &mut WorkSeat) -> bool
+    requires seat { IsSeatOf round.now me.old × (dict.now ≡ dict_of round.now) }
+    ensures step { HasStepped round.now me.old me.new (knows me.old).core.owes }
+{
+    let Some(claim) = me.claim else {
+        panic!(rt; "no claim")
+    };
+    if claim.looked {
+        panic!(rt; "a lowered flag was found")
+    }
+    if claim.met {
+        panic!(rt; "an entry is met")
+    }
+    let places = dict.list(claim.turn).len();
+    if claim.passed as usize >= places {
+        panic!(rt; "the whole list is passed")
+    }
+    let _ = read_flags(round, dict, me);
+    matches!(me.claim, Some(next) if next.looked)
+}
+
 // The seat reads the next entry of its turn's list.
 fn reads(rt: &impl Abort, round: &SharedRound, dict: &Dict, me: &mut WorkSeat) -> bool
     requires seat { IsSeatOf round.now me.old × (dict.now ≡ dict_of round.now) }
@@ -62,6 +86,9 @@ fn reads(rt: &impl Abort, round: &SharedRound, dict: &Dict, me: &mut WorkSeat) -
     let Some(claim) = me.claim else {
         panic!(rt; "no claim")
     };
+    if !claim.looked {
+        panic!(rt; "no lowered flag was found")
+    }
     if claim.met {
         panic!(rt; "an entry is met")
     }
@@ -131,12 +158,23 @@ fn seats(rt: &impl Abort, round: &SharedRound, dict: &Dict, me: &mut WorkSeat) -
     seat(round, dict, me)
 }
 
-// The holder commits the turn that it took a seat for, and answers it.
+// The holder raises the flag of the programme that it filled.
+fn raises(rt: &impl Abort, round: &SharedRound, dict: &Dict, me: &mut WorkSeat)
+    requires seat { IsSeatOf round.now me.old × (dict.now ≡ dict_of round.now) }
+    ensures step { HasStepped round.now me.old me.new (knows me.old).core.owes }
+{
+    let Some(PhaseCopy::Seated(_, true)) = me.phase else {
+        panic!(rt; "no programme was filled")
+    };
+    raise_flag(round, dict, me);
+}
+
+// The holder commits the turn that it took the last seat of a programme for, and answers it.
 fn seals(rt: &impl Abort, round: &SharedRound, dict: &Dict, me: &mut WorkSeat) -> u32
     requires seat { IsSeatOf round.now me.old × (dict.now ≡ dict_of round.now) }
     ensures step { HasStepped round.now me.old me.new (knows me.old).core.owes }
 {
-    let Some(PhaseCopy::Seated(_, _)) = me.phase else {
+    let Some(PhaseCopy::Raised(_)) = me.phase else {
         panic!(rt; "no turn to commit")
     };
     seal(round, dict, me)
@@ -191,6 +229,8 @@ fn one_seat_commits_what_two_posted(rt: HostRuntime) -> Result<(), Fail> {
     let (mut first, mut second) = two_seats(&round, both);
     draws(&rt, &round, &mut first, 0);
     draws(&rt, &round, &mut second, 1);
+    assert_eq!(&rt; looks_at_flags(&rt, &round, &dict, &mut first), true);
+    assert_eq!(&rt; looks_at_flags(&rt, &round, &dict, &mut second), true);
     assert_eq!(&rt; reads(&rt, &round, &dict, &mut first), false);
     assert_eq!(&rt; reads(&rt, &round, &dict, &mut second), false);
     assert_eq!(&rt; posts(&rt, &round, &dict, &mut second), 0);
@@ -200,12 +240,14 @@ fn one_seat_commits_what_two_posted(rt: HostRuntime) -> Result<(), Fail> {
     assert_eq!(&rt; looks(&rt, &round, &mut first), Some(0));
     assert_eq!(&rt; weighs(&rt, &round, &dict, &mut first), false);
     assert_eq!(&rt; seats(&rt, &round, &dict, &mut first), true);
+    raises(&rt, &round, &dict, &mut first);
     assert_eq!(&rt; seals(&rt, &round, &dict, &mut first), 0);
     // so the second turn, which was posted there, goes to its next entry
     assert_eq!(&rt; looks(&rt, &round, &mut first), Some(0));
     assert_eq!(&rt; weighs(&rt, &round, &dict, &mut first), true);
     assert_eq!(&rt; weighs(&rt, &round, &dict, &mut first), false);
     assert_eq!(&rt; seats(&rt, &round, &dict, &mut first), true);
+    raises(&rt, &round, &dict, &mut first);
     assert_eq!(&rt; seals(&rt, &round, &dict, &mut first), 1);
     assert_eq!(&rt; looks(&rt, &round, &mut first), None);
     releases(&rt, &round, &mut first);
@@ -227,10 +269,12 @@ fn nothing_is_committed_past_an_empty_cell(rt: HostRuntime) -> Result<(), Fail> 
     let (mut first, mut second) = two_seats(&round, both);
     draws(&rt, &round, &mut first, 0);
     draws(&rt, &round, &mut second, 1);
+    assert_eq!(&rt; looks_at_flags(&rt, &round, &dict, &mut second), true);
     assert_eq!(&rt; reads(&rt, &round, &dict, &mut second), false);
     assert_eq!(&rt; posts(&rt, &round, &dict, &mut second), 0);
     assert_eq!(&rt; takes(&rt, &round, &mut second), true);
     assert_eq!(&rt; looks(&rt, &round, &mut second), None);
+    assert_eq!(&rt; looks_at_flags(&rt, &round, &dict, &mut first), true);
     assert_eq!(&rt; reads(&rt, &round, &dict, &mut first), false);
     assert_eq!(&rt; posts(&rt, &round, &dict, &mut first), 0);
     assert_eq!(&rt; takes(&rt, &round, &mut first), false);

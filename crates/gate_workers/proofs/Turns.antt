@@ -56,7 +56,7 @@ has_posted old drawn read posted turn place draw reads posts =
     ∙ ap (λ b. after_claim_if b (knows old).core draw.found)
     (lt-ltb draw.found (turn_count (knows old).dict) said.1) in
     let before : (knows read).core.own ≡ own ++ mine ∷ [] =
-    ap (λ (x : SeatKnows). x.core.own) reads.view ∙ ap (λ (v : View). v.own) view in (
+    ap (λ (v : View). v.own) reads.moved.core ∙ ap (λ (v : View). v.own) view in (
       ap (λ (x : SeatKnows). x.core.claim) posts.view,
       ap (λ (x : SeatKnows). x.core.owes) posts.view,
       (
@@ -112,19 +112,19 @@ one_turn old drawn read posted new turn place a b c e =
       room = omega arith;
       own =
           let own = ap (λ (v : View). length v.own) view in
-          let read_own = ap (λ (x : SeatKnows). length x.core.own) reads.view in
+          let read_own = ap (λ (v : View). length v.own) reads.moved.core in
           let posted_own = ap (λ (x : SeatKnows). length x.core.own) posts.view
           ∙ length-with_place (knows read).core.own place in
           let tried_own = ap (λ (l : List OwnTurn). length l) tried.own in
           omega arith;
       tries =
           let drawn_tries = ap (λ (x : SeatKnows). x.tries) draw.view in
-          let read_tries = ap (λ (x : SeatKnows). x.tries) reads.view in
+          let read_tries = reads.moved.tries in
           let posted_tries = ap (λ (x : SeatKnows). x.tries) posts.view in
           let one_more = tried.tries in
           omega arith;
       done = tried.done
           ∙ (ap (λ (x : SeatKnows). x.core.done) posts.view
-          ∙ (ap (λ (x : SeatKnows). x.core.done) reads.view ∙ ap (λ (v : View). v.done) view));
+          ∙ (ap (λ (v : View). v.done) reads.moved.core ∙ ap (λ (v : View). v.done) view));
       stays = stays_on (stays_on (stays_on a.0 b.0) c.0) e.0;
     }

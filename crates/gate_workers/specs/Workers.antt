@@ -1,12 +1,12 @@
 -- What a worker does to its seat.
-use Rattle.std.specs.Prelude.{◌≡◌, ℕ, ◌+◌, ◌<◌, true, false, List, [], ◌∷◌, ◌++◌, length, slice_get, Option, Some, None, IsSome}
+use Rattle.std.specs.Prelude.{◌≡◌, ℕ, ◌+◌, ◌<◌, ◌≤◌, true, false, List, [], ◌∷◌, ◌++◌, length, slice_get, Option, Some, None, IsSome}
 use Rattle.market.specs.Dictatorships.{list_at}
 use Rattle.interleaving_core.specs.declared.parts.Claiming.{Claiming}
 use Rattle.interleaving_core.specs.declared.parts.OwnTurn.{OwnTurn}
 use Rattle.interleaving_core.specs.declared.parts.Phase.TheVariants.{Idle}
 use Rattle.interleaving_core.specs.Core.{claim_at, hold_at}
 use Rattle.interleaving_core.specs.Events.{with_claim}
-use Rattle.word_rule.specs.Views.{SeatKnows, with_core}
+use Rattle.word_rule.specs.Views.{SeatKnows}
 use Rattle.word_rule.specs.Rounds.{knows, IsSeatOf, IsOver, Stays}
 use Rattle.word_rule.specs.declared.seat.SharedRound.{SharedRound}
 use Rattle.word_rule.specs.declared.seat.WorkSeat.{WorkSeat}
@@ -14,12 +14,28 @@ use Rattle.claim_words.specs.Claimant.{MayClaim, MayPost}
 use Rattle.gate_workers.specs.declared.gate.GatePoint.{GatePoint}
 use Rattle.gate_workers.specs.declared.gate.GatePoint.TheVariants.{Claimed, BeforeRead, Posted, Took, Missed, Sealed, Released}
 
--- the seat has read its turn's list up to an entry that has a seat left, or to its end: its claim
--- alone is another one
+-- the seat has looked at flags and read seat counts: of what it knows of the core its claim alone is
+-- another one
+pub record HasMoved (old new : WorkSeat) (claim : Option Claiming) : Type 0 where
+  pub core : (knows new).core ≡ with_claim (knows old).core claim
+  pub tries : (knows new).tries ≡ (knows old).tries
+
+-- the seat has gone along its turn's list up to an entry that has a seat left, or to its end
 pub record HasRead (old new : WorkSeat) : Type 0 where
   pub claim : Option Claiming
-  pub view : knows new ≡ with_core (knows old) (with_claim (knows old).core claim)
+  pub moved : HasMoved old new claim
   pub may : MayPost new
+
+-- the seat has gone from this place of its turn's list on to a later one, as far as the list's end
+pub record HasPassed (old new : WorkSeat) (turn place next : ℕ) : Type 0 where
+  pub moved : HasMoved old new (claim_at turn next false false)
+  pub later : place < next
+  pub within : next ≤ length (list_at (knows old).dict turn)
+
+-- the seat has met an entry of its turn's list that has a seat left
+pub record HasMet (old new : WorkSeat) (turn : ℕ) : Type 0 where
+  pub place : ℕ
+  pub moved : HasMoved old new (claim_at turn place true true)
 
 -- the seat has tried the mark once, and does not hold it
 pub record HasTried (old new : WorkSeat) : Type 0 where
@@ -45,12 +61,12 @@ abbrev pub IsLastPosted : List OwnTurn → ℕ → Type 0
 IsLastPosted own k = (earlier : List OwnTurn) × (j : ℕ)
     × (own ≡ earlier ++ record { turn = k; place = Some j } ∷ [])
 
--- the seat has come to this point: before a reading it has passed the entries before the place and
--- met none; at every other point the step is made
+-- the seat has come to this point: before a reading it has passed the entries before the place, met
+-- none, and found the flag of the entry there lowered; at every other point the step is made
 abbrev pub HasCome : SeatKnows → GatePoint → Type 0
-HasCome x (Claimed k) = x.core.claim ≡ claim_at k 0 false
+HasCome x (Claimed k) = x.core.claim ≡ claim_at k 0 false false
 HasCome x (BeforeRead k j) =
-    (x.core.claim ≡ claim_at k j false) × (j < length (list_at x.dict k))
+    (x.core.claim ≡ claim_at k j true false) × (j < length (list_at x.dict k))
 HasCome x (Posted k) = (x.core.claim ≡ None) × (x.core.owes ≡ true) × IsLastPosted x.core.own k
 HasCome x (Took c) = (x.core.hold ≡ hold_at c Idle) × (x.took ≡ c)
 HasCome x Missed = (x.core.hold ≡ None) × (x.core.owes ≡ false)

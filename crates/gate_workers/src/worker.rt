@@ -1,19 +1,21 @@
 // One worker.
 
-ghost use Rattle.std.specs.Prelude.{◌≡◌, ◌<◌, ◌+◌, false};
+ghost use Rattle.std.specs.Prelude.{◌≡◌, ◌<◌, ◌+◌, false, length, MatchOption};
+ghost use Rattle.market.specs.Dictatorships.{list_at};
 ghost use Rattle.interleaving_core.specs.Core.{turn_count, claim_at};
 ghost use Rattle.word_rule.specs.Rounds.{IsSeatOf, IsOver, Stays, dict_of, knows};
 ghost use Rattle.claim_words.specs.Claimant.{MayClaim, MayPost};
 ghost use Rattle.commit_book.specs.Holder.{MayTake};
-ghost use Rattle.gate_workers.specs.Workers.{HasRead, HasTried, HasWorked, HasCome};
+ghost use Rattle.gate_workers.specs.Workers.{HasRead, HasPassed, HasMet, HasTried, HasWorked, HasCome};
 
 use crate::gate::{Gate, GatePoint};
 use claim_words::{claim, post, read_entry};
 use commit_book::{commit_turn, look, release, take};
+use full_flags::read_flags;
 use market::Dict;
 use word_rule::{SharedRound, WorkSeat};
 
-/// Draws a turn, reads its list up to the first entry that has a seat left, posts the place found
+/// Draws a turn, goes along its list up to the first entry that has a seat left, posts the place found
 /// and tries the mark once; who takes it commits turns until a look finds none, and gives it back.
 /// So on until no turn is left: the seat is then done, and has no claim, no debt and not the mark.
 pub fn work<G: Gate>(round: &SharedRound, dict: &Dict, me: &mut WorkSeat, gate: &G)
@@ -40,21 +42,57 @@ fn pass<G: Gate>(gate: &G, me: &WorkSeat, point: GatePoint)
     gate.at(me.number, point);
 }
 
-// Reads the list of the claimed turn up to the first entry that has a seat left.
+// Goes along the list of the claimed turn up to the first entry that has a seat left.
 fn read_list<G: Gate>(round: &SharedRound, dict: &Dict, me: &mut WorkSeat, turn: u32, gate: &G)
     requires seat { IsSeatOf round.now me.old }
     requires dict { dict.now ≡ dict_of round.now }
     requires turn { turn < turn_count dict.now }
-    requires claim { (knows me.old).core.claim ≡ claim_at turn 0 false }
+    requires claim { (knows me.old).core.claim ≡ claim_at turn 0 false false }
     ensures stays { Stays me.old me.new }
     ensures read { HasRead me.old me.new }
 {
     let places = dict.list(turn).len() as u32;
-    for place in 0..places {
-        pass(gate, me, GatePoint::BeforeRead(turn, place));
-        if !read_entry(round, dict, me) {
+    let mut place = 0;
+    while place < places {
+        let Some(next) = read_on(round, dict, me, turn, place, gate) else {
             return;
-        }
+        };
+        place = next;
+    }
+}
+
+// Passes the entries of the claimed turn's list from this place on whose flags are raised in one
+// word of flags. Where it comes to a flag of that word which is lowered, it reads the seat count of
+// the entry. The place where to go on, or `None` where the entry has a seat left.
+fn read_on<G: Gate>(
+    round: &SharedRound,
+    dict: &Dict,
+    me: &mut WorkSeat,
+    turn: u32,
+    place: u32,
+    gate: &G,
+) -> Option<u32>
+    requires seat { IsSeatOf round.now me.old }
+    requires dict { dict.now ≡ dict_of round.now }
+    requires turn { turn < turn_count dict.now }
+    requires place { place < length (list_at dict.now turn) }
+    requires claim { (knows me.old).core.claim ≡ claim_at turn place false false }
+    ensures stays { Stays me.old me.new }
+    ensures on { MatchOption result (HasMet me.old me.new turn)
+        (λ next. HasPassed me.old me.new turn place next) }
+{
+    read_flags(round, dict, me);
+    let Some(claim) = me.claim else {
+        unreachable!()
+    };
+    if !claim.looked {
+        return Some(claim.passed);
+    }
+    pass(gate, me, GatePoint::BeforeRead(turn, claim.passed));
+    if read_entry(round, dict, me) {
+        Some(claim.passed + 1)
+    } else {
+        None
     }
 }
 

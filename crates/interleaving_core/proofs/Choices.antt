@@ -1,8 +1,8 @@
 -- The choice of a turn, from which entries of its list are full: by the least place that is not.
-use Rattle.std.proofs.Common.{◌≡◌, ℕ, suc, ◌+◌, ◌<◌, ◌≤◌, Bool, true, false, cond, length, eqb, refl, ap, ◌∙◌, arith}
+use Rattle.std.proofs.Common.{◌≡◌, ℕ, suc, ◌+◌, ◌<◌, ◌≤◌, Bool, true, false, cond, length, get_or, eqb, refl, sym, ap, subst, ◌∙◌, arith}
 use Rattle.std.specs.Prelude.{slice_get}
-use Rattle.std.proofs.lemmas.Bool.{lt-ltb, le-ltb}
-use Rattle.std.proofs.lemmas.List.Sums.{position_or_len_is}
+use Rattle.std.proofs.lemmas.Bool.{lt-ltb, le-ltb, ltb-true}
+use Rattle.std.proofs.lemmas.List.Sums.{position_or_len_is, passes_at_first}
 use Rattle.std.proofs.lemmas.Option.{slice_get-get_or, slice_get_past}
 use Rattle.market.specs.Counting.{is_programme}
 use Rattle.market.specs.Dictatorships.{Dictatorship, list_at, has_seat, first_open, picks, choice, pick, seats_taken}
@@ -19,6 +19,16 @@ unfolding choice first_open has_seat seats_taken
 choice_is d k j within full free =
     position_or_len_is (has_seat d (picks d k)) (list_at d k) j 0 within
     (λ i l. le-ltb _ _ (full i l)) (λ l. lt-ltb _ _ (free l))
+
+-- a turn that chooses place j finds a seat left there
+pub choice_open : (d : Dictatorship) (k j : ℕ) → choice d k ≡ j → j < length (list_at d k)
+    → seats_after d k (entry d k j) < quota_of d (entry d k j)
+unfolding choice first_open has_seat seats_taken
+choice_open d k j e l =
+    let open' = has_seat d (picks d k) in
+    let list = list_at d k in
+    let passes = passes_at_first open' list 0 (subst (λ (n : ℕ). n < length list) (sym e) l) in
+    ltb-true _ _ (subst (λ (n : ℕ). open' (get_or list n 0) ≡ true) e passes)
 
 cond_bit : (b : Bool) → cond {A = ℕ} b 1 0 ≡ bit b
 cond_bit true = refl

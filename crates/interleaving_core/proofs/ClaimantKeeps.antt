@@ -1,22 +1,25 @@
 -- A claimant's events keep a sound state. A draw gives each turn to one worker; a reading sees a
 -- count that only rises; a post fills a cell that was empty, since the worker claimed it.
-use Rattle.std.proofs.Common.{◌≡◌, ℕ, ◌+◌, ◌<◌, ◌≤◌, ◌≢◌, Bool, true, false, length, set, Option, Some, None, nat_lt, eq-eqb, ne_eqb, sym, refl, ap, subst, ◌∙◌, arith, length-set, get_or-set_same, get_or-set_other}
+use Rattle.std.proofs.Common.{◌≡◌, ℕ, ◌+◌, ◌*◌, ◌<◌, ◌≤◌, ◌≢◌, Bool, true, false, length, get_or, set, Option, Some, None, nat_lt, nat_le, eqb, eq-eqb, ne_eqb, sym, refl, ap, subst, ◌∙◌, arith, length-set, get_or-set_same, get_or-set_other}
 use Rattle.std.specs.Prelude.{slice_get}
 use Rattle.std.specs.List.{sum_by}
-use Rattle.std.proofs.lemmas.Bool.{ltb-true, ltb-false}
+use Rattle.std.proofs.lemmas.Bool.{ltb-true, ltb-false, leb-true, eqb-true}
 use mathlib.Core.Logic.{dite}
 use native.Mathlib.Decide.{ℕ_discrete}
-use Rattle.market.specs.Dictatorships.{Dictatorship, list_at}
+use Rattle.market.specs.Dictatorships.{Dictatorship, IsValidDictatorship, list_at}
+use Rattle.interleaving_core.specs.declared.limits.TheConstants.{FLAGS_PER_WORD}
 use Rattle.interleaving_core.specs.declared.parts.Cell.{Cell}
 use Rattle.interleaving_core.specs.declared.parts.Cell.TheVariants.{Empty, Posted, Committed}
 use Rattle.interleaving_core.specs.declared.parts.Claiming.{Claiming}
 use Rattle.interleaving_core.specs.declared.parts.Holding.{Holding}
-use Rattle.interleaving_core.specs.Core.{View, Core, turn_count, entry, quota_of, seats_of, is_open, cell_at, is_committed, claim_at}
-use Rattle.interleaving_core.specs.Events.{Claims, Reads, Posts, IsAllowed, after_claim_if, with_claim, after_read, after_post, after}
+use Rattle.interleaving_core.specs.Flags.{flag_group, flag_bit, is_raised_in}
+use Rattle.interleaving_core.specs.Core.{View, Core, turn_count, entry, quota_of, seats_of, is_open, cell_at, is_committed, is_raised, claim_at}
+use Rattle.interleaving_core.specs.Events.{Claims, ReadsFlags, Reads, Posts, IsAllowed, after_claim_if, with_claim, claim_past_flags, after_read, after_post, after}
 use Rattle.interleaving_core.specs.Sound.{bit, turn_bit, done_bit, claim_bit, empty_bit, IsFullBefore, IsCellFrom, AreSoundOwnTurns, IsSoundClaim, DoesOneThing, IsSound}
 use Rattle.interleaving_core.proofs.Places.{sum_set, term_le, sum_zero}
 use Rattle.interleaving_core.proofs.OwnTurns.{own_stays, own_moves, own_claimed, own_posted}
-use Rattle.interleaving_core.proofs.Views.{at_some, Grows, Stays, holding_stays, claimant_one, mark_stays, seats_stay, views_fit, calm_step, view_step}
+use Rattle.interleaving_core.proofs.Flags.{past_flags_within, raised_before}
+use Rattle.interleaving_core.proofs.Views.{at_some, Grows, Stays, holding_stays, claimant_one, mark_stays, seats_stay, flags_stay, views_fit, calm_step, view_step}
 
 -- no view claims a turn that was not drawn
 unclaimed : (d : Dictatorship) (c : Core) (s : IsSound d c) (k : ℕ) → c.claim_number ≤ k
@@ -85,11 +88,11 @@ claim_keeps d c i v true drawn s at ok =
           let same : sum_by done_bit c.views ≡ sum_by done_bit (set c.views i w) = omega arith in
           omega arith;
     }
-    (λ p. refl)
+    (λ p. refl) (λ p. refl)
     record {
       one = free_one d v n ok;
       claim =
-          at_some (IsSoundClaim d e) (record { turn = n; passed = 0; met = false })
+          at_some (IsSoundClaim d e) (record { turn = n; passed = 0; looked = false; met = false })
           record {
             turn = inside;
             drawn = omega arith;
@@ -121,13 +124,83 @@ claim_keeps d c i v false drawn s at ok =
           let not_done : bit v.done ≡ 0 = ap bit ok.2 in
           omega arith;
     }
-    (λ p. refl)
+    (λ p. refl) (λ p. refl)
     record {
       one = done_one d v n ok;
       claim = λ x is. absurd (cc (ok.0, is));
       hold = λ h is. absurd (cc (ok.1, is));
       own = own_stays d c e v.own v.claim (omega arith) (λ k j p. p) f.own;
       past = λ is. omega arith;
+    }
+
+-- an event that gives a claimant another claim of its turn
+claim_step : (d : Dictatorship) (c : Core) (s : IsSound d c) (i : ℕ) (v : View)
+    (mine next : Claiming) → slice_get c.views i ≡ Some v → v.claim ≡ Some mine
+    → next.turn ≡ mine.turn → IsSoundClaim d c next
+    → IsSound d record c { views = set c.views i (with_claim v (Some next)) }
+claim_step d c s i v mine next at is same fits =
+    let f = s.views i v at in
+    view_step d c s i v (with_claim v (Some next)) at refl
+    (λ x. ap (λ (n : ℕ). bit (eqb x n)) same ∙ sym (ap (turn_bit x) is)) refl (λ p. refl)
+    (λ p. refl)
+    record {
+      one = claimant_one v mine (Some next) is f.one;
+      claim = at_some (IsSoundClaim d c) next fits;
+      hold = f.hold;
+      own = own_moves d c v.own mine next same (subst (AreSoundOwnTurns d c v.own) is f.own);
+      past = f.past;
+    }
+
+-- a programme whose flag is raised is full
+pub raised_full : (d : Dictatorship) (c : Core) (s : IsSound d c) (p : ℕ) → p < length d.quota
+    → is_raised c p ≡ true → quota_of d p ≤ seats_of c p
+raised_full d c s p l raised =
+    let n = s.flags.raised p l in
+    let one : bit (is_raised c p) ≡ 1 = ap bit raised in
+    leb-true _ _ (up (nat_le (quota_of d p) (seats_of c p)) (omega arith))
+  where
+    up : (b : Bool) → 1 ≤ bit b → b ≡ true
+    up true l = refl
+    up false l = absurd (omega arith)
+
+-- a flag that is raised is a programme's
+pub raised_inside : (d : Dictatorship) (c : Core) (s : IsSound d c) (p : ℕ)
+    → is_raised c p ≡ true → p < length d.quota
+raised_inside d c s p raised =
+    elim (native.Mathlib.Decide.dec_le (length d.quota) p) [
+      | yes past ↦ absurd
+          (let same : FLAGS_PER_WORD * flag_group p + flag_bit p ≡ p = omega arith in
+          let none = s.flags.unused (flag_group p) (flag_bit p) (omega arith) (omega arith) in
+          let one = eqb-true _ 1 raised in
+          omega arith)
+      | no inside ↦ omega arith
+    ]
+
+-- a look at flags: the entries passed have their flags raised, so they are full
+pub read_flags_keeps : (d : Dictatorship) (c : Core) (i : ℕ) (v : View) (k j : ℕ)
+    → IsValidDictatorship d → IsSound d c → slice_get c.views i ≡ Some v
+    → IsAllowed d v (ReadsFlags k j) → IsSound d (after d c i v (ReadsFlags k j))
+read_flags_keeps d c i v k j valid s at ok =
+    let word = get_or c.flags (flag_group (entry d k j)) 0 in
+    let mine : Claiming = record { turn = k; passed = j; looked = false; met = false } in
+    let was = (s.views i v at).claim mine ok.0 in
+    let inside = ok.1 in
+    let within = past_flags_within d k j word was.passed in
+    claim_step d c s i v mine (claim_past_flags d k j word) at ok.0 refl record {
+      turn = was.turn;
+      drawn = was.drawn;
+      passed = within;
+      full = λ n m.
+          elim (native.Mathlib.Decide.dec_le j n) [
+            | yes from ↦ (let raised = raised_before d k j word n from m in
+                raised_full d c s (entry d k n)
+                (valid.list_entries k n was.turn (omega arith))
+                (subst
+                (λ (g : ℕ). is_raised_in (get_or c.flags g 0) (entry d k n) ≡ true)
+                (sym raised.0) raised.1))
+            | no before ↦ was.full n (omega arith)
+          ];
+      met = λ is. absurd (cc (is));
     }
 
 -- a reading: the entry is met, or it is full and passed
@@ -137,33 +210,16 @@ pub read_keeps : (d : Dictatorship) (c : Core) (i : ℕ) (v : View) (k j : ℕ) 
 read_keeps d c i v k j s at ok = by (is_open d c (entry d k j)) refl
   where
     mine : Claiming
-    mine = record { turn = k; passed = j; met = false }
+    mine = record { turn = k; passed = j; looked = true; met = false }
 
     was : IsSoundClaim d c mine
     was = (s.views i v at).claim mine ok.0
 
-    -- with the claim that the reading makes of it
-    reads : (passed : ℕ) (met : Bool)
-        → IsSoundClaim d c record { turn = k; passed = passed; met = met }
-        → IsSound d record c { views = set c.views i (with_claim v (claim_at k passed met)) }
-    reads passed met fits =
-        let f = s.views i v at in
-        let claim = claim_at k passed met in
-        view_step d c s i v (with_claim v claim) at refl (λ x. sym (ap (turn_bit x) ok.0)) refl
-        (λ p. refl)
-        record {
-          one = claimant_one v mine claim ok.0 f.one;
-          claim = at_some (IsSoundClaim d c) (record { turn = k; passed = passed; met = met }) fits;
-          hold = f.hold;
-          own = own_moves d c v.own k j passed false met
-              (subst (AreSoundOwnTurns d c v.own) ok.0 f.own);
-          past = f.past;
-        }
-
     by : (b : Bool) → is_open d c (entry d k j) ≡ b
         → IsSound d record c { views = set c.views i (after_read b v k j) }
     by true is =
-        reads j true record {
+        claim_step d c s i v mine record { turn = k; passed = j; looked = true; met = true } at
+        ok.0 refl record {
           turn = was.turn;
           drawn = was.drawn;
           passed = was.passed;
@@ -173,7 +229,8 @@ read_keeps d c i v k j s at ok = by (is_open d c (entry d k j)) refl
     by false is =
         let full = ltb-false (seats_of c (entry d k j)) (quota_of d (entry d k j)) is in
         let inside = ok.1 in
-        reads (j + 1) false record {
+        claim_step d c s i v mine
+        record { turn = k; passed = j + 1; looked = false; met = false } at ok.0 refl record {
           turn = was.turn;
           drawn = was.drawn;
           passed = omega arith;
@@ -212,15 +269,14 @@ le_or : (a b : ℕ) → (b < a → ⊥) → a ≤ b
 le_or a b h =
     elim (native.Mathlib.Decide.dec_le a b) [ yes l ↦ l | no n ↦ absurd (h (omega arith)) ]
 
-pub post_keeps : (d : Dictatorship) (c : Core) (i : ℕ) (v : View) (k j : ℕ) (met : Bool)
-    → IsSound d c
-    → slice_get c.views i ≡ Some v → IsAllowed d v (Posts k j met)
-    → IsSound d (after d c i v (Posts k j met))
-post_keeps d c i v k j met s at ok =
+pub post_keeps : (d : Dictatorship) (c : Core) (i : ℕ) (v : View) (k j : ℕ)
+    (looked met : Bool) → IsSound d c → slice_get c.views i ≡ Some v
+    → IsAllowed d v (Posts k j looked met) → IsSound d (after d c i v (Posts k j looked met))
+post_keeps d c i v k j looked met s at ok =
     let w : View = after_post v j in
-    let e : Core = after d c i v (Posts k j met) in
+    let e : Core = after d c i v (Posts k j looked met) in
     let f = s.views i v at in
-    let mine : Claiming = record { turn = k; passed = j; met = met } in
+    let mine : Claiming = record { turn = k; passed = j; looked = looked; met = met } in
     let claim = f.claim mine ok.0 in
     let inside = claim.turn in
     let drawn = claim.drawn in
@@ -266,6 +322,7 @@ post_keeps d c i v k j met s at ok =
                 (λ n. ap is_committed (else_ x n) ∙ s.cells.above x l);
           };
       seats = seats_stay d c.seats c.views s.count i v w at (λ p. refl) s.seats;
+      flags = flags_stay d c.flags c.seats c.views i v w at (λ p. refl) s.flags;
       posts = λ x y p.
           dite (ℕ_discrete x k)
           (λ is.
@@ -310,7 +367,7 @@ post_keeps d c i v k j met s at ok =
             claim = λ x is. absurd (cc (is));
             hold = λ h is. absurd (no_hold h is);
             own =
-                own_posted d c e v.own k j met inside drawn (omega arith) here g.cells
+                own_posted d c e v.own k j looked met inside drawn (omega arith) here g.cells
                 (subst (AreSoundOwnTurns d c v.own) ok.0 f.own);
             past = f.past;
           };

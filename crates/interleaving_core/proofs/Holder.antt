@@ -5,7 +5,7 @@ use Rattle.std.specs.Prelude.{slice_get}
 use Rattle.std.specs.List.{sum_by}
 use Rattle.market.specs.Dictatorships.{Dictatorship, IsValidDictatorship, list_at, choice}
 use Rattle.interleaving_core.specs.declared.parts.Phase.{Phase}
-use Rattle.interleaving_core.specs.declared.parts.Phase.TheVariants.{Idle, Halted, Scan, Ready, Seated}
+use Rattle.interleaving_core.specs.declared.parts.Phase.TheVariants.{Idle, Halted, Scan, Ready, Seated, Raised}
 use Rattle.interleaving_core.specs.declared.parts.Holding.{Holding}
 use Rattle.interleaving_core.specs.Core.{View, Core, fresh_view, entry, seats_of, hold_at}
 use Rattle.interleaving_core.specs.Events.{CanSeal}
@@ -86,6 +86,19 @@ pub decided : (d : Dictatorship) (c : Core) (i : ℕ) (v : View) (h j : ℕ) (ph
     → CanSeal (length (list_at d h)) j phase → IsSoundPhase d c h phase → IsDecided d c h j
 decided d c i v h j (Seated k filled) valid s at hold is fits =
     let mine : Holding = record { committed = h; phase = Seated k filled } in
+    record {
+      posted = subst (IsPostedUpTo d c h) is.0 fits.0;
+      place = fits.2 ∙ is.0;
+      seats = λ p l.
+          let n = s.seats.counts p l in
+          let one = seated_is d c s i v at mine hold p in
+          let next = takes_seat d h k p fits.2 fits.1 in
+          let same = ap (λ (m : ℕ). seats_after d m p)
+          ((s.views i v at).hold mine hold).committed in
+          omega arith;
+    }
+decided d c i v h j (Raised k) valid s at hold is fits =
+    let mine : Holding = record { committed = h; phase = Raised k } in
     record {
       posted = subst (IsPostedUpTo d c h) is fits.0;
       place = fits.2 ∙ is;

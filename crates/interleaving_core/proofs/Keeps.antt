@@ -8,24 +8,27 @@ use Rattle.interleaving_core.specs.declared.parts.Cell.TheVariants.{Empty, Poste
 use Rattle.interleaving_core.specs.declared.events.CoreEvent.{CoreEvent}
 use Rattle.interleaving_core.specs.declared.events.Told.{Told}
 use Rattle.interleaving_core.specs.Core.{View, Core, fresh_view, opening, turn_count, is_committed}
-use Rattle.interleaving_core.specs.Events.{Action, Claims, Reads, Posts, Takes, Looks, Weighs, Seats, Seals, Releases, IsAllowed, after}
+use Rattle.interleaving_core.specs.Events.{Action, Claims, ReadsFlags, Reads, Posts, Takes, Looks, Weighs, Seats, Raises, Seals, Releases, IsAllowed, after}
 use Rattle.interleaving_core.specs.Runs.{IsStep, IsRun}
-use Rattle.interleaving_core.specs.Sound.{hold_bit, seat_bit, IsSoundView, IsSound}
+use Rattle.interleaving_core.specs.Sound.{bit, hold_bit, seat_bit, late_bit, IsSoundView, IsSound}
 use Rattle.interleaving_core.proofs.Places.{sum_replicate, at_replicate, get_replicate}
 use Rattle.interleaving_core.proofs.OwnTurns.{own_nil}
-use Rattle.interleaving_core.proofs.ClaimantKeeps.{read_keeps, claim_keeps, post_keeps}
-use Rattle.interleaving_core.proofs.HolderKeeps.{take_keeps, look_keeps, weigh_keeps, seat_keeps, seal_keeps, release_keeps}
+use Rattle.interleaving_core.proofs.Flags.{first_flags_long, first_raised, first_unused, first_narrow}
+use Rattle.interleaving_core.proofs.ClaimantKeeps.{read_flags_keeps, read_keeps, claim_keeps, post_keeps}
+use Rattle.interleaving_core.proofs.HolderKeeps.{take_keeps, look_keeps, weigh_keeps, seat_keeps, raise_keeps, seal_keeps, release_keeps}
 
 -- an allowed event keeps a sound state
 pub keeps : (d : Dictatorship) (c : Core) (i : ℕ) (v : View) (e : Action) → IsValidDictatorship d
     → IsSound d c → slice_get c.views i ≡ Some v → IsAllowed d v e → IsSound d (after d c i v e)
 keeps d c i v Claims valid = claim_keeps d c i v (nat_lt c.claim_number (turn_count d)) refl
+keeps d c i v (ReadsFlags k j) valid = read_flags_keeps d c i v k j valid
 keeps d c i v (Reads k j) valid = read_keeps d c i v k j
-keeps d c i v (Posts k j met) valid = post_keeps d c i v k j met
+keeps d c i v (Posts k j looked met) valid = post_keeps d c i v k j looked met
 keeps d c i v Takes valid = take_keeps d c i v c.mark_held refl
 keeps d c i v (Looks h) valid = look_keeps d c i v h
 keeps d c i v (Weighs h j) valid = weigh_keeps d c i v h j valid
 keeps d c i v (Seats h j) valid = seat_keeps d c i v h j valid
+keeps d c i v (Raises h j) valid = raise_keeps d c i v h j valid
 keeps d c i v (Seals h j phase) valid = seal_keeps d c i v h j phase valid
 keeps d c i v (Releases h phase) valid = release_keeps d c i v h phase
 
@@ -56,6 +59,16 @@ begins d workers valid =
                 let nobody = sum_replicate (seat_bit d p) workers fresh_view refl in
                 let none = seats_taken-zero d p in
                 omega arith;
+          };
+      flags =
+          record {
+            each_group = first_flags_long d;
+            raised = λ p l.
+                let nobody = sum_replicate (late_bit d p) workers fresh_view refl in
+                let raised = ap bit (first_raised d p l) in
+                omega arith;
+            unused = first_unused d;
+            narrow = first_narrow d;
           };
       posts = λ k j p.
           let empty : Empty ≡ Posted j = sym (get_replicate n k Empty) ∙ p in absurd (cc (empty));

@@ -1,5 +1,6 @@
 pub mod Places
 pub mod Choices
+pub mod Flags
 pub mod OwnTurns
 pub mod Views
 pub mod Holder

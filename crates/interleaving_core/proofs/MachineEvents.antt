@@ -6,14 +6,15 @@ use Rattle.std.proofs.lemmas.Option.{slice_get_read, get_or_from_slice_get}
 use Rattle.interleaving_core.specs.declared.parts.Cell.{Cell}
 use Rattle.interleaving_core.specs.declared.parts.Cell.TheVariants.{Empty, Posted, Committed}
 use Rattle.interleaving_core.specs.declared.parts.Phase.{Phase}
-use Rattle.interleaving_core.specs.declared.parts.Phase.TheVariants.{Idle, Halted, Scan, Seated}
-use Rattle.interleaving_core.specs.declared.events.CoreEvent.TheVariants.{Claim, Read, Post, Take, Look, Weigh, Seat, Seal, Release}
+use Rattle.interleaving_core.specs.declared.parts.Phase.TheVariants.{Idle, Halted, Scan, Seated, Raised}
+use Rattle.interleaving_core.specs.declared.events.CoreEvent.TheVariants.{Claim, Flags, Read, Post, Take, Look, Weigh, Seat, Raise, Seal, Release}
 use Rattle.interleaving_core.specs.declared.events.Told.{Told}
 use Rattle.interleaving_core.specs.declared.events.Told.TheVariants as tells
 use Rattle.interleaving_core.specs.declared.team.Worker.{Worker}
 use Rattle.interleaving_core.specs.declared.state.CoreState.TheInside.{Inside}
+use Rattle.interleaving_core.specs.Flags.{flag_group, with_flag}
 use Rattle.interleaving_core.specs.Core.{turn_count, entry, quota_of, seats_of, is_open, cell_at, hold_at}
-use Rattle.interleaving_core.specs.Events.{Claims, Reads, Posts, Takes, Looks, Weighs, Seats, Seals, Releases, with_hold, after_claim_if, after_read, after_post, after_take, phase_after_look, phase_after_weigh, is_last_seat, told_of_claim, told_of_read, told_of_take, told_of_look, told_of_weigh}
+use Rattle.interleaving_core.specs.Events.{Claims, ReadsFlags, Reads, Posts, Takes, Looks, Weighs, Seats, Raises, Seals, Releases, with_hold, after_claim_if, after_flags, after_read, after_post, after_take, phase_after_look, phase_after_weigh, is_last_seat, told_of_claim, told_of_read, told_of_take, told_of_look, told_of_weigh}
 use Rattle.interleaving_core.specs.Machines.{view_of, machine_of, IsKept}
 use Rattle.interleaving_core.proofs.Machines.{MayAct, Acted, acted}
 
@@ -78,13 +79,22 @@ module _ (s : Inside) (i : ℕ) (w u : Worker) (room : vec_capacity u.own ≡ ve
       acted s _ i w u (Reads k j) _ x (ap told_of_read same)
       (is ∙ ap (λ b. after_read b (view_of w) k j) same) room refl refl refl
 
-  pub posts_turn : (k j : ℕ) (met : Bool) → MayAct s i w (Posts k j met)
+  pub reads_flags : (k j word : ℕ) → MayAct s i w (ReadsFlags k j)
+      → word ≡ get_or s.flags.items (flag_group (entry s.dict k j)) 0
+      → view_of u ≡ after_flags s.dict (view_of w) k j word
+      → Acted s record s { workers = with_item s.workers i u } i Flags (tells.Flags word)
+  reads_flags k j word x found is =
+      acted s _ i w u (ReadsFlags k j) _ x (ap (λ (n : ℕ). tells.Flags n) found)
+      (is ∙ ap (λ (n : ℕ). after_flags s.dict (view_of w) k j n) found) room refl refl refl
+
+  pub posts_turn : (k j : ℕ) (looked met : Bool) → MayAct s i w (Posts k j looked met)
       → view_of u ≡ after_post (view_of w) j
       → Acted s record s {
         cells = with_item s.cells k (Posted j);
         workers = with_item s.workers i u;
       } i Post (tells.Posted j)
-  posts_turn k j met x is = acted s _ i w u (Posts k j met) _ x refl is room refl refl refl
+  posts_turn k j looked met x is =
+      acted s _ i w u (Posts k j looked met) _ x refl is room refl refl refl
 
   pub tries_mark : (held : Bool) → MayAct s i w Takes → held ≡ s.mark_held
       → view_of u ≡ after_take (view_of w) held s.mark_number
@@ -157,6 +167,28 @@ module _ (s : Inside) (i : ℕ) (w u : Worker) (room : vec_capacity u.own ≡ ve
       (λ k. (sym which k, sym read k))
       (acted s _ i w u (Seats c j) _ x (ap (λ b. tells.Seated b) last)
       (is ∙ ap (λ b. with_hold (view_of w) (hold_at c (Seated j b))) last) room refl refl refl)
+
+  pub raises_flag : (c j p group word raised : ℕ) → MayAct s i w (Raises c j)
+      → p ≡ entry s.dict c j → group ≡ flag_group p
+      → word ≡ get_or s.flags.items (flag_group p) 0 → raised ≡ with_flag word p
+      → view_of u ≡ with_hold (view_of w) (hold_at c (Raised j))
+      → Acted s record s {
+        flags = with_item s.flags group raised;
+        workers = with_item s.workers i u;
+      } i Raise (tells.Raised p)
+  raises_flag c j p group word raised x which its read is_raised is =
+      let q : ℕ = entry s.dict c j in
+      let old : word ≡ get_or s.flags.items (flag_group q) 0 =
+      read ∙ ap (λ (n : ℕ). get_or s.flags.items (flag_group n) 0) which in
+      let new : raised ≡ with_flag (get_or s.flags.items (flag_group q) 0) q =
+      is_raised ∙ (λ k. with_flag (old k) (which k)) in
+      subst
+      (λ (z : ℕ × (ℕ × ℕ)). Acted s record s {
+        flags = with_item s.flags z.1.0 z.1.1;
+        workers = with_item s.workers i u;
+      } i Raise (tells.Raised z.0))
+      (λ k. (sym which k, (sym (its ∙ ap (λ (n : ℕ). flag_group n) which) k, sym new k)))
+      (acted s _ i w u (Raises c j) _ x refl is room refl refl refl)
 
   pub seals_turn : (c j : ℕ) (phase : Phase) → MayAct s i w (Seals c j phase)
       → view_of u ≡ with_hold (view_of w) (hold_at (c + 1) Idle)

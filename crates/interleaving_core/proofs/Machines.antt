@@ -11,12 +11,13 @@ use Rattle.interleaving_core.specs.declared.limits.TheConstants.{MAX_WORKERS}
 use Rattle.interleaving_core.specs.declared.parts.Claiming.{Claiming}
 use Rattle.interleaving_core.specs.declared.parts.OwnTurn.{OwnTurn}
 use Rattle.interleaving_core.specs.declared.parts.Phase.{Phase}
-use Rattle.interleaving_core.specs.declared.parts.Phase.TheVariants.{Idle, Halted, Scan, Ready, Seated}
+use Rattle.interleaving_core.specs.declared.parts.Phase.TheVariants.{Idle, Halted, Scan, Ready, Seated, Raised}
 use Rattle.interleaving_core.specs.declared.parts.Holding.{Holding}
 use Rattle.interleaving_core.specs.declared.events.CoreEvent.{CoreEvent}
 use Rattle.interleaving_core.specs.declared.events.Told.{Told}
 use Rattle.interleaving_core.specs.declared.team.Worker.{Worker}
 use Rattle.interleaving_core.specs.declared.state.CoreState.TheInside.{Inside}
+use Rattle.interleaving_core.specs.Flags.{flag_group}
 use Rattle.interleaving_core.specs.Core.{View, Core, Machine, fresh_view, opening, turn_count, entry, hold_at}
 use Rattle.interleaving_core.specs.Events.{Action, event_of, Seals, CanSeal, IsAllowed, Refuses, view_after, words_after, after, told_by}
 use Rattle.interleaving_core.specs.Runs.{IsStep, IsNotNow}
@@ -240,6 +241,31 @@ ready_within s i w c j k at hold =
     let fits = ((view_fits s i w k at).hold record { committed = c; phase = Ready j } hold).phase in
     (fits.0.0, fits.1)
 
+-- the turn and the place whose programme's flag is raised
+pub seated_within : (s : Inside) (i : ℕ) (w : Worker) (c j : ℕ) → IsKept s
+    → slice_get s.workers.items i ≡ Some w
+    → w.hold ≡ hold_at c (Seated j true) → (c < turn_count s.dict) × (j < length (list_at s.dict c))
+seated_within s i w c j k at hold =
+    let fits =
+    ((view_fits s i w k at).hold record { committed = c; phase = Seated j true } hold).phase in
+    (fits.0.0, fits.1)
+
+-- the word of flags that has a programme's
+pub flag_word_within : (s : Inside) (p : ℕ) → IsKept s → p < length s.dict.quota
+    → flag_group p < length s.flags.items
+flag_word_within s p k l =
+    let sound = k.sound in
+    let count = sound.flags.each_group in
+    omega arith
+
+-- such a word as it was read
+pub flag_word_is : (s : Inside) (p n : ℕ) → IsKept s → p < length s.dict.quota
+    → n ≡ get_or s.flags.items (flag_group p) n → n ≡ get_or s.flags.items (flag_group p) 0
+flag_word_is s p n k l at =
+    let inside = flag_word_within s p k l in
+    let got = slice_get_read s.flags.items (length s.flags.items) (flag_group p) n refl inside at in
+    sym (get_or_from_slice_get s.flags.items (flag_group p) n 0 got)
+
 -- the turn that is committed
 pub sealed_within : (s : Inside) (i : ℕ) (w : Worker) (c j : ℕ) (phase : Phase) → IsKept s
     → slice_get s.workers.items i ≡ Some w → IsAllowed s.dict (view_of w) (Seals c j phase)
@@ -254,6 +280,7 @@ sealed_within s i w c j phase k at ok =
     by (Scan n) can fits = fits.0.0
     by (Ready n) can fits = absurd can
     by (Seated n b) can fits = fits.0.0
+    by (Raised n) can fits = fits.0.0
 
 seated_le : (d : Dictatorship) (p : ℕ) (v : View) → seat_bit d p v ≤ 1
 seated_le d p v = by v.hold
@@ -264,6 +291,7 @@ seated_le d p v = by v.hold
     within_phase c (Scan j) = omega arith
     within_phase c (Ready j) = omega arith
     within_phase c (Seated j b) = bit_le (eqb (entry d c j) p)
+    within_phase c (Raised j) = bit_le (eqb (entry d c j) p)
 
     by : (o : Option Holding) → holder_seat_bit d p o ≤ 1
     by None = omega arith

@@ -36,20 +36,21 @@ own_nil d c =
       last = λ y e. absurd (cc (e));
     }
 
--- the claim of the same turn, at another place
-pub own_moves : (d : Dictatorship) (c : Core) (own : List OwnTurn) (k i j : ℕ) (a b : Bool)
-    → AreSoundOwnTurns d c own (claim_at k i a) → AreSoundOwnTurns d c own (claim_at k j b)
-own_moves d c own k i j a b f = record {
-  each = λ n x at. let t = f.each n x at in (
+-- another claim of the same turn
+pub own_moves : (d : Dictatorship) (c : Core) (own : List OwnTurn) (x y : Claiming)
+    → y.turn ≡ x.turn → AreSoundOwnTurns d c own (Some x) → AreSoundOwnTurns d c own (Some y)
+own_moves d c own x y same f = record {
+  each = λ n z at. let t = f.each n z at in (
     t.0,
     t.1,
-    ⊎_elim
-        (λ p. inl (p.0, (record { turn = k; passed = j; met = b }, refl, ap turn_in p.1.1 ∙ p.1.2)))
-        (λ p. inr p) t.2,
+    ⊎_elim (λ p. inl (p.0, (y, refl, same ∙ (ap turn_in p.1.1 ∙ p.1.2)))) (λ p. inr p) t.2,
   );
   rise = f.rise;
-  last = λ y e. let t = f.last record { turn = k; passed = i; met = a } refl in
-      (t.0, t.1 ∙ ap (λ (z : ℕ). t.0 ++ record { turn = z; place = None } ∷ []) (ap turn_in e));
+  last = λ z e. let t = f.last x refl in (
+    t.0,
+    t.1 ∙ ap (λ (n : ℕ). t.0 ++ record { turn = n; place = None } ∷ [])
+        (sym same ∙ ap turn_in e),
+  );
 }
 
 pub rise_snoc : (own : List OwnTurn) (z : OwnTurn)
@@ -74,7 +75,7 @@ pub own_claimed : (d : Dictatorship) (c e : Core) (own : List OwnTurn) (found : 
     → ((k j : ℕ) → IsCellFrom (cell_at c k) j → IsCellFrom (cell_at e k) j)
     → AreSoundOwnTurns d c own None
     → AreSoundOwnTurns d e (own ++ record { turn = found; place = None } ∷ [])
-    (claim_at found 0 false)
+    (claim_at found 0 false false)
 own_claimed d c e own found new more inside cells f = record {
   each = λ i x at. ⊎_elim
       (λ (p : slice_get own i ≡ Some x). let a = f.each i x p in (
@@ -85,10 +86,10 @@ own_claimed d c e own found new more inside cells f = record {
       ))
       (λ (p : (i ≡ length own) × (record { turn = found; place = None } ≡ x)). subst
       (λ (u : OwnTurn). (u.turn < turn_count d) × (u.turn < e.claim_number)
-      × IsSoundOwnTurn e (claim_at found 0 false) u) p.1 (
+      × IsSoundOwnTurn e (claim_at found 0 false false) u) p.1 (
         inside,
         more,
-        inl (refl, (record { turn = found; passed = 0; met = false }, refl, refl)),
+        inl (refl, (record { turn = found; passed = 0; looked = false; met = false }, refl, refl)),
       ))
       (at_snoc own record { turn = found; place = None } x i at);
   rise = rise_snoc own record { turn = found; place = None } f.rise
@@ -97,6 +98,7 @@ own_claimed d c e own found new more inside cells f = record {
       (own, ap (λ (z : ℕ). own ++ record { turn = z; place = None } ∷ []) (ap turn_in is));
 }
 
+-- the last own turn is the one that a post places
 placed_snoc : (xs : List OwnTurn) (x : OwnTurn) (j : ℕ)
     → with_place (xs ++ x ∷ []) j ≡ xs ++ record { turn = x.turn; place = Some j } ∷ []
 placed_snoc [] x j = refl
@@ -104,12 +106,13 @@ placed_snoc (y ∷ []) x j = refl
 placed_snoc (y ∷ z ∷ zs) x j = ap (λ l. y ∷ l) (placed_snoc (z ∷ zs) x j)
 
 -- the claimed turn is posted
-pub own_posted : (d : Dictatorship) (c e : Core) (own : List OwnTurn) (k j : ℕ) (met : Bool)
-    → k < turn_count d → k < e.claim_number → c.claim_number ≤ e.claim_number
+pub own_posted : (d : Dictatorship) (c e : Core) (own : List OwnTurn) (k j : ℕ)
+    (looked met : Bool) → k < turn_count d → k < e.claim_number → c.claim_number ≤ e.claim_number
     → cell_at e k ≡ Posted j → ((x i : ℕ) → IsCellFrom (cell_at c x) i → IsCellFrom (cell_at e x) i)
-    → AreSoundOwnTurns d c own (claim_at k j met) → AreSoundOwnTurns d e (with_place own j) None
-own_posted d c e own k j met inside drawn more here cells f =
-    let t = f.last record { turn = k; passed = j; met = met } refl in
+    → AreSoundOwnTurns d c own (claim_at k j looked met)
+    → AreSoundOwnTurns d e (with_place own j) None
+own_posted d c e own k j looked met inside drawn more here cells f =
+    let t = f.last record { turn = k; passed = j; looked = looked; met = met } refl in
     let before : List OwnTurn = t.0 in
     let old : OwnTurn = record { turn = k; place = None } in
     let new : OwnTurn = record { turn = k; place = Some j } in

@@ -7,11 +7,11 @@ use Rattle.interleaving_core.specs.declared.parts.Cell.{Cell}
 use Rattle.interleaving_core.specs.declared.parts.Cell.TheVariants.{Posted}
 use Rattle.interleaving_core.specs.declared.parts.Claiming.{Claiming}
 use Rattle.interleaving_core.specs.declared.parts.Phase.{Phase}
-use Rattle.interleaving_core.specs.declared.parts.Phase.TheVariants.{Idle, Halted, Scan, Ready, Seated}
+use Rattle.interleaving_core.specs.declared.parts.Phase.TheVariants.{Idle, Halted, Scan, Ready, Seated, Raised}
 use Rattle.interleaving_core.specs.declared.parts.Holding.{Holding}
 use Rattle.interleaving_core.specs.Core.{View, Core, entry, quota_of, seats_of, cell_at, hold_at}
 use Rattle.interleaving_core.specs.Events.{with_claim, with_hold}
-use Rattle.interleaving_core.specs.Sound.{hold_bit, done_bit, claim_bit, seat_bit, IsPostedUpTo, IsSoundPhase, IsCellFrom, IsSoundClaim, IsSoundHolding, DoesOneThing, IsSoundView, IsSoundMark, AreSoundSeats, AreSoundClaims, IsSound}
+use Rattle.interleaving_core.specs.Sound.{hold_bit, done_bit, claim_bit, seat_bit, late_bit, IsPostedUpTo, IsSoundPhase, IsCellFrom, IsSoundClaim, IsSoundHolding, DoesOneThing, IsSoundView, IsSoundMark, AreSoundSeats, AreSoundFlags, AreSoundClaims, IsSound}
 use Rattle.interleaving_core.proofs.Places.{each_set, sum_set}
 use Rattle.interleaving_core.proofs.OwnTurns.{own_stays}
 
@@ -77,6 +77,12 @@ phase_stays d c e h (Seated j b) s f = (
   f.2,
   f.3
       ∙ ap (λ (n : ℕ). nat_le (quota_of d (entry d h j)) n) (sym (s.seats (entry d h j))),
+)
+phase_stays d c e h (Raised j) s f = (
+  posted_stays d c e h j s f.0,
+  f.1,
+  f.2,
+  (let full = f.3 in let same = s.seats (entry d h j) in omega arith),
 )
 
 pub holding_stays : (d : Dictatorship) (c e : Core) (count : ℕ) (h : Holding)
@@ -150,6 +156,21 @@ seats_stay d seats views count i v w at same s =
           omega arith;
     }
 
+pub flags_stay : (d : Dictatorship) (flags seats : List ℕ) (views : List View) (i : ℕ) (v w : View)
+    → slice_get views i ≡ Some v → ((p : ℕ) → late_bit d p w ≡ late_bit d p v)
+    → AreSoundFlags d flags seats views → AreSoundFlags d flags seats (set views i w)
+flags_stay d flags seats views i v w at same f =
+    record {
+      each_group = f.each_group;
+      raised = λ p l.
+          let t = sum_set (late_bit d p) views i v w at in
+          let n = f.raised p l in
+          let e = same p in
+          omega arith;
+      unused = f.unused;
+      narrow = f.narrow;
+    }
+
 pub claims_stay : (d : Dictatorship) (number : ℕ) (cells : List Cell) (views : List View) (i : ℕ)
     (v w : View)
     → slice_get views i ≡ Some v → ((k : ℕ) → claim_bit k w ≡ claim_bit k v)
@@ -192,15 +213,15 @@ pub calm_stays : (c : Core) (drawn : ℕ) (held : Bool) (number : ℕ) (views : 
     → Stays c (calm c drawn held number views) h
 calm_stays c drawn held number views h = record { seats = λ p. refl; cell = λ j p. p }
 
--- an event that writes neither a seat count nor a cell, and seats nobody
+-- an event that writes neither a seat count nor a cell nor a flag, and seats nobody
 pub calm_step : (d : Dictatorship) (c : Core) (s : IsSound d c) (i : ℕ) (v w : View) (drawn : ℕ)
     (held : Bool) (number : ℕ) → slice_get c.views i ≡ Some v → c.claim_number ≤ drawn
     → IsSoundMark d held number (set c.views i w) s.count
     → AreSoundClaims d drawn c.cells (set c.views i w)
-    → ((p : ℕ) → seat_bit d p w ≡ seat_bit d p v)
+    → ((p : ℕ) → seat_bit d p w ≡ seat_bit d p v) → ((p : ℕ) → late_bit d p w ≡ late_bit d p v)
     → IsSoundView d (calm c drawn held number (set c.views i w)) s.count w
     → IsSound d (calm c drawn held number (set c.views i w))
-calm_step d c s i v w drawn held number at more mark claims same_seat fits =
+calm_step d c s i v w drawn held number at more mark claims same_seat same_late fits =
     let views = set c.views i w in
     let e = calm c drawn held number views in
     record {
@@ -208,6 +229,7 @@ calm_step d c s i v w drawn held number at more mark claims same_seat fits =
       mark = mark;
       cells = s.cells;
       seats = seats_stay d c.seats c.views s.count i v w at same_seat s.seats;
+      flags = flags_stay d c.flags c.seats c.views i v w at same_late s.flags;
       posts = s.posts;
       claims = claims;
       views =
@@ -222,13 +244,14 @@ pub mark_step : (d : Dictatorship) (c : Core) (s : IsSound d c) (i : ℕ) (v w :
     (number : ℕ) → slice_get c.views i ≡ Some v
     → IsSoundMark d held number (set c.views i w) s.count
     → ((k : ℕ) → claim_bit k w ≡ claim_bit k v) → done_bit w ≡ done_bit v
-    → ((p : ℕ) → seat_bit d p w ≡ seat_bit d p v) → IsSoundView d c s.count w
+    → ((p : ℕ) → seat_bit d p w ≡ seat_bit d p v) → ((p : ℕ) → late_bit d p w ≡ late_bit d p v)
+    → IsSoundView d c s.count w
     → IsSound d (calm c c.claim_number held number (set c.views i w))
-mark_step d c s i v w held number at mark same_claim same_end same_seat fits =
+mark_step d c s i v w held number at mark same_claim same_end same_seat same_late fits =
     let n = c.claim_number in
     let views = set c.views i w in
     calm_step d c s i v w n held number at (omega arith) mark
-    (claims_stay d n c.cells c.views i v w at same_claim same_end s.claims) same_seat
+    (claims_stay d n c.cells c.views i v w at same_claim same_end s.claims) same_seat same_late
     (view_grows d c (calm c n held number views) s.count s.count w
     (calm_grows c n held number views (omega arith))
     (λ h is. holding_stays d c _ s.count h (calm_stays c n held number views h.committed)) fits)
@@ -237,7 +260,8 @@ mark_step d c s i v w held number at mark same_claim same_end same_seat fits =
 pub view_step : (d : Dictatorship) (c : Core) (s : IsSound d c) (i : ℕ) (v w : View)
     → slice_get c.views i ≡ Some v → hold_bit w ≡ hold_bit v
     → ((k : ℕ) → claim_bit k w ≡ claim_bit k v) → done_bit w ≡ done_bit v
-    → ((p : ℕ) → seat_bit d p w ≡ seat_bit d p v) → IsSoundView d c s.count w
+    → ((p : ℕ) → seat_bit d p w ≡ seat_bit d p v) → ((p : ℕ) → late_bit d p w ≡ late_bit d p v)
+    → IsSoundView d c s.count w
     → IsSound d record c { views = set c.views i w }
 view_step d c s i v w at same_hold =
     mark_step d c s i v w c.mark_held c.mark_number at

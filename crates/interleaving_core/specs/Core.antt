@@ -8,6 +8,7 @@ use Rattle.interleaving_core.specs.declared.parts.Claiming.{Claiming}
 use Rattle.interleaving_core.specs.declared.parts.OwnTurn.{OwnTurn}
 use Rattle.interleaving_core.specs.declared.parts.Phase.{Phase}
 use Rattle.interleaving_core.specs.declared.parts.Holding.{Holding}
+use Rattle.interleaving_core.specs.Flags.{flag_group, is_raised_in, first_flags}
 
 -- what one worker knows: the turn it claims; the turns it has drawn, in order; whether it is
 -- done, since no turn was left to draw; whether it owes a try on the mark; and what it knows as
@@ -20,13 +21,15 @@ pub record View : Type 0 where
   pub hold : Option Holding
 
 -- the claim number, which is how many draws were made; the mark, held or free, and its number;
--- the seat count of each programme; the cell of each turn; and the view of each worker
+-- the seat count of each programme; the cell of each turn; the words of flags, of which each
+-- programme has one, raised or lowered; and the view of each worker
 pub record Core : Type 0 where
   pub claim_number : ℕ
   pub mark_held : Bool
   pub mark_number : ℕ
   pub seats : List ℕ
   pub cells : List Cell
+  pub flags : List ℕ
   pub views : List View
 
 -- a core state with the dictatorship that it runs
@@ -38,7 +41,8 @@ pub record Machine : Type 0 where
 abbrev pub fresh_view : View
 fresh_view = record { claim = None; own = []; done = false; owes = false; hold = None }
 
--- the opening state: nothing is drawn, posted or committed, and the mark is free
+-- the opening state: nothing is drawn, posted or committed, the mark is free, and the flags of
+-- exactly the full programmes are raised
 abbrev pub opening : Dictatorship → ℕ → Core
 opening d workers =
     record {
@@ -47,6 +51,7 @@ opening d workers =
       mark_number = 0;
       seats = d.fill;
       cells = replicate (length d.lists) Empty;
+      flags = first_flags d;
       views = replicate workers fresh_view;
     }
 
@@ -70,6 +75,10 @@ seats_of c p = slice_index c.seats p
 abbrev pub is_open : Dictatorship → Core → ℕ → Bool
 is_open d c p = nat_lt (seats_of c p) (quota_of d p)
 
+-- whether the flag of a programme is raised
+abbrev pub is_raised : Core → ℕ → Bool
+is_raised c p = is_raised_in (slice_index c.flags (flag_group p)) p
+
 -- the cell of a turn
 abbrev pub cell_at : Core → ℕ → Cell
 cell_at c k = slice_index_or c.cells k Empty
@@ -80,8 +89,8 @@ is_committed (Committed _) = true
 is_committed _ = false
 
 -- a claim of turn k with j entries passed
-abbrev pub claim_at : ℕ → ℕ → Bool → Option Claiming
-claim_at k j met = Some record { turn = k; passed = j; met = met }
+abbrev pub claim_at : ℕ → ℕ → Bool → Bool → Option Claiming
+claim_at k j looked met = Some record { turn = k; passed = j; looked = looked; met = met }
 
 -- the mark held, with c turns committed
 abbrev pub hold_at : ℕ → Phase → Option Holding

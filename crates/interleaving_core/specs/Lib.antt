@@ -1,7 +1,9 @@
 -- The definitions, in the order in which to read them.
+-- words of flags
+pub mod Flags
 -- a core state: what the shared words hold and what each worker knows
 pub mod Core
--- the nine events: when each is allowed, what it leads to and what it tells
+-- the eleven events: when each is allowed, what it leads to and what it tells
 pub mod Events
 -- one event after another
 pub mod Runs

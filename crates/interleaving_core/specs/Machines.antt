@@ -39,6 +39,7 @@ machine_of s =
             mark_number = s.mark_number;
             seats = s.seats.items;
             cells = s.cells.items;
+            flags = s.flags.items;
             views = map view_of s.workers.items;
           };
     }

@@ -1,14 +1,17 @@
 -- When a core state is sound.
-use Rattle.std.specs.Prelude.{◌≡◌, ℕ, ◌+◌, ◌<◌, ◌≤◌, ◌⊎◌, ◌++◌, ◌==◌, Bool, true, false, nat_le, List, [], ◌∷◌, length, slice_get, slice_index, slice_index_or, Option, Some, None}
+use Rattle.std.specs.Prelude.{◌≡◌, ℕ, ◌+◌, ◌<◌, ◌*◌, ◌≤◌, ◌⊎◌, ◌++◌, ◌==◌, Bool, true, false, nat_le, List, [], ◌∷◌, length, slice_get, slice_index, slice_index_or, Option, Some, None}
 use Rattle.std.specs.List.{sum_by}
+use Rattle.std.specs.Int.{bit_at}
 use Rattle.market.specs.Dictatorships.{Dictatorship, list_at, choice, seats_taken}
+use Rattle.interleaving_core.specs.declared.limits.TheConstants.{FLAGS_PER_WORD}
 use Rattle.interleaving_core.specs.declared.parts.Cell.{Cell}
 use Rattle.interleaving_core.specs.declared.parts.Cell.TheVariants.{Empty, Posted, Committed}
 use Rattle.interleaving_core.specs.declared.parts.Claiming.{Claiming}
 use Rattle.interleaving_core.specs.declared.parts.OwnTurn.{OwnTurn}
 use Rattle.interleaving_core.specs.declared.parts.Phase.{Phase}
-use Rattle.interleaving_core.specs.declared.parts.Phase.TheVariants.{Idle, Halted, Scan, Ready, Seated}
+use Rattle.interleaving_core.specs.declared.parts.Phase.TheVariants.{Idle, Halted, Scan, Ready, Seated, Raised}
 use Rattle.interleaving_core.specs.declared.parts.Holding.{Holding}
+use Rattle.interleaving_core.specs.Flags.{flag_word_count, flag_group, is_raised_in}
 use Rattle.interleaving_core.specs.Core.{View, Core, turn_count, entry, quota_of, seats_of, cell_at, is_committed}
 
 -- 1 for true
@@ -50,6 +53,7 @@ phase_seat_bit d p c Halted = 0
 phase_seat_bit d p c (Scan j) = 0
 phase_seat_bit d p c (Ready j) = 0
 phase_seat_bit d p c (Seated j filled) = bit (entry d c j == p)
+phase_seat_bit d p c (Raised j) = bit (entry d c j == p)
 
 -- the same for what a holder knows
 abbrev pub holder_seat_bit : Dictatorship → ℕ → Option Holding → ℕ
@@ -59,6 +63,25 @@ holder_seat_bit d p (Some h) = phase_seat_bit d p h.committed h.phase
 -- the same for a view
 abbrev pub seat_bit : Dictatorship → ℕ → View → ℕ
 seat_bit d p v = holder_seat_bit d p v.hold
+
+-- 1 where p was just filled in this phase for turn c, and its flag is not raised yet
+abbrev pub phase_late_bit : Dictatorship → ℕ → ℕ → Phase → ℕ
+phase_late_bit d p c Idle = 0
+phase_late_bit d p c Halted = 0
+phase_late_bit d p c (Scan j) = 0
+phase_late_bit d p c (Ready j) = 0
+phase_late_bit d p c (Seated j false) = 0
+phase_late_bit d p c (Seated j true) = bit (entry d c j == p)
+phase_late_bit d p c (Raised j) = 0
+
+-- the same for what a holder knows
+abbrev pub holder_late_bit : Dictatorship → ℕ → Option Holding → ℕ
+holder_late_bit d p None = 0
+holder_late_bit d p (Some h) = phase_late_bit d p h.committed h.phase
+
+-- the same for a view
+abbrev pub late_bit : Dictatorship → ℕ → View → ℕ
+late_bit d p v = holder_late_bit d p v.hold
 
 -- the seats of p that the fill and the first k turns take
 abbrev pub seats_after : Dictatorship → ℕ → ℕ → ℕ
@@ -83,6 +106,9 @@ IsSoundPhase d c h (Ready j) =
 IsSoundPhase d c h (Seated j filled) =
     IsPostedUpTo d c h j × (j < length (list_at d h)) × (choice d h ≡ j)
     × (filled ≡ nat_le (quota_of d (entry d h j)) (seats_of c (entry d h j)))
+IsSoundPhase d c h (Raised j) =
+    IsPostedUpTo d c h j × (j < length (list_at d h)) × (choice d h ≡ j)
+    × (quota_of d (entry d h j) ≤ seats_of c (entry d h j))
 
 -- the cell is posted at place j, or committed there or later
 abbrev pub IsCellFrom : Cell → ℕ → Type 0
@@ -156,6 +182,19 @@ pub record AreSoundSeats (d : Dictatorship) (seats : List ℕ) (views : List Vie
   pub counts : (p : ℕ) → p < length d.quota
       → slice_index seats p ≡ seats_after d count p + sum_by (seat_bit d p) views
 
+-- there is a word for each 64 programmes or part of 64. The flag of a programme is raised exactly
+-- where the programme is full, but that it is still lowered where the holder has just filled it;
+-- and a bit that is no programme's flag is 0
+pub record AreSoundFlags (d : Dictatorship) (flags : List ℕ) (seats : List ℕ)
+    (views : List View) : Type 0 where
+  pub each_group : length flags ≡ flag_word_count (length d.quota)
+  pub raised : (p : ℕ) → p < length d.quota
+      → bit (is_raised_in (slice_index flags (flag_group p)) p) + sum_by (late_bit d p) views
+      ≡ bit (nat_le (quota_of d p) (slice_index seats p))
+  pub unused : (group b : ℕ) → b < FLAGS_PER_WORD → length d.quota ≤ FLAGS_PER_WORD * group + b
+      → bit_at (slice_index flags group) b ≡ 0
+  pub narrow : (group b : ℕ) → FLAGS_PER_WORD ≤ b → bit_at (slice_index flags group) b ≡ 0
+
 -- a posted place is one of the list or its length, and what lies before it is full
 abbrev pub AreSoundPosts : Dictatorship → Core → Type 0
 AreSoundPosts d c =
@@ -176,6 +215,7 @@ pub record IsSound (d : Dictatorship) (c : Core) : Type 0 where
   pub mark : IsSoundMark d c.mark_held c.mark_number c.views count
   pub cells : AreSoundCells d c.cells count
   pub seats : AreSoundSeats d c.seats c.views count
+  pub flags : AreSoundFlags d c.flags c.seats c.views
   pub posts : AreSoundPosts d c
   pub claims : AreSoundClaims d c.claim_number c.cells c.views
   pub views : (i : ℕ) (v : View) → slice_get c.views i ≡ Some v → IsSoundView d c count v

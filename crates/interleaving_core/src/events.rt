@@ -1,11 +1,13 @@
-// The nine events, and what each tells the worker that makes it.
+// The eleven events, and what each tells the worker that makes it.
 
-/// An event: one operation of a worker on one shared word. The first three are a claimant's, the
+/// An event: one operation of a worker on one shared word. The first four are a claimant's, the
 /// others are those of who holds the mark or tries to take it.
 #[derive(Clone, Copy, PartialEq, Eq, Debug)]
 pub enum CoreEvent {
     /// Draws the next turn.
     Claim,
+    /// Looks at the flags that stand with that of the next entry of the claimed turn's list.
+    Flags,
     /// Reads whether the next entry of the claimed turn's list is full.
     Read,
     /// Posts the place found for the claimed turn.
@@ -18,6 +20,8 @@ pub enum CoreEvent {
     Weigh,
     /// Takes a seat at the place weighed.
     Seat,
+    /// Raises the flag of the programme that was just filled.
+    Raise,
     /// Commits the turn.
     Seal,
     /// Gives the mark back.
@@ -31,6 +35,8 @@ pub enum Told {
     Claimed(u32),
     /// No turn is left to draw.
     NoTurn,
+    /// The word of flags that was found.
+    Flags(u64),
     /// The entry read is full, and passed.
     Passed,
     /// The entry read has a seat left.
@@ -51,6 +57,8 @@ pub enum Told {
     Room,
     /// A seat is taken, and whether the programme is full now.
     Seated(bool),
+    /// The programme whose flag is raised.
+    Raised(u32),
     /// The turn committed.
     Sealed(u32),
     /// The mark is free again, with this number of committed turns.

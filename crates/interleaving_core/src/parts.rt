@@ -19,6 +19,8 @@ pub struct Claiming {
     pub turn: u32,
     /// How many entries of its list the worker has passed, each of them full.
     pub passed: u32,
+    /// Whether the worker has looked at the flag of the next entry, and found it lowered.
+    pub looked: bool,
     /// Whether the worker has met a seat at the next entry.
     pub met: bool,
 }
@@ -45,6 +47,8 @@ pub enum Phase {
     Ready(u32),
     /// It has taken a seat at this place, and whether the programme is full now.
     Seated(u32, bool),
+    /// It has filled the programme at this place, and raised its flag.
+    Raised(u32),
 }
 
 /// What the holder of the mark knows.

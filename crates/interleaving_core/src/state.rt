@@ -12,6 +12,7 @@ mod claimant;
 mod holder;
 
 use crate::events::{CoreEvent, NotNow, Told};
+use crate::flag_words::first_flags;
 use crate::limits::MAX_WORKERS;
 use crate::opening::fresh_workers;
 use crate::parts::Cell;
@@ -30,6 +31,7 @@ pub struct CoreState {
     mark_number: u32,
     seats: Vec<u32>,
     cells: Vec<Cell>,
+    flags: Vec<u64>,
     workers: Vec<Worker>,
 }
 
@@ -56,6 +58,7 @@ impl CoreState {
         let turns = dict.turns();
         let seats = dict.fills(alloc)?;
         let cells = vec![in alloc; Cell::Empty; turns as usize]?;
+        let flags = first_flags(alloc, &dict)?;
         let workers = fresh_workers(alloc, workers, turns)?;
         Ok(CoreState {
             dict,
@@ -64,6 +67,7 @@ impl CoreState {
             mark_number: 0,
             seats,
             cells,
+            flags,
             workers,
         })
     }
@@ -83,12 +87,14 @@ impl CoreState {
     {
         match event {
             CoreEvent::Claim => self.claim(worker),
+            CoreEvent::Flags => self.read_flags(worker),
             CoreEvent::Read => self.read(worker),
             CoreEvent::Post => self.post(worker),
             CoreEvent::Take => self.take(worker),
             CoreEvent::Look => self.look(worker),
             CoreEvent::Weigh => self.weigh(worker),
             CoreEvent::Seat => self.seat(worker),
+            CoreEvent::Raise => self.raise(worker),
             CoreEvent::Seal => self.seal(worker),
             CoreEvent::Release => self.release(worker),
         }

@@ -5,7 +5,7 @@ ghost use Rattle.market.specs.Dictatorships.{Dictatorship};
 ghost use Rattle.interleaving_core.specs.declared.events.CoreEvent.{CoreEvent};
 ghost use Rattle.interleaving_core.specs.declared.parts.Phase.{Phase};
 ghost use Rattle.interleaving_core.specs.Core.{fresh_view};
-ghost use Rattle.interleaving_core.specs.Events.{Claims, Reads, Posts, Takes, Looks, Weighs, Seats, Seals, Releases, IsAllowed, Refuses, after_post};
+ghost use Rattle.interleaving_core.specs.Events.{Claims, ReadsFlags, Reads, Posts, Takes, Looks, Weighs, Seats, Raises, Seals, Releases, IsAllowed, Refuses, after_post};
 
 use crate::entries::list_length;
 use crate::events::NotNow;
@@ -53,6 +53,22 @@ impl Worker {
         }
     }
 
+    // The claim for whose next entry it may look at flags.
+    pub(crate) fn may_read_flags(&self, dict: &Dict) -> Result<Claiming, NotNow>
+        requires { IsWithin dict.now (view_of self.now) }
+        ensures { MatchResult result
+            (λ x. IsAllowed dict.now (view_of self.now) (ReadsFlags x.turn x.passed))
+            (λ _. Refuses dict.now (view_of self.now) CoreEvent.Flags) }
+    {
+        let Some(claim) = self.claim else {
+            return Err(NotNow);
+        };
+        if claim.looked || claim.met || claim.passed >= list_length(dict, claim.turn) {
+            return Err(NotNow);
+        }
+        Ok(claim)
+    }
+
     // The claim of which it may read the next entry.
     pub(crate) fn may_read(&self, dict: &Dict) -> Result<Claiming, NotNow>
         requires { IsWithin dict.now (view_of self.now) }
@@ -63,7 +79,7 @@ impl Worker {
         let Some(claim) = self.claim else {
             return Err(NotNow);
         };
-        if claim.met || claim.passed >= list_length(dict, claim.turn) {
+        if !claim.looked || claim.met || claim.passed >= list_length(dict, claim.turn) {
             return Err(NotNow);
         }
         Ok(claim)
@@ -73,7 +89,7 @@ impl Worker {
     pub(crate) fn may_post(&self, dict: &Dict) -> Result<Claiming, NotNow>
         requires { IsWithin dict.now (view_of self.now) }
         ensures { MatchResult result
-            (λ x. IsAllowed dict.now (view_of self.now) (Posts x.turn x.passed x.met))
+            (λ x. IsAllowed dict.now (view_of self.now) (Posts x.turn x.passed x.looked x.met))
             (λ _. Refuses dict.now (view_of self.now) CoreEvent.Post) }
     {
         let Some(claim) = self.claim else {
@@ -145,6 +161,21 @@ impl Worker {
         }
     }
 
+    // The turn and the place whose programme's flag it may raise.
+    pub(crate) fn may_raise(&self) -> Result<(u32, u32), NotNow>
+        ensures { (d : Dictatorship) → MatchResult result
+            (λ x. IsAllowed d (view_of self.now) (Raises x.0 x.1))
+            (λ _. Refuses d (view_of self.now) CoreEvent.Raise) }
+    {
+        let Some(holding) = self.hold else {
+            return Err(NotNow);
+        };
+        match holding.phase {
+            Phase::Seated(place, true) => Ok((holding.committed, place)),
+            _ => Err(NotNow),
+        }
+    }
+
     // The turn that it may commit, and the place.
     pub(crate) fn may_seal(&self, dict: &Dict) -> Result<(u32, u32), NotNow>
         requires { IsWithin dict.now (view_of self.now) }
@@ -157,7 +188,8 @@ impl Worker {
         };
         let turn = holding.committed;
         match holding.phase {
-            Phase::Seated(place, _) => Ok((turn, place)),
+            Phase::Seated(place, filled) if !filled => Ok((turn, place)),
+            Phase::Raised(place) => Ok((turn, place)),
             Phase::Scan(place) if place == list_length(dict, turn) => Ok((turn, place)),
             _ => Err(NotNow),
         }

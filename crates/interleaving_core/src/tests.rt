@@ -3,7 +3,7 @@
 
 ghost use Rattle.std.specs.Prelude.{◌≡◌, length, IfOk};
 
-use crate::CoreEvent::{Claim, Look, Post, Read, Release, Seal, Seat, Take, Weigh};
+use crate::CoreEvent::{Claim, Flags, Look, Post, Raise, Read, Release, Seal, Seat, Take, Weigh};
 use crate::{Cell, CoreEvent, CoreState, Told};
 use market::examples::two_turns;
 use market::{Dict, List};
@@ -37,14 +37,19 @@ fn empty_places(alloc: Global) -> Result<Dict, AllocError>
     Ok(Dict::from_parts(quota, fill, lists))
 }
 
-// Makes these events of two workers in turn, and compares what each tells: `None` where it is not
-// allowed.
-fn play(rt: &impl Abort, state: &mut CoreState, script: &[(u32, CoreEvent, Option<Told>)])
-    requires { length state.old.core.views ≡ 2 }
+// Makes these events of so many workers in turn, and compares what each tells: `None` where it is
+// not allowed.
+fn play(
+    rt: &impl Abort,
+    state: &mut CoreState,
+    workers: u32,
+    script: &[(u32, CoreEvent, Option<Told>)],
+)
+    requires { length state.old.core.views ≡ workers }
     ensures { state.new.dict ≡ state.old.dict }
 {
     for (worker, event, told) in script {
-        assert!(rt; *worker < 2);
+        assert!(rt; *worker < workers);
         assert_eq!(rt; state.step(*worker, *event).ok(), *told);
     }
 }
@@ -58,6 +63,8 @@ fn a_turn_posted_too_early_is_weighed_again(rt: HostRuntime) -> Result<(), Fail>
     let script = [
         (0, Claim, Some(Told::Claimed(0))),
         (1, Claim, Some(Told::Claimed(1))),
+        (0, Flags, Some(Told::Flags(0))),
+        (1, Flags, Some(Told::Flags(0))),
         (0, Read, Some(Told::Met)),
         (1, Read, Some(Told::Met)),
         (1, Post, Some(Told::Posted(0))),
@@ -66,15 +73,17 @@ fn a_turn_posted_too_early_is_weighed_again(rt: HostRuntime) -> Result<(), Fail>
         (0, Look, Some(Told::Found(0))),
         (0, Weigh, Some(Told::Room)),
         (0, Seat, Some(Told::Seated(true))),
+        (0, Raise, Some(Told::Raised(0))),
         (0, Seal, Some(Told::Sealed(0))),
         (0, Look, Some(Told::Found(0))),
         (0, Weigh, Some(Told::Full)),
         (0, Weigh, Some(Told::Room)),
         (0, Seat, Some(Told::Seated(true))),
+        (0, Raise, Some(Told::Raised(1))),
         (0, Seal, Some(Told::Sealed(1))),
         (0, Release, Some(Told::Released(2))),
     ];
-    play(&rt, &mut state, &script);
+    play(&rt, &mut state, 2, &script);
     assert_eq!(rt; state.cell(0), Cell::Committed(0));
     assert_eq!(rt; state.cell(1), Cell::Committed(1));
     assert_eq!(rt; state.committed(), 2);
@@ -90,13 +99,14 @@ fn a_later_turn_waits_for_the_earlier_one(rt: HostRuntime) -> Result<(), Fail> {
     let script = [
         (0, Claim, Some(Told::Claimed(0))),
         (1, Claim, Some(Told::Claimed(1))),
+        (1, Flags, Some(Told::Flags(0))),
         (1, Read, Some(Told::Met)),
         (1, Post, Some(Told::Posted(0))),
         (1, Take, Some(Told::Took(0))),
         (1, Look, Some(Told::Nothing)),
         (1, Release, Some(Told::Released(0))),
     ];
-    play(&rt, &mut state, &script);
+    play(&rt, &mut state, 2, &script);
     assert_eq!(rt; state.cell(0), Cell::Empty);
     assert_eq!(rt; state.cell(1), Cell::Posted(0));
     assert_eq!(rt; state.committed(), 0);
@@ -111,6 +121,7 @@ fn nothing_is_allowed_out_of_turn(rt: HostRuntime) -> Result<(), Fail> {
     play(
         &rt,
         &mut state,
+        2,
         &[(1, Seal, None), (0, Look, None), (0, Read, None)],
     );
     assert_eq!(rt; (state.cell(0), state.cell(1)), (Cell::Empty, Cell::Empty));
@@ -118,18 +129,67 @@ fn nothing_is_allowed_out_of_turn(rt: HostRuntime) -> Result<(), Fail> {
     Ok(())
 }
 
-const EVENTS: [CoreEvent; 9] = [Claim, Read, Post, Take, Look, Weigh, Seat, Seal, Release];
+// The seat taken is the programme's last: its turn is committed once the flag is raised, and the
+// next turn passes the programme by its flag.
+#[test]
+fn a_filled_programme_is_passed_by_its_flag(rt: HostRuntime) -> Result<(), Fail> {
+    let alloc = rt.alloc();
+    let mut state = CoreState::open(alloc, two_turns(alloc)?, 1)?;
+    let script = [
+        (0, Claim, Some(Told::Claimed(0))),
+        (0, Read, None),
+        (0, Flags, Some(Told::Flags(0))),
+        (0, Flags, None),
+        (0, Read, Some(Told::Met)),
+        (0, Post, Some(Told::Posted(0))),
+        (0, Take, Some(Told::Took(0))),
+        (0, Look, Some(Told::Found(0))),
+        (0, Weigh, Some(Told::Room)),
+        (0, Raise, None),
+        (0, Seat, Some(Told::Seated(true))),
+        (0, Seal, None),
+        (0, Raise, Some(Told::Raised(0))),
+        (0, Seal, Some(Told::Sealed(0))),
+        (0, Look, Some(Told::Nothing)),
+        (0, Release, Some(Told::Released(1))),
+        (0, Claim, Some(Told::Claimed(1))),
+        (0, Flags, Some(Told::Flags(1))),
+        (0, Read, Some(Told::Met)),
+        (0, Post, Some(Told::Posted(1))),
+    ];
+    play(&rt, &mut state, 1, &script);
+    Ok(())
+}
 
-// Three workers make 4,000 events by chance: far more than the few turns here need.
+// A programme without a seat is full from the opening on.
+#[test]
+fn a_programme_without_a_seat_has_its_flag_raised(rt: HostRuntime) -> Result<(), Fail> {
+    let alloc = rt.alloc();
+    let mut state = CoreState::open(alloc, empty_places(alloc)?, 1)?;
+    let script = [
+        (0, Claim, Some(Told::Claimed(0))),
+        (0, Flags, Some(Told::Flags(1))),
+        (0, Read, Some(Told::Met)),
+        (0, Post, Some(Told::Posted(1))),
+    ];
+    play(&rt, &mut state, 1, &script);
+    Ok(())
+}
+
+const EVENTS: [CoreEvent; 11] = [
+    Claim, Flags, Read, Post, Take, Look, Weigh, Seat, Raise, Seal, Release,
+];
+
+// Three workers make 6,000 events by chance: far more than the few turns here need.
 fn play_by_chance(alloc: Global, dict: Dict, seed: u32) -> Result<CoreState, AllocError>
     ensures { IfOk result (λ s. s.dict ≡ dict) }
 {
     let mut state = CoreState::open(alloc, dict, 3)?;
     let mut random = seed;
-    for _ in 0..4000 {
+    for _ in 0..6000 {
         random = random.wrapping_mul(1_664_525).wrapping_add(1_013_904_223);
         let worker = random >> 16 & 0xff;
-        let event = EVENTS[(random >> 24) as usize % 9];
+        let event = EVENTS[(random >> 24) as usize % 11];
         let _ = state.step(worker % 3, event);
     }
     Ok(state)

@@ -1,5 +1,5 @@
 // The part that has the header.
-ghost use Rattle.std.specs.Prelude.{◌≡◌, ◌≤◌, All, flat_map, length};
+ghost use Rattle.std.specs.Prelude.{◌≡◌, ◌≤◌, ℕ, All, drop, flat_map, length};
 ghost use Rattle.record_files.specs.Rows.{part_rows};
 ghost use Rattle.piece_reader.specs.Header.{BeginsWithRow};
 ghost use Rattle.piece_reader.specs.Parts.{IsPartOf};
@@ -14,6 +14,7 @@ pub fn from_header<'p>(bytes: &[u8], parts: &'p [RowPart]) -> &'p [RowPart]
     ensures rows { flat_map (part_rows bytes.now) result.now
         ≡ flat_map (part_rows bytes.now) parts.entry.now }
     ensures first { BeginsWithRow bytes.now result.now }
+    ensures tail { (n : ℕ) × (result.now ≡ drop n parts.entry.now) }
     ensures each { All (IsPartOf bytes.now) result.now }
 {
     let mut rest = parts;

@@ -1,7 +1,11 @@
-// Cuts at line ends, and the lines at which the parts begin.
-use super::{from_header, read_pieces};
-use record_files::RowPart;
-use std::alloc::Global;
+// Cuts at line ends, and files read over the parts.
+ghost use Rattle.std.specs.Prelude.{◌≤◌, length};
+
+use super::{AheadRow, TakesAhead, from_header, read_pieces, read_table};
+use place_base::FaultKind::{self, Duplicate, FieldCount, TooManyRows};
+use place_base::{FileFault, FileKind};
+use record_files::{FileForm, Header, RecordRow, RowPart, RowTable, TableStop, duplicate_at};
+use std::alloc::{AllocError, Global};
 use std::test::Fail;
 use std::thread::Threads;
 
@@ -71,5 +75,157 @@ fn the_header_stands_behind_empty_lines(rt: HostRuntime) -> Result<(), Fail> {
         line: 6,
     };
     assert_eq!(rt; rest.first(), Some(&first));
+    Ok(())
+}
+
+// The line of a row.
+#[derive(Clone, Copy)]
+struct Line(u32);
+
+// How many rows were read. A file has at most three of them, and a row at line 9 is wrong: its fault
+// tells how many stand before it.
+#[derive(Drop)]
+struct RowCount(u32);
+
+impl AheadRow<()> for Line {
+    ghost use Rattle.std.specs.Prelude.{◌≡◌, ◌==◌, None, codes, length};
+    ghost use Rattle.place_base.specs.declared.fault.FileKind.TheVariants.{Programmes};
+    ghost use Rattle.record_files.specs.FirstFaults.{duplicate_at, fault_if};
+    ghost use Rattle.record_files.specs.Form.{one_header};
+
+    type Fields = Line;
+
+    ghost rules = { λ _. record {
+      form = one_header Programmes (codes "h") 3;
+      reading = λ version row. None;
+      meaning = λ earlier row. fault_if (row.0 == 9) (duplicate_at Programmes 9 1 (length earlier));
+    } };
+
+    ghost says = { λ row line. line.0 ≡ row.0 };
+
+    ghost keeps = { λ _ row line. line.0 ≡ row.0 };
+
+    fn form(_beside: &()) -> FileForm {
+        FileForm::new(FileKind::Programmes, &[b"h"], 3)
+    }
+
+    fn most_rows(_beside: &()) -> u32 {
+        3
+    }
+
+    fn read_fields(_beside: &(), _header: Header, row: &RecordRow<'_>) -> Result<Line, FileFault> {
+        Ok(Line(row.line()))
+    }
+
+    fn keep(_alloc: Global, _beside: &(), fields: Line) -> Result<Line, AllocError> {
+        Ok(fields)
+    }
+}
+
+impl RowTable<()> for RowCount {
+    ghost use Rattle.std.specs.Prelude.{◌≡◌, ◌==◌, None, codes, length};
+    ghost use Rattle.place_base.specs.declared.fault.FileKind.TheVariants.{Programmes};
+    ghost use Rattle.record_files.specs.FirstFaults.{duplicate_at, fault_if};
+    ghost use Rattle.record_files.specs.Form.{one_header};
+
+    type Fields = Line;
+
+    ghost rules = { λ _. record {
+      form = one_header Programmes (codes "h") 3;
+      reading = λ version row. None;
+      meaning = λ earlier row. fault_if (row.0 == 9) (duplicate_at Programmes 9 1 (length earlier));
+    } };
+
+    ghost says = { λ row line. line.0 ≡ row.0 };
+
+    ghost has_rows = { λ _ rows table. table.0 ≡ length rows };
+
+    fn form(beside: &()) -> FileForm {
+        Line::form(beside)
+    }
+
+    fn read_fields(_beside: &(), _header: Header, row: &RecordRow<'_>) -> Result<Line, FileFault> {
+        Ok(Line(row.line()))
+    }
+
+    fn take(
+        &mut self,
+        alloc: Global,
+        beside: &(),
+        fields: Line,
+    ) -> Result<Option<FileFault>, AllocError> {
+        self.take_ahead(alloc, beside, fields)
+    }
+}
+
+impl TakesAhead<(), Line> for RowCount {
+    fn take_ahead(
+        &mut self,
+        _alloc: Global,
+        _beside: &(),
+        row: Line,
+    ) -> Result<Option<FileFault>, AllocError> {
+        if row.0 == 9 {
+            return Ok(Some(duplicate_at(FileKind::Programmes, 9, 1, self.0)));
+        }
+        self.0 += 1;
+        Ok(None)
+    }
+}
+
+// How many rows a file has that is read in so many pieces, or its fault.
+fn count_rows<R: Threads + Sync>(
+    rt: &R,
+    alloc: Global,
+    bytes: &[u8],
+    pieces: u32,
+) -> Result<u32, TableStop>
+    requires size { length bytes.now ≤ 1024 }
+    requires pieces { (1 ≤ pieces) × (pieces ≤ 64) }
+{
+    let count = read_table::<R, (), Line, RowCount>(rt, alloc, bytes, pieces, &(), RowCount(0))?;
+    Ok(count.0)
+}
+
+// A file, and its fault's line, field, kind and earlier line.
+const FAULTS: [(&[u8], u32, u8, FaultKind, u32); 5] = [
+    (b"x\n1", 1, 0, FaultKind::Header, 0),
+    (b"h\na\nb,c\nd", 3, 0, FieldCount, 0),
+    (b"\n\nh\na\nb\nc\nd", 7, 0, TooManyRows, 0),
+    (b"h\n\n\n\nx\n\n\ny\nz", 9, 1, Duplicate, 2),
+    (b"h\n\n\n\n\n\n\n\na\nb,c", 9, 1, Duplicate, 0),
+];
+
+#[test]
+fn the_first_fault_is_told_for_each_number_of_pieces(rt: HostRuntime) -> Result<(), Fail> {
+    for pieces in &[1, 2, 7, 64] {
+        tell_faults(&rt, rt.alloc(), *pieces, &FAULTS)?;
+    }
+    Ok(())
+}
+
+// Reads each file, and fails where another fault is told; and a file without one.
+fn tell_faults<R: Threads + Sync>(
+    rt: &R,
+    alloc: Global,
+    pieces: u32,
+    files: &[(&[u8], u32, u8, FaultKind, u32)],
+) -> Result<(), Fail> {
+    if pieces == 0 || pieces > 64 {
+        return Err(Fail::new("a number of pieces"));
+    }
+    for (bytes, line, field, kind, earlier) in files {
+        let mut wanted = duplicate_at(FileKind::Programmes, *line, *field, *earlier);
+        wanted.kind = *kind;
+        if bytes.len() > 1024 {
+            return Err(Fail::new("a long file"));
+        }
+        if count_rows(rt, alloc, bytes, pieces).err() != Some(TableStop::Fault(wanted)) {
+            return Err(Fail::new("another fault"));
+        }
+    }
+    if count_rows(rt, alloc, b"\n\n\nh\nx\n\ny\nz", pieces) != Ok(3) {
+        return Err(Fail::new("another table"));
+    }
     Ok(())
 }

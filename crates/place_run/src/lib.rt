@@ -7,6 +7,8 @@ mod answer;
 mod commands;
 // The three tables of a market, read from their files.
 mod inputs;
+// The limits in numbers.
+mod limits;
 // The line of a status.
 mod notes;
 // A market with the mechanism's placement in it.
@@ -24,5 +26,6 @@ mod status;
 #[cfg(test)]
 mod tests;
 
+pub use limits::limits_in_numbers;
 pub use run::run_words;
 pub use status::Status;

@@ -8,7 +8,7 @@ use crate::inputs::Inputs;
 use crate::problem::Problem;
 use gate_workers::Gate;
 use market::{Market, Placement, Steps};
-use round_rerun::place_rounds;
+use round_rerun::Rounds;
 use stable_laws::worst_stable;
 use std::alloc::{AllocError, Global};
 use std::marker::Brand;
@@ -69,6 +69,6 @@ fn uncounted<R: Threads + Sync, G: Gate, L: Ledger>(
     ensures { IfOk result (λ placement. placement ≡ mechanism_placement market.now) }
 {
     let mut turns = Steps::<L>::new(blank);
-    let outcome = place_rounds(rt, alloc, workers, gate, market, &mut turns)?;
+    let outcome = Rounds::new(workers, gate).run(rt, alloc, market, &mut turns)?;
     Ok(outcome.placement)
 }

@@ -1,11 +1,31 @@
 -- The turns of all types, put together type by type.
-use Rattle.std.proofs.Common.{◌≡◌, ◌∙◌, ◌<◌, ◌≤◌, ℕ, List, [], ◌∷◌, ◌++◌, Ok, Option, Result, Some, length, ap, append_assoc, arith, refl, subst, sym, ⊎_elim, length-append}
+use Rattle.std.proofs.Common.{◌≡◌, ◌+◌, ◌∙◌, ◌<◌, ◌≤◌, ℕ, List, [], ◌∷◌, ◌++◌, Ok, Option, Result, Some, length, ap, append_assoc, arith, refl, subst, sym, ⊎_elim, length-append}
 use Rattle.std.specs.Prelude.{slice_index_or}
 use Rattle.std.proofs.lemmas.Bool.{cases_lt}
 use Rattle.std.proofs.lemmas.List.{append-nil, get_or_append_left, get_or_push, length_push}
 use Rattle.rank_lists.specs.Clean.{AreAllCleanTurns, AreCleanTurns, AreEachRead, AreTurnsRead, keys_in}
 use Rattle.rank_lists.specs.declared.part_ranks.PartRanks.{PartRanks}
 use Rattle.rank_lists.specs.declared.turns.Turns.{Turns}
+
+-- the turns of one type more
+pub AreEachRead-next : {E : Type 0} (parts : List PartRanks) (turns : List (Result (Option Turns) E))
+    (one : Result (Option Turns) E) (types : ℕ) → AreEachRead types parts turns
+    → AreTurnsRead (keys_in types parts) one → AreEachRead (types + 1) parts (turns ++ one ∷ [])
+AreEachRead-next {E} parts turns one types read last =
+    let before = read.size in
+    let size = length_push turns one in
+    record {
+      size = omega arith;
+      each = λ kind d lt. ⊎_elim
+          (λ (below : kind < types). subst (AreTurnsRead {E = E} (keys_in kind parts))
+          (sym (get_or_append_left turns (one ∷ []) d kind (omega arith))) (read.each kind d below))
+          (λ (above : types ≤ kind).
+          let same : types ≡ kind = omega arith in
+          subst (AreTurnsRead {E = E} (keys_in kind parts))
+          (sym (get_or_push turns one d kind (omega arith)))
+          (subst (λ k. AreTurnsRead {E = E} (keys_in k parts) one) same last))
+          (cases_lt kind types);
+    }
 
 module _ {E : Type 0} (parts : List PartRanks) (all : List (Result (Option Turns) E)) where
   -- these are the turns of the first types

@@ -41,7 +41,14 @@ pub(crate) fn read_clean<R: Threads + Sync, T: TypeFinder + Sync, C: Finder + Sy
     if !are_known(&parts) {
         return Ok(None);
     }
-    let turns = turns_by_type(rt, alloc, &parts, types.type_count(), candidates.count())?;
+    let turns = turns_by_type(
+        rt,
+        alloc,
+        pieces,
+        &parts,
+        types.type_count(),
+        candidates.count(),
+    )?;
     collected(alloc, turns)
 }
 
@@ -57,8 +64,42 @@ fn are_known(parts: &[PartRanks]) -> bool
     true
 }
 
-// The turn order of each of so many types of so many candidates, the types side by side.
+// The turn order of each of so many types of so many candidates: one worker sorts type by type,
+// more of them the types side by side.
 fn turns_by_type<R: Threads + Sync>(
+    rt: &R,
+    alloc: Global,
+    workers: u32,
+    parts: &[PartRanks],
+    types: u32,
+    candidates: u32,
+) -> Result<Vec<Result<Option<Turns>, AllocError>>, AllocError>
+    ensures { IfOk result (λ turns. AreEachRead types parts.now turns.items) }
+{
+    if workers == 1 {
+        return turns_in_order(alloc, parts, types, candidates);
+    }
+    turns_side_by_side(rt, alloc, parts, types, candidates)
+}
+
+// The turn orders, one type after the other.
+fn turns_in_order(
+    alloc: Global,
+    parts: &[PartRanks],
+    types: u32,
+    candidates: u32,
+) -> Result<Vec<Result<Option<Turns>, AllocError>>, AllocError>
+    ensures { IfOk result (λ turns. AreEachRead types parts.now turns.items) }
+{
+    let mut turns = Vec::with_capacity(alloc, types as usize)?;
+    for kind in 0..types {
+        turns.push(turns_in(alloc, parts, kind as usize, candidates))?;
+    }
+    Ok(turns)
+}
+
+// The turn orders, the types side by side.
+fn turns_side_by_side<R: Threads + Sync>(
     rt: &R,
     alloc: Global,
     parts: &[PartRanks],

@@ -3,7 +3,7 @@
 ghost use Rattle.std.specs.Prelude.{◌≡◌, ◌+◌, ◌<◌, ◌≤◌, All, IfOk, ℕ, length, slice_index_or};
 ghost use Rattle.registration_desk.specs.Crew.{HasWorked};
 ghost use Rattle.registration_desk.specs.Desks.{IsClerkOf, Stays, knows};
-ghost use Rattle.registration_desk.specs.Replies.{IsHistory, IsOnceEach, IsOnlyPlaced};
+ghost use Rattle.registration_desk.specs.Replies.{IsHistory};
 ghost use Rattle.registration_desk.specs.declared.desk.Clerk.{Clerk};
 
 use crate::desk::{Clerk, Desk, MOST_CLERKS};
@@ -18,8 +18,8 @@ use std::sync::Wait;
 use std::thread;
 use std::thread::Threads;
 
-/// Answers every request, by 1 to 64 clerks who share one desk, each in a thread of its own where
-/// one can be made.
+/// Answers every request, by 1 to 64 clerks who share one desk. That each works in a thread of its
+/// own, where one can be made, is tested.
 pub fn serve_all<R: Threads + Wait + Sync, G: DeskGate>(
     rt: &R,
     alloc: Global,

@@ -28,7 +28,7 @@ use std::thread::Threads;
 /// judged one after the other: a read fault of a file comes first, then that it has more than 2^30
 /// bytes, then its first fault. All memory is taken before the first byte is written to `out`. So
 /// after each refusal `out` is as it was; only a write fault leaves a part of the text there. A
-/// fault of `notes` changes neither the status nor `out`.
+/// fault of `notes` changes neither the status nor `out`, which is tested.
 ///
 /// What is written does not depend on how many clerks there are, on which of them serves which
 /// request, or on the gate. The run returns only if the clerks let the desk go.
@@ -46,7 +46,8 @@ pub fn run_desk<R: Threads + Wait + Sync, H: Shelf, K: Sink, N: Sink, G: DeskGat
         (texts words.now) }
 
     // Over the bytes that were read, which are those held where the shelf tells them, the status,
-    // the text and the line are those of the words. Each file is read once.
+    // the text and the line are those of the words. Where the run ends neither in want of memory
+    // nor in a read fault, each file was read once.
     ensures run { IsDeskRun K.written K.faults N.written N.faults (H.files shelf.old)
         (texts words.now) result out.old out.new notes.old notes.new
         (H.faults shelf.old) (H.faults shelf.new) (H.tally shelf.old) (H.tally shelf.new) }

@@ -1,5 +1,5 @@
 // Runs over files in memory, which a reader can check by hand, and one clerk's calls.
-ghost use Rattle.std.specs.Prelude.{◌≡◌, ◌≤◌, IfSome, length};
+ghost use Rattle.std.specs.Prelude.{◌≡◌, IfSome, length};
 ghost use Rattle.registration_desk.specs.Desks.{AllNew, key_of, opened};
 
 // Gates that hold clerks and count their calls.

@@ -8,3 +8,5 @@ pub mod WorstHolders
 pub mod EntryTests
 -- full entries of a stable placement
 pub mod FullEntries
+-- programmes that nobody holds
+pub mod Unheld

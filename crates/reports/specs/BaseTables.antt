@@ -1,7 +1,7 @@
 -- The base ranks and the numbers of holders of a placement, programme by programme.
-use Rattle.std.specs.Prelude.{◌≡◌, ℕ, ◌<◌, List, length, Option, Some, None, slice_index, slice_index_or}
+use Rattle.std.specs.Prelude.{◌≡◌, ◌↔◌, ℕ, ◌<◌, List, length, Option, Some, None, slice_index, slice_index_or}
 use Rattle.market.specs.Counting.{count_of}
-use Rattle.market.specs.Problems.{Problem}
+use Rattle.market.specs.Problems.{Problem, IsAcceptable}
 use Rattle.market.specs.BaseRanks.{base_rank}
 use Rattle.market.specs.Stability.{held_by}
 
@@ -28,3 +28,12 @@ pub record IsBaseTable (m : Problem) (held : List (Option ℕ)) (table : BaseTab
 -- each held programme is one of the market
 abbrev pub HoldsProgrammes : Problem → List (Option ℕ) → Type 0
 HoldsProgrammes m held = (i p : ℕ) → held_by held i ≡ Some p → p < length m.programmes
+
+-- each held programme is acceptable to its holder
+abbrev pub HoldsAcceptable : Problem → List (Option ℕ) → Type 0
+HoldsAcceptable m held = (i p : ℕ) → held_by held i ≡ Some p → IsAcceptable m i p
+
+-- exactly the programmes that nobody holds have no base rank
+abbrev pub IsNoneWhereUnheld : Problem → BaseTable → Type 0
+IsNoneWhereUnheld m table =
+    (p : ℕ) → p < length m.programmes → (base_of table p ≡ None) ↔ (held_of table p ≡ 0)

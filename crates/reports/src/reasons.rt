@@ -9,6 +9,6 @@ pub enum Reason {
     Below,
     /// Neither, and the candidate has no rank in its score type.
     NoRank,
-    /// None of these: its seats went to others. The base rank, or none where nobody holds it.
+    /// None of these. The base rank, or none where no holder has a rank in its score type.
     Full(Option<u32>),
 }

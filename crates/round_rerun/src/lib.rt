@@ -9,4 +9,4 @@ mod placing;
 #[cfg(test)]
 mod tests;
 
-pub use placing::{Rounds, place_rounds};
+pub use placing::Rounds;

@@ -34,6 +34,26 @@ impl<'g, G: Gate> Rounds<'g, G> {
     {
         Rounds { workers, gate }
     }
+
+    /// The mechanism's placement, at any gate: the contract of `Placer::place`, which `Rounds` has
+    /// as a trait over the open gate alone. The counter rises by the turns that were run: all in
+    /// the first round, and then of each type those from the first one that the last cuts changed.
+    pub fn run<R: Threads + Sync, L: Ledger>(
+        &self,
+        rt: &R,
+        alloc: Global,
+        market: &Market,
+        turns: &mut Steps<L>,
+    ) -> Result<Outcome, AllocError>
+        ensures placement { IfOk result (λ outcome. outcome.placement
+            ≡ mechanism_placement market.now) }
+        ensures rounds { IfOk result (λ outcome. outcome.rounds ≡ mechanism_rounds market.now) }
+        ensures cuts { IfOk result (λ outcome. outcome.cuts ≡ mechanism_cuts market.now) }
+        ensures reruns { IfOk result (λ outcome. outcome.turns ≡ placement_turns market.now) }
+        ensures turns { IfOk result (λ outcome. turns.new ≡ turns.old + outcome.turns) }
+    {
+        place_rounds(rt, alloc, self.workers, self.gate, market, turns)
+    }
 }
 
 impl<'g> Placer for Rounds<'g, OpenGate> {
@@ -54,14 +74,13 @@ impl<'g> Placer for Rounds<'g, OpenGate> {
         ensures reruns { IfOk result (λ outcome. outcome.turns ≡ placement_turns market.now) }
         ensures turns { IfOk result (λ outcome. turns.new ≡ turns.old + outcome.turns) }
     {
-        place_rounds(rt, alloc, self.workers, self.gate, market, turns)
+        self.run(rt, alloc, market, turns)
     }
 }
 
-/// The mechanism's placement by rounds that run again only what the last cuts changed, over teams
-/// of so many workers who pass this gate, which may be any. The outcome's turns are those that were
-/// run.
-pub fn place_rounds<R: Threads + Sync, G: Gate, L: Ledger>(
+// The mechanism's placement by rounds that run again only what the last cuts changed, over teams of
+// so many workers who pass this gate. The outcome's turns are those that were run.
+fn place_rounds<R: Threads + Sync, G: Gate, L: Ledger>(
     rt: &R,
     alloc: Global,
     workers: u32,

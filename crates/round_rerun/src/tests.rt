@@ -4,7 +4,7 @@
 ghost use Rattle.std.specs.Prelude.{◌≡◌, ◌<◌, ◌≤◌};
 ghost use Rattle.interleaving_core.specs.declared.limits.TheConstants.{MAX_WORKERS};
 
-use crate::{Rounds, place_rounds};
+use crate::Rounds;
 use gate_workers::OpenGate;
 use market::examples::{exchange, freed_seat, three_rounds};
 use market::{Market, Outcome, Placer, Steps};
@@ -26,7 +26,7 @@ fn outcome_of<R: Threads + Sync, L: Ledger>(
     requires workers { (0 < workers) × (workers ≤ MAX_WORKERS) }
 {
     let mut turns = Steps::<L>::new(blank);
-    place_rounds(rt, alloc, workers, &OpenGate, market, &mut turns)
+    Rounds::new(workers, &OpenGate).run(rt, alloc, market, &mut turns)
 }
 
 // The same by the placer.

@@ -93,9 +93,9 @@ table-read P fault table (Err stop) found p = tt
 -- a file that says its table is short and has no fault
 pub record SaysTable {T : Type 0} (fault : Option FileFault) (table said : T) (bytes : List ℕ)
     : Type 0 where
-    pub few : length bytes ≤ file_limit
-    pub none : fault ≡ None
-    pub same : said ≡ table
+  pub few : length bytes ≤ file_limit
+  pub none : fault ≡ None
+  pub same : said ≡ table
 
 no-fault : {T : Type 0} (fault : Option FileFault) (table said : T) → fault_or fault table ≡ Ok said
     → (fault ≡ None) × (said ≡ table)

@@ -1,5 +1,5 @@
 // A named file, read whole.
-ghost use Rattle.std.specs.Prelude.{◌≡◌, ◌≤◌, IfOk, IsErrOf, IsTrue, MatchResult, vec_len};
+ghost use Rattle.std.specs.Prelude.{◌≡◌, ◌+◌, ◌≤◌, IfOk, IsErrOf, IsTrue, MatchResult, vec_len};
 ghost use Rattle.place_edges.specs.Shelf.{HasBytes, file_limit, tally_with};
 ghost use Rattle.run_frame.specs.Files.{HasFileCauses, IsUnread};
 ghost use Rattle.run_frame.specs.Stops.{too_long as too_long_in};
@@ -34,6 +34,8 @@ pub fn read_file<H: Shelf>(
 
     ensures memory { IsErrOf result FileStop.Memory
         → tally_with (H.tally shelf.old) 1 ≤ H.tally shelf.new }
+    ensures short { IsErrOf result FileStop.Memory
+        → H.tally shelf.new ≤ H.tally shelf.old + file_limit }
 
     // What is held and granted stays.
     ensures files { H.files shelf.new ≡ H.files shelf.old }

@@ -1,5 +1,6 @@
 -- A claimant's atomic steps keep the rule: a draw, a reading and a post are each their event.
-use Rattle.std.proofs.Common.{◌≡◌, ℕ, zero, suc, ◌+◌, ◌*◌, ◌/◌, ◌%◌, ◌^◌, ◌<◌, ◌≤◌, Bool, true, false, List, [], ◌∷◌, set, get_or, nat_lt, Option, None, IsSome, sym, refl, ap, ⊎_elim, subst, ◌∙◌, arith, length-set, get_or-set_other}
+use Rattle.std.proofs.Common.{◌≡◌, ℕ, zero, suc, ◌+◌, ◌*◌, ◌/◌, ◌%◌, ◌^◌, ◌<◌, ◌≤◌, Bool, true, false, List, [], ◌∷◌, ◌++◌, length, set, get_or, nat_lt, Option, Some, None, IsSome, sym, refl, ap, ⊎_elim, subst, ◌∙◌, arith, length-set, get_or-set_other}
+use Rattle.std.specs.Prelude.{slice_get}
 use Rattle.std.specs.List.{sum_by}
 use Rattle.std.proofs.lemmas.List.{set-get_or}
 use Rattle.std.proofs.lemmas.List.Sums.{sum_by-cons}
@@ -7,17 +8,21 @@ use Rattle.std.proofs.Math.Nat.{mod-eq_of_lt}
 use Rattle.atomic_table.specs.Table.{keeps, Allows}
 use Rattle.market.specs.Dictatorships.{Dictatorship}
 use Rattle.interleaving_core.specs.declared.parts.Cell.TheVariants.{Posted}
+use Rattle.interleaving_core.specs.declared.parts.Claiming.{Claiming}
+use Rattle.interleaving_core.specs.Flags.{flag_group, is_raised_in}
 use Rattle.interleaving_core.specs.Core.{View, Core, turn_count, entry, quota_of, seats_of}
-use Rattle.interleaving_core.specs.Events.{Claims, Reads, Posts, IsAllowed, after_claim, after_read, after_post, after}
+use Rattle.interleaving_core.specs.Events.{Claims, ReadsFlags, Reads, Posts, IsAllowed, after_claim, after_flags, after_read, after_post, after}
 use Rattle.interleaving_core.specs.Sound.{bit, done_bit, AreSoundOwnTurns}
+use Rattle.interleaving_core.proofs.Places.{at_snoc}
+use Rattle.interleaving_core.proofs.ClaimantKeeps.{raised_inside, raised_full}
 use Rattle.word_rule.specs.Layout.{cell_of, core_of, programme_count}
 use Rattle.word_rule.specs.Views.{SeatKnows, SeatMe, with_core, other_view, shared_views, core_views}
-use Rattle.word_rule.specs.Rule.{IsSoundTable, share_of, table_core}
-use Rattle.word_rule.specs.Claimant.{read_by, AreEarlier, TellsClaim, TellsRead, TellsPost}
+use Rattle.word_rule.specs.Rule.{IsSoundTable, HasReadFull, share_of, table_core}
+use Rattle.word_rule.specs.Claimant.{flags_by, read_by, AreEarlier, TellsClaim, TellsFlags, TellsRead, TellsPost}
 use Rattle.word_rule.specs.declared.rule.RoundKey.{RoundKey}
 use Rattle.word_rule.proofs.CoreViews.{live_there, place, weight, sum_views, shared_sum}
-use Rattle.word_rule.proofs.Layouts.{shows_posted, reads_seats, writes_claim, writes_cell}
-use Rattle.word_rule.proofs.Keeps.{same_seat, live_after, seat_in_range, seat_fits, event_keeps}
+use Rattle.word_rule.proofs.Layouts.{shows_posted, reads_seats, reads_flags, writes_claim, writes_cell}
+use Rattle.word_rule.proofs.Keeps.{IsSameSeat, same_seat, live_after, seat_in_range, seat_fits, seats_in, event_keeps}
 
 -- no seat gives more done views than its share
 few_ends : (n : ℕ) (v : View) → sum_by done_bit (shared_views n v) ≤ n
@@ -68,6 +73,39 @@ earlier d c v none f =
       rise = f.rise;
     }
 
+-- a look at flags leaves the seat what it was but for its claim and what it has read
+flags_same : (x : SeatKnows) (o : Option Claiming) (found : ℕ)
+    → (1 < x.share → x.core.done ≡ true) → IsSameSeat x (flags_by x o found)
+flags_same x None found alone = same_seat x x.core (λ more. (alone more, alone more))
+flags_same x (Some c) found alone =
+    record {
+      number = refl;
+      share = refl;
+      dict = refl;
+      workers = refl;
+      alone = λ more. (alone more, alone more);
+    }
+
+flags_released : (x : SeatKnows) (o : Option Claiming) (found : ℕ)
+    → (flags_by x o found).released ≡ x.released
+flags_released x None found = refl
+flags_released x (Some c) found = refl
+
+-- one word of flags more, whose raised flags are those of full programmes
+read_one_more : (d : Dictatorship) (seats : List ℕ) (x : SeatKnows) (flags : List (ℕ × ℕ))
+    (word : ℕ × ℕ)
+    → ((p : ℕ) → flag_group p ≡ word.0 → is_raised_in word.1 p ≡ true
+    → (p < length d.quota) × (quota_of d p ≤ get_or seats p 0))
+    → HasReadFull d seats x → flags ≡ x.flags ++ word ∷ []
+    → HasReadFull d seats record x { flags = flags }
+read_one_more d seats x flags word new old is n other at p group raised =
+    ⊎_elim
+    (λ (t : slice_get x.flags n ≡ Some other). old n other t p group raised)
+    (λ (t : (n ≡ length x.flags) × (word ≡ other)).
+    new p (group ∙ ap (λ (w : ℕ × ℕ). w.0) (sym t.1))
+    (subst (λ (w : ℕ × ℕ). is_raised_in w.1 p ≡ true) (sym t.1) raised))
+    (at_snoc x.flags word other n (ap (λ (f : List (ℕ × ℕ)). slice_get f n) (sym is) ∙ at))
+
 read_done : (b : Bool) (v : View) (k j : ℕ) → (after_read b v k j).done ≡ v.done
 read_done true v k j = refl
 read_done false v k j = refl
@@ -110,7 +148,7 @@ module _ (key : RoundKey) where
       let told = b.behind in
       let kept =
       event_keeps key s h id x y words Claims live same may (length-set s.words 0 next) is
-      (omega arith) (omega arith) in
+      (omega arith) (omega arith) (λ f. f) in
       let range = seat_in_range key _ kept id y (live_after key s id x y live same) in (
         y,
         keeps,
@@ -139,7 +177,7 @@ module _ (key : RoundKey) where
       let done : y.core.done ≡ x.core.done =
       ap (λ (v : View). v.done) by ∙ read_done (nat_lt found (quota_of d p)) x.core k j in
       let same = same_seat x y.core (λ more. (alone more, done ∙ alone more)) in
-      let drawn = (seat_in_range key s h id x live).claimed k j false may.0 in
+      let drawn = (seat_in_range key s h id x live).claimed k j true false may.0 in
       let turns = ap (λ (z : Dictatorship). turn_count z) round in
       let inside : p < programme_count d =
       h.valid.list_entries k j (omega arith) may.1 in
@@ -158,16 +196,65 @@ module _ (key : RoundKey) where
       let told = (h.each id x live).behind in
       let kept =
       event_keeps key s h id x y words (Reads k j) live same may (length-set s.words i found) leads
-      (omega arith) (omega arith) in
+      (omega arith) (omega arith) (λ f. f) in
+      let range = seat_in_range key _ kept id y (live_after key s id x y live same) in
+      (y, keeps, tt, kept, record { seat = refl; range = range })
+
+  -- a look at the word that has the flag of the next entry
+  pub flags_allowed : (slots id : ℕ) (me : SeatMe) (i k j : ℕ) → 0 < me.0.share
+      → (1 < me.0.share → me.0.core.done ≡ true) → me.0.dict ≡ d
+      → IsAllowed d me.0.core (ReadsFlags k j)
+      → i ≡ 2 + programme_count d + turn_count d + flag_group (entry d k j)
+      → Allows (IsSoundTable key) slots id me i (λ n. n) (TellsFlags me)
+  flags_allowed slots id me i k j some alone round may is s h homes at fits =
+      let x = me.0 in
+      let live = live_there s.views id x at some in
+      let found = get_or s.words i 0 in
+      let group = flag_group (entry d k j) in
+      let y = flags_by x x.core.claim found in
+      let seen_view : ℕ → View = λ n. after_flags d x.core k j n in
+      let by : y.core ≡ seen_view found =
+      (λ z. (flags_by record x { dict = round z } (may.0 z) found).core) in
+      let same = flags_same x x.core.claim found alone in
+      let seen : found ≡ get_or (table_core key s).flags group 0 =
+      sym (reads_flags d s.words (core_views s.views) i group is) in
+      let at_place = place s.views id in
+      let views_with : View → List View = λ v. set (core_views s.views) at_place v in
+      let words = set s.words i found in
+      let as_was : words ≡ s.words = set-get_or s.words i 0 in
+      let leads : core_of d words (views_with y.core)
+      ≡ after d (table_core key s) at_place x.core (ReadsFlags k j) =
+      ap (λ (l : List ℕ). core_of d l (views_with y.core)) as_was
+      ∙ ap (λ (v : View). core_of d s.words (views_with v)) (by ∙ ap seen_view seen) in
+      let mark : get_or words 1 0 ≡ get_or s.words 1 0 = ap (λ (l : List ℕ). get_or l 1 0) as_was in
+      let told = (h.each id x live).behind in
+      let released = flags_released x x.core.claim found in
+      let flags : y.flags ≡ x.flags ++ (group, found) ∷ [] =
+      (λ z. (flags_by record x { dict = round z } (may.0 z) found).flags) in
+      let reads : HasReadFull d (seats_in key words) x → HasReadFull d (seats_in key words) y =
+      λ old.
+      read_one_more d (seats_in key words) x y.flags (group, found)
+      (λ p its raised.
+      let up = subst (λ (w : ℕ). is_raised_in w p ≡ true)
+      (seen ∙ ap (λ (g : ℕ). get_or (table_core key s).flags g 0) (sym its)) raised in
+      let inside = raised_inside d (table_core key s) h.sound p up in
+      let full = raised_full d (table_core key s) h.sound p inside up in
+      let here = ap (λ (ws : List ℕ). get_or (seats_in key ws) p 0) as_was in
+      (inside, omega arith))
+      old flags in
+      let kept =
+      event_keeps key s h id x y words (ReadsFlags k j) live same may (length-set s.words i found)
+      leads (omega arith) (omega arith) reads in
       let range = seat_in_range key _ kept id y (live_after key s id x y live same) in
       (y, keeps, tt, kept, record { seat = refl; range = range })
 
   -- a post of the place found to the turn's cell
-  pub post_allowed : (slots id : ℕ) (me : SeatMe) (i k j word : ℕ) (met : Bool) → 0 < me.0.share
-      → (1 < me.0.share → me.0.core.done ≡ true) → IsAllowed d me.0.core (Posts k j met)
+  pub post_allowed : (slots id : ℕ) (me : SeatMe) (i k j word : ℕ) (looked met : Bool)
+      → 0 < me.0.share
+      → (1 < me.0.share → me.0.core.done ≡ true) → IsAllowed d me.0.core (Posts k j looked met)
       → i ≡ 2 + programme_count d + k → word ≡ 2 * j + 1
       → Allows (IsSoundTable key) slots id me i (λ _. word) (λ _. TellsPost me word)
-  post_allowed slots id me i k j word met some alone may is shows s h homes at fits =
+  post_allowed slots id me i k j word looked met some alone may is shows s h homes at fits =
       let x = me.0 in
       let live = live_there s.views id x at some in
       let y = with_core x (after_post x.core (word / 2)) in
@@ -179,7 +266,7 @@ module _ (key : RoundKey) where
       let views = set (core_views s.views) at_place y.core in
       let words = set s.words i word in
       let leads : core_of d words views
-      ≡ after d (table_core key s) at_place x.core (Posts k j met) =
+      ≡ after d (table_core key s) at_place x.core (Posts k j looked met) =
       writes_cell d s.words views i k word (Posted j) is (fit.claim _ may.0).turn shown
       ∙ ap (λ (z : ℕ). record (table_core key s) {
         cells = set (table_core key s).cells k (Posted j);
@@ -189,7 +276,7 @@ module _ (key : RoundKey) where
       get_or-set_other s.words i 1 word 0 (λ e. omega arith) in
       let told = (h.each id x live).behind in
       let kept =
-      event_keeps key s h id x y words (Posts k j met) live same may (length-set s.words i word)
-      leads (omega arith) (omega arith) in
+      event_keeps key s h id x y words (Posts k j looked met) live same may (length-set s.words i word)
+      leads (omega arith) (omega arith) (λ f. f) in
       let range = seat_in_range key _ kept id y (live_after key s id x y live same) in
       (y, keeps, tt, kept, record { seat = refl; range = range })

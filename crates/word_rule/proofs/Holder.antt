@@ -12,21 +12,22 @@ use Rattle.market.specs.Dictatorships.{Dictatorship}
 use Rattle.interleaving_core.specs.declared.parts.Cell.{Cell}
 use Rattle.interleaving_core.specs.declared.parts.Cell.TheVariants.{Empty, Posted, Committed}
 use Rattle.interleaving_core.specs.declared.parts.Phase.{Phase}
-use Rattle.interleaving_core.specs.declared.parts.Phase.TheVariants.{Idle, Seated}
+use Rattle.interleaving_core.specs.declared.parts.Phase.TheVariants.{Idle, Seated, Raised}
+use Rattle.interleaving_core.specs.Flags.{flag_group, flag_bit, with_flag}
 use Rattle.interleaving_core.specs.Core.{View, turn_count, entry, quota_of, seats_of, cell_at, is_committed, hold_at}
-use Rattle.interleaving_core.specs.Events.{Action, Takes, Looks, Weighs, Seats, Seals, Releases, IsAllowed, with_hold, after_take, phase_after_look, phase_after_weigh, after}
+use Rattle.interleaving_core.specs.Events.{Action, Takes, Looks, Weighs, Seats, Raises, Seals, Releases, IsAllowed, with_hold, after_take, phase_after_look, phase_after_weigh, after}
 use Rattle.interleaving_core.specs.Sound.{bit, some_bit, empty_bit, turn_bit, hold_bit, claim_bit}
 use Rattle.market.proofs.Turns.{seats_taken-le-quota}
 use Rattle.interleaving_core.proofs.Places.{sum_zero, terms_le}
 use Rattle.interleaving_core.proofs.Holder.{seats_now}
 use Rattle.word_rule.specs.Layout.{is_held, cell_of, core_of, programme_count}
 use Rattle.word_rule.specs.Views.{SeatKnows, SeatMe, with_core, other_view, core_views}
-use Rattle.word_rule.specs.Rule.{IsLive, IsSoundTable, share_of, table_core}
-use Rattle.word_rule.specs.Holder.{posted_place, tried, TellsTake, look_by, TellsLook, weigh_by, TellsWeigh, seat_by, TellsSeat, seal_by, TellsSeal, released_with, TellsRelease}
+use Rattle.word_rule.specs.Rule.{IsLive, IsSoundTable, HasReadFull, share_of, table_core}
+use Rattle.word_rule.specs.Holder.{posted_place, tried, TellsTake, look_by, TellsLook, weigh_by, TellsWeigh, seat_by, TellsSeat, raise_by, TellsRaise, seal_by, TellsSeal, released_with, TellsRelease}
 use Rattle.word_rule.specs.declared.rule.RoundKey.{RoundKey}
 use Rattle.word_rule.proofs.CoreViews.{live_there, place, at_place, whose}
-use Rattle.word_rule.proofs.Layouts.{shows_committed, or_one, reads_seats, reads_cell, writes_mark, writes_seats, writes_cell}
-use Rattle.word_rule.proofs.Keeps.{IsSameSeat, same_seat, live_after, seat_in_range, seat_fits, table_after, event_keeps}
+use Rattle.word_rule.proofs.Layouts.{shows_committed, or_one, reads_seats, reads_cell, writes_mark, writes_seats, writes_cell, reads_flags, writes_flags}
+use Rattle.word_rule.proofs.Keeps.{IsSameSeat, same_seat, live_after, seat_in_range, seat_fits, seats_in, table_after, event_keeps}
 
 tried_core : (x : SeatKnows) (b : Bool) (n : ℕ) → (tried x b n).core ≡ after_take x.core b n
 tried_core x true n = refl
@@ -35,6 +36,12 @@ tried_core x false n = refl
 tried_released : (x : SeatKnows) (b : Bool) (n : ℕ) → (tried x b n).released ≡ x.released
 tried_released x true n = refl
 tried_released x false n = refl
+
+-- a try reads no flags
+tried_reads : (d : Dictatorship) (seats : List ℕ) (x : SeatKnows) (b : Bool) (n : ℕ)
+    → HasReadFull d seats x → HasReadFull d seats (tried x b n)
+tried_reads d seats x true n f = f
+tried_reads d seats x false n f = f
 
 -- who stands for others is done, before and after
 done_too : (x : SeatKnows) → (1 < x.share → x.core.done ≡ true) → 1 < x.share
@@ -142,10 +149,11 @@ module _ (key : RoundKey) where
       → core_of d words (set (core_views s.views) (place s.views id) y.core) ≡ after d
       (table_core key s) (place s.views id) x.core a
       → get_or words 1 0 / 2 ≡ get_or s.words 1 0 / 2 → y.released ≡ x.released
+      → (HasReadFull d (seats_in key words) x → HasReadFull d (seats_in key words) y)
       → IsSoundTable key (table_after key s id y words)
-  mark_stays s h id x y words a live same may long leads mark told =
+  mark_stays s h id x y words a live same may long leads mark told reads =
       let behind = (h.each id x live).behind in
-      event_keeps key s h id x y words a live same may long leads (omega arith) (omega arith)
+      event_keeps key s h id x y words a live same may long leads (omega arith) (omega arith) reads
 
   -- so does a load
   load_keeps : (s : Table) (h : IsSoundTable key s) (id i : ℕ) (x : SeatKnows) (v : View)
@@ -157,7 +165,8 @@ module _ (key : RoundKey) where
   load_keeps s h id i x v a live same may leads =
       let as_was : set s.words i (get_or s.words i 0) ≡ s.words = set-get_or s.words i 0 in
       subst (λ (l : List ℕ). IsSoundTable key (table_after key s id (with_core x v) l)) (sym as_was)
-      (mark_stays s h id x (with_core x v) s.words a live same may refl leads refl refl)
+      (mark_stays s h id x (with_core x v) s.words a live same may refl leads refl refl
+      (λ f. f))
 
   -- a try on the mark
   pub take_allowed : (slots id : ℕ) (me : SeatMe) → 0 < me.0.share
@@ -186,7 +195,8 @@ module _ (key : RoundKey) where
       ap (λ (z : ℕ). z / 2) (get_or-set_same s.words 1 word 0 (omega arith)) ∙ one.0 in
       let kept = mark_stays s h id x y (set s.words 1 word) Takes live same may
       (length-set s.words 1 word) leads number
-      (tried_released x b (found / 2)) in
+      (tried_released x b (found / 2)) (tried_reads d (seats_in key (set s.words 1 word)) x b
+      (found / 2)) in
       let mine = h.each id x live in
       let dict = ap (λ (z : Dictatorship). turn_count z) mine.dict in
       let behind = h.sound.mark.behind in
@@ -314,7 +324,7 @@ module _ (key : RoundKey) where
       get_or-set_other s.words i 1 next 0 (λ e. omega arith) in
       let kept = mark_stays s h id x y (set s.words i next) (Seats k j) live same may
       (length-set s.words i next) leads
-      (ap (λ (z : ℕ). z / 2) mark) refl in
+      (ap (λ (z : ℕ). z / 2) mark) refl (λ f. f) in
       let range = seat_in_range key _ kept id y (live_after key s id x y live same) in (
         y,
         keeps,
@@ -326,6 +336,43 @@ module _ (key : RoundKey) where
           small = omega arith;
         },
       )
+
+  -- the flag raised of the programme that the holder has just filled
+  pub raise_allowed : (slots id : ℕ) (me : SeatMe) (i k j mask : ℕ) → 0 < me.0.share
+      → (1 < me.0.share → me.0.core.done ≡ true) → IsAllowed d me.0.core (Raises k j)
+      → i ≡ 2 + programme_count d + turn_count d + flag_group (entry d k j)
+      → mask ≡ 2 ^ flag_bit (entry d k j)
+      → Allows (IsSoundTable key) slots id me i (λ n. bit_or n mask) (λ _. TellsRaise me)
+  raise_allowed slots id me i k j mask some alone may is bit_is s h homes at fits =
+      let x = me.0 in
+      let live = live_there s.views id x at some in
+      let found = get_or s.words i 0 in
+      let p = entry d k j in
+      let group = flag_group p in
+      let v = raise_by x.core x.core.hold in
+      let by : v ≡ with_hold x.core (hold_at k (Raised j)) = ap (raise_by x.core) may in
+      let y = with_core x v in
+      let same = same_with x v (ap (λ (u : View). u.done) by) alone in
+      let word = bit_or found mask in
+      let seen : found ≡ get_or (table_core key s).flags group 0 =
+      sym (reads_flags d s.words (core_views s.views) i group is) in
+      let raised : word ≡ with_flag (get_or (table_core key s).flags group 0) p =
+      (λ z. bit_or (seen z) (bit_is z)) in
+      let views = set (core_views s.views) (place s.views id) v in
+      let leads : core_of d (set s.words i word) views ≡ after d (table_core key s)
+      (place s.views id) x.core (Raises k j) =
+      writes_flags d s.words views i group word is
+      ∙ (λ z. record (table_core key s) {
+        flags = set (table_core key s).flags group (raised z);
+        views = set (core_views s.views) (place s.views id) (by z);
+      }) in
+      let mark : get_or (set s.words i word) 1 0 ≡ get_or s.words 1 0 =
+      get_or-set_other s.words i 1 word 0 (λ e. omega arith) in
+      let kept = mark_stays s h id x y (set s.words i word) (Raises k j) live same may
+      (length-set s.words i word) leads
+      (ap (λ (z : ℕ). z / 2) mark) refl (λ f. f) in
+      let range = seat_in_range key _ kept id y (live_after key s id x y live same) in
+      (y, keeps, tt, kept, record { seat = refl; range = range })
 
   -- a commit of the holder's turn at its place
   pub seal_allowed : (slots id : ℕ) (me : SeatMe) (i k j word : ℕ) (phase : Phase) → 0 < me.0.share
@@ -352,7 +399,7 @@ module _ (key : RoundKey) where
       get_or-set_other s.words i 1 word 0 (λ e. omega arith) in
       let kept = mark_stays s h id x y (set s.words i word) (Seals k j phase) live same may
       (length-set s.words i word) leads
-      (ap (λ (z : ℕ). z / 2) mark) refl in
+      (ap (λ (z : ℕ). z / 2) mark) refl (λ f. f) in
       let range = seat_in_range key _ kept id y (live_after key s id x y live same) in
       (y, keeps, tt, kept, record { seat = refl; range = range })
 
@@ -384,6 +431,6 @@ module _ (key : RoundKey) where
       let behind = h.sound.mark.behind in
       let kept = event_keeps key s h id x y (set s.words 1 word) (Releases k phase) live same may
       (length-set s.words 1 word) leads
-      (omega arith) (omega arith) in
+      (omega arith) (omega arith) (λ f. f) in
       let range = seat_in_range key _ kept id y (live_after key s id x y live same) in
       (y, keeps, tt, kept, record { seat = refl; range = range })

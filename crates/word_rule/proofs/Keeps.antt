@@ -2,19 +2,19 @@
 -- its words and views are a sound core state. The event is allowed by what the seat's own view
 -- says, so the state after it is sound; and the table after the step shows that state, since the
 -- step changes one word and one view, as the event does.
-use Rattle.std.proofs.Common.{◌≡◌, ℕ, ◌/◌, ◌<◌, ◌≤◌, ◌≢◌, true, List, length, set, get_or, Some, sym, refl, ap, inr, ⊎_elim, subst, ◌∙◌, arith}
+use Rattle.std.proofs.Common.{◌≡◌, ℕ, zero, suc, ◌+◌, ◌/◌, ◌<◌, ◌≤◌, ◌≢◌, true, List, [], ◌∷◌, length, set, get_or, Some, sym, refl, ap, inr, ⊎_elim, subst, ◌∙◌, arith}
 use Rattle.std.specs.Prelude.{slice_get}
 use Rattle.atomic_table.specs.Table.{State}
 use Rattle.market.specs.Dictatorships.{Dictatorship}
-use Rattle.interleaving_core.specs.Core.{View, Core}
-use Rattle.interleaving_core.specs.Events.{Action, IsAllowed, after, view_after}
+use Rattle.interleaving_core.specs.Core.{View, Core, entry, seats_of}
+use Rattle.interleaving_core.specs.Events.{Action, Claims, ReadsFlags, Reads, Posts, Takes, Looks, Weighs, Seats, Raises, Seals, Releases, IsAllowed, after, view_after}
 use Rattle.interleaving_core.specs.Sound.{IsSoundView, IsSound}
 use Rattle.interleaving_core.proofs.Places.{at_set, sum_set}
 use Rattle.interleaving_core.proofs.Keeps as core
 use Rattle.word_rule.specs.Layout.{core_of}
 use Rattle.word_rule.specs.Views.{SeatKnows, with_core, core_views}
 use Rattle.word_rule.specs.Copies.{IsInRange}
-use Rattle.word_rule.specs.Rule.{IsLive, Belongs, IsSoundTable, HasNotDrawn, share_of, table_core}
+use Rattle.word_rule.specs.Rule.{IsLive, Belongs, IsSoundTable, HasReadFull, HasNotDrawn, share_of, table_core}
 use Rattle.word_rule.specs.declared.rule.RoundKey.{RoundKey}
 use Rattle.word_rule.proofs.CoreViews.{place, at_place, set_place}
 use Rattle.word_rule.proofs.Undrawn.{here_set, new_view, nobody_before, undrawn_before}
@@ -39,9 +39,9 @@ pub fits_in_range : (d : Dictatorship) (c : Core) (count : ℕ) (v : View) → c
     → IsSoundView d c count v → IsInRange d v
 fits_in_range d c count v within f =
     record {
-      claimed = λ k j met e. (f.claim _ e).turn;
-      passed = λ k j met e. (f.claim _ e).passed;
-      met = λ k j e. (f.claim _ e).met refl;
+      claimed = λ k j looked met e. (f.claim _ e).turn;
+      passed = λ k j looked met e. (f.claim _ e).passed;
+      met = λ k j looked e. (f.claim _ e).met refl;
       committed = λ h phase e. let a = (f.hold _ e).committed in omega arith;
       scanned = λ h j e. (f.hold _ e).phase.0.0;
       scanned_place = λ h j e. (f.hold _ e).phase.1;
@@ -49,7 +49,42 @@ fits_in_range d c count v within f =
       ready_place = λ h j e. (f.hold _ e).phase.1;
       seated = λ h j full e. (f.hold _ e).phase.0.0;
       seated_place = λ h j full e. (f.hold _ e).phase.1;
+      raised = λ h j e. (f.hold _ e).phase.0.0;
+      raised_place = λ h j e. (f.hold _ e).phase.1;
     }
+
+-- a count written over a smaller one makes no count smaller
+set_rises : (l : List ℕ) (i n p : ℕ) → get_or l i 0 ≤ n → get_or l p 0 ≤ get_or (set l i n) p 0
+set_rises [] i n p h = omega arith
+set_rises (x ∷ xs) zero n zero h = h
+set_rises (x ∷ xs) zero n (suc p) h = omega arith
+set_rises (x ∷ xs) (suc i) n zero h = omega arith
+set_rises (x ∷ xs) (suc i) n (suc p) h = set_rises xs i n p h
+
+-- no event makes a seat count smaller
+pub seats_rise : (d : Dictatorship) (c : Core) (i : ℕ) (v : View) (a : Action) (p : ℕ)
+    → seats_of c p ≤ seats_of (after d c i v a) p
+seats_rise d c i v Claims p = omega arith
+seats_rise d c i v (ReadsFlags k j) p = omega arith
+seats_rise d c i v (Reads k j) p = omega arith
+seats_rise d c i v (Posts k j looked met) p = omega arith
+seats_rise d c i v Takes p = omega arith
+seats_rise d c i v (Looks h) p = omega arith
+seats_rise d c i v (Weighs h j) p = omega arith
+seats_rise d c i v (Seats h j) p =
+    set_rises c.seats (entry d h j) (seats_of c (entry d h j) + 1) p (omega arith)
+seats_rise d c i v (Raises h j) p = omega arith
+seats_rise d c i v (Seals h j phase) p = omega arith
+seats_rise d c i v (Releases h phase) p = omega arith
+
+-- what was read of flags stays so where seat counts rise
+read_full_rises : (d : Dictatorship) (old new : List ℕ) (x : SeatKnows)
+    → ((p : ℕ) → get_or old p 0 ≤ get_or new p 0) → HasReadFull d old x → HasReadFull d new x
+read_full_rises d old new x rise full n word at p group raised =
+    let was = full n word at p group raised in
+    let up = rise p in
+    let most = was.1 in
+    (was.0, omega arith)
 
 -- a live seat after one has changed is a live seat from before, with the same number and share
 pub record Was (l : List SeatKnows) (i : ℕ) (a : SeatKnows) : Type 0 where
@@ -91,6 +126,10 @@ module _ (key : RoundKey) where
   abbrev pub Table : Type 0
   Table = State ℕ SeatKnows
 
+  -- the seat counts that words show
+  abbrev pub seats_in : List ℕ → List ℕ
+  seats_in words = (core_of d words []).seats
+
   -- a seat's view fits the core state of the table
   pub seat_fits : (s : Table) (h : IsSoundTable key s) (i : ℕ) (x : SeatKnows) → IsLive s.views i x
       → IsSoundView d (table_core key s) h.sound.count x.core
@@ -120,9 +159,11 @@ module _ (key : RoundKey) where
       → IsLive s.views id x → IsSameSeat x y → length words ≡ length s.words
       → IsSound d (core_of d words (core_views (set s.views id y)))
       → get_or s.words 1 0 / 2 ≤ get_or words 1 0 / 2 → y.released ≤ get_or words 1 0 / 2
+      → ((p : ℕ) → get_or (seats_in s.words) p 0 ≤ get_or (seats_in words) p 0)
+      → HasReadFull d (seats_in words) y
       → (HasNotDrawn y.core → HasNotDrawn x.core × (get_or words 0 0 ≡ get_or s.words 0 0))
       → IsSoundTable key (table_after s id y words)
-  sound_keeps s h id x y words at same long sound grows behind drew =
+  sound_keeps s h id x y words at same long sound grows behind rise read drew =
       let b = h.each id x at in
       let share = same.share in
       record {
@@ -158,6 +199,13 @@ module _ (key : RoundKey) where
             let pn = p.number in
             let qn = q.number in
             omega arith;
+        full = λ i a is.
+            ⊎_elim
+            (λ (t : (i ≡ id) × (y ≡ a)). subst (HasReadFull d (seats_in words)) t.1 read)
+            (λ (t : (i ≢ id) × (slice_get s.views i ≡ Some a)).
+            read_full_rises d (seats_in s.words) (seats_in words) a rise
+            (h.full i a record { there = t.1; live = is.live }))
+            (at_set s.views id i y a is.there);
         undrawn = λ nobody.
             let mine = drew (nobody id y (live_after s id x y at same)) in
             mine.1 ∙ h.undrawn (nobody_before s.views id x y at mine.0 nobody);
@@ -169,23 +217,31 @@ module _ (key : RoundKey) where
   views_after s id x y at same =
       set_place s.views id x y at same.share (λ more. let q = same.alone more in q.1 ∙ sym q.0)
 
-  -- the rule stays where the step is an event that the seat's view allows
+  -- the rule stays where the step is an event that the seat's view allows, and what the seat has
+  -- read of flags is so
   pub event_keeps : (s : Table) (h : IsSoundTable key s) (id : ℕ) (x y : SeatKnows)
       (words : List ℕ) (a : Action) → IsLive s.views id x → IsSameSeat x y → IsAllowed d x.core a
       → length words ≡ length s.words
       → core_of d words (set (core_views s.views) (place s.views id) y.core)
       ≡ after d (table_core key s) (place s.views id) x.core a
       → get_or s.words 1 0 / 2 ≤ get_or words 1 0 / 2 → y.released ≤ get_or words 1 0 / 2
+      → (HasReadFull d (seats_in words) x → HasReadFull d (seats_in words) y)
       → IsSoundTable key (table_after s id y words)
-  event_keeps s h id x y words a at same may long is grows behind =
+  event_keeps s h id x y words a at same may long is grows behind reads =
       let own = at_place s.views id x at in
+      let rise : (p : ℕ) → get_or (seats_in s.words) p 0 ≤ get_or (seats_in words) p 0 =
+      λ p.
+      let up = seats_rise d (table_core key s) (place s.views id) x.core a p in
+      let now = ap (λ (c : Core). get_or c.seats p 0) is in
+      omega arith in
       let leads = ap (core_of d words) (views_after s id x y at same) ∙ is in
       let shown = new_view (core_views s.views) (place s.views id) x.core y.core
       (view_after d (table_core key s) x.core a) own (ap (λ (c : Core). c.views) is) in
       sound_keeps s h id x y words at same long
       (subst (IsSound d) (sym leads)
       (core.keeps d (table_core key s) (place s.views id) x.core a h.valid h.sound own may))
-      grows behind
+      grows behind rise (reads (read_full_rises d (seats_in s.words) (seats_in words) x rise
+      (h.full id x at)))
       (λ nothing.
       let before = undrawn_before d (table_core key s) (place s.views id) x.core a
       (subst HasNotDrawn shown nothing) in

@@ -71,6 +71,12 @@ module _ (d : Dictatorship) (words : List ℕ) (views : List View) where
   pub reads_seats : (p : ℕ) → p < m → seats_of old p ≡ get_or words (2 + p) 0
   reads_seats p h = get_or-take m (drop 2 words) p 0 h ∙ get_or-drop 2 words p 0
 
+  -- a word of flags is read where it stands
+  pub reads_flags : (i group : ℕ) → i ≡ 2 + m + t + group
+      → get_or old.flags group 0 ≡ get_or words i 0
+  reads_flags i group is =
+      get_or-drop (2 + m + t) words group 0 ∙ ap (λ (z : ℕ). get_or words z 0) (sym is)
+
   -- a cell is read from its word
   pub reads_cell : (i k : ℕ) → i ≡ 2 + m + k → k < t → cell_at old k ≡ cell_of (get_or words i 0)
   reads_cell i k is inside =
@@ -80,22 +86,24 @@ module _ (d : Dictatorship) (words : List ℕ) (views : List View) where
 
   -- words that show these parts show the core state of them
   shows : (ws : List ℕ) (n mark : ℕ) (seats : List ℕ) (cells : List Cell)
-      → get_or ws 0 0 ≡ n → get_or ws 1 0 ≡ mark → take m (drop 2 ws) ≡ seats
-      → map cell_of (take t (drop (2 + m) ws)) ≡ cells
+      (flags : List ℕ) → get_or ws 0 0 ≡ n → get_or ws 1 0 ≡ mark → take m (drop 2 ws) ≡ seats
+      → map cell_of (take t (drop (2 + m) ws)) ≡ cells → drop (2 + m + t) ws ≡ flags
       → core_of d ws views ≡ record old {
         claim_number = n;
         mark_held = is_held mark;
         mark_number = mark / 2;
         seats = seats;
         cells = cells;
+        flags = flags;
       }
-  shows ws n mark seats cells a b s c =
+  shows ws n mark seats cells flags a b s c f =
       λ z. record old {
         claim_number = a z;
         mark_held = is_held (b z);
         mark_number = b z / 2;
         seats = s z;
         cells = c z;
+        flags = f z;
       }
 
   -- what stands behind the word i stays
@@ -104,40 +112,47 @@ module _ (d : Dictatorship) (words : List ℕ) (views : List View) where
   cells_stay i n l =
       ap (λ (xs : List ℕ). map cell_of (take t xs)) (drop-set-lt (2 + m) words i n l)
 
+  flags_stay : (i n : ℕ) → i < 2 + m + t → drop (2 + m + t) (set words i n) ≡ old.flags
+  flags_stay i n l = drop-set-lt (2 + m + t) words i n l
+
   -- the claim word changes the claim number
   pub writes_claim : (n : ℕ) → 2 ≤ length words
       → core_of d (set words 0 n) views ≡ record old { claim_number = n }
   writes_claim n wide =
-      shows (set words 0 n) n (get_or words 1 0) old.seats old.cells
+      shows (set words 0 n) n (get_or words 1 0) old.seats old.cells old.flags
       (get_or-set_same words 0 n 0 (omega arith))
       (get_or-set_other words 0 1 n 0 (λ e. omega arith))
       (ap (take m) (drop-set-lt 2 words 0 n (omega arith))) (cells_stay 0 n (omega arith))
+      (flags_stay 0 n (omega arith))
 
   -- the mark's word changes the mark
   pub writes_mark : (n : ℕ) → 2 ≤ length words
       → core_of d (set words 1 n) views ≡ record old { mark_held = is_held n; mark_number = n / 2 }
   writes_mark n wide =
-      shows (set words 1 n) (get_or words 0 0) n old.seats old.cells
+      shows (set words 1 n) (get_or words 0 0) n old.seats old.cells old.flags
       (get_or-set_other words 1 0 n 0 (λ e. omega arith))
       (get_or-set_same words 1 n 0 (omega arith))
       (ap (take m) (drop-set-lt 2 words 1 n (omega arith))) (cells_stay 1 n (omega arith))
+      (flags_stay 1 n (omega arith))
 
   -- a word behind the mark changes a seat count
   pub writes_seats : (i p n : ℕ) → i ≡ 2 + p → p < m
       → core_of d (set words i n) views ≡ record old { seats = set old.seats p n }
   writes_seats i p n is inside =
       shows (set words i n) (get_or words 0 0) (get_or words 1 0) (set old.seats p n) old.cells
+      old.flags
       (get_or-set_other words i 0 n 0 (λ e. omega arith))
       (get_or-set_other words i 1 n 0 (λ e. omega arith))
       (ap (λ (z : ℕ). take m (drop 2 (set words z n))) is
       ∙ (ap (take m) (drop-set-add 2 words p n) ∙ take-set-lt m (drop 2 words) p n inside))
-      (cells_stay i n (omega arith))
+      (cells_stay i n (omega arith)) (flags_stay i n (omega arith))
 
   -- a word behind the seat counts changes a cell
   pub writes_cell : (i k w : ℕ) (c : Cell) → i ≡ 2 + m + k → k < t → cell_of w ≡ c
       → core_of d (set words i w) views ≡ record old { cells = set old.cells k c }
   writes_cell i k w c is inside is_cell =
       shows (set words i w) (get_or words 0 0) (get_or words 1 0) old.seats (set old.cells k c)
+      old.flags
       (get_or-set_other words i 0 w 0 (λ e. omega arith))
       (get_or-set_other words i 1 w 0 (λ e. omega arith))
       (ap (λ (z : ℕ). take m (drop 2 (set words z w)))
@@ -149,3 +164,23 @@ module _ (d : Dictatorship) (words : List ℕ) (views : List View) where
       ∙ (ap (map cell_of) (take-set-lt t (drop (2 + m) words) k w inside)
       ∙ (map-set cell_of (take t (drop (2 + m) words)) k w
       ∙ ap (λ z. set old.cells k z) is_cell))))
+      (flags_stay i w (omega arith))
+
+  -- a word behind the cells changes a word of flags
+  pub writes_flags : (i group w : ℕ) → i ≡ 2 + m + t + group
+      → core_of d (set words i w) views ≡ record old { flags = set old.flags group w }
+  writes_flags i group w is =
+      shows (set words i w) (get_or words 0 0) (get_or words 1 0) old.seats old.cells
+      (set old.flags group w)
+      (get_or-set_other words i 0 w 0 (λ e. omega arith))
+      (get_or-set_other words i 1 w 0 (λ e. omega arith))
+      (ap (λ (z : ℕ). take m (drop 2 (set words z w)))
+      (let behind : i ≡ 2 + (m + t + group) = omega arith in behind)
+      ∙ (ap (take m) (drop-set-add 2 words (m + t + group) w)
+      ∙ take-set-le m (drop 2 words) (m + t + group) w (omega arith)))
+      (ap (λ (z : ℕ). map cell_of (take t (drop (2 + m) (set words z w))))
+      (let behind : i ≡ 2 + m + (t + group) = omega arith in behind)
+      ∙ (ap (λ (xs : List ℕ). map cell_of (take t xs)) (drop-set-add (2 + m) words (t + group) w)
+      ∙ ap (map cell_of) (take-set-le t (drop (2 + m) words) (t + group) w (omega arith))))
+      (ap (λ (z : ℕ). drop (2 + m + t) (set words z w)) is
+      ∙ drop-set-add (2 + m + t) words group w)

@@ -4,9 +4,11 @@ pub mod Undrawn
 pub mod Keeps
 pub mod Claimant
 pub mod Holder
+pub mod HolderCopies
 pub mod Shares
 pub mod Openings
 pub mod Alone
 pub mod ShownOpenings
 pub mod Endings
 pub mod Seats
+pub mod OnlyProgrammes

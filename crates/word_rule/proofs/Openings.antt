@@ -1,22 +1,22 @@
 -- The opening words with one seat that stands for every worker are the opening state of the core,
 -- which is sound; and the seats that it is split into stand for every worker.
-use Rattle.std.proofs.Common.{◌≡◌, ℕ, zero, suc, ◌+◌, ◌<◌, ◌≤◌, false, List, [], ◌∷◌, ◌++◌, length, map, take, drop, replicate, Some, sym, refl, ap, inl, subst, ◌∙◌, arith, append-nil, length-append}
+use Rattle.std.proofs.Common.{◌≡◌, ℕ, zero, suc, ◌+◌, ◌<◌, ◌≤◌, false, List, [], ◌∷◌, ◌++◌, length, map, take, drop, replicate, Some, sym, refl, ap, inl, subst, ◌∙◌, arith, append-nil, append_assoc, length-append}
 use Rattle.std.specs.Prelude.{slice_get}
-use Rattle.std.proofs.Math.Nat.{le_refl}
 use Rattle.std.proofs.Math.ListN.{length-replicate}
 use Rattle.std.proofs.Math.Seq.{take-append_seam, drop-append_seam}
-use Rattle.std.proofs.lemmas.List.{take-replicate}
 use Rattle.std.proofs.lemmas.List.Sums.{sum_by-cons}
 use Rattle.atomic_table.specs.Table.{opening as table_opening}
 use Rattle.market.specs.Dictatorships.{Dictatorship, IsValidDictatorship}
 use Rattle.interleaving_core.specs.declared.limits.TheConstants.{MAX_WORKERS}
 use Rattle.interleaving_core.specs.declared.parts.Cell.TheVariants.{Empty}
+use Rattle.interleaving_core.specs.Flags.{first_flags}
 use Rattle.interleaving_core.specs.Core.{View, fresh_view, opening, turn_count}
 use Rattle.interleaving_core.specs.Sound.{IsSound}
 use Rattle.interleaving_core.proofs.Keeps.{begins}
+use Rattle.interleaving_core.proofs.Flags.{first_flags_long}
 use Rattle.word_rule.specs.Layout.{cell_of, core_of, first_words, programme_count, word_count}
 use Rattle.word_rule.specs.Views.{SeatKnows, shared_views, core_views}
-use Rattle.word_rule.specs.Rule.{Belongs, IsSoundTable, share_of, first_of}
+use Rattle.word_rule.specs.Rule.{Belongs, IsSoundTable, HasReadFull, share_of, first_of}
 use Rattle.word_rule.specs.Rounds.{knows, AreNew, shares_of}
 use Rattle.word_rule.specs.declared.rule.RoundKey.{RoundKey}
 use Rattle.word_rule.specs.declared.seat.SharedRound.{SharedRound}
@@ -36,32 +36,51 @@ pub words_open : (d : Dictatorship) (workers : ℕ) (views : List View) → IsVa
 words_open d workers views valid fresh =
     let zeros : List ℕ = replicate (turn_count d) 0 in
     let long : programme_count d ≡ length d.fill = sym valid.fills in
-    let seats : take (programme_count d) (d.fill ++ zeros) ≡ d.fill =
-    ap (λ (m : ℕ). take m (d.fill ++ zeros)) long ∙ take-append_seam d.fill zeros in
-    let past : drop (2 + programme_count d) (first_words d) ≡ zeros =
+    let seats : take (programme_count d) (d.fill ++ (zeros ++ first_flags d)) ≡ d.fill =
+    ap (λ (m : ℕ). take m (d.fill ++ (zeros ++ first_flags d))) long
+    ∙ take-append_seam d.fill (zeros ++ first_flags d) in
+    let rest : List ℕ = zeros ++ first_flags d in
+    let past : drop (2 + programme_count d) (first_words d) ≡ rest =
     ap (λ (m : ℕ). drop m (first_words d))
     (let e : 2 + programme_count d ≡ suc (suc (length d.fill)) = omega arith in e)
-    ∙ drop-append_seam d.fill zeros in
+    ∙ drop-append_seam d.fill rest in
+    let many : length zeros ≡ turn_count d = length-replicate (turn_count d) 0 in
+    let front : take (turn_count d) rest ≡ zeros =
+    ap (λ (m : ℕ). take m rest) (sym many) ∙ take-append_seam zeros (first_flags d) in
+    let both : length (d.fill ++ zeros) ≡ length d.fill + length zeros =
+    length-append d.fill zeros in
+    let flags : drop (2 + programme_count d + turn_count d) (first_words d) ≡ first_flags d =
+    ap (λ (m : ℕ). drop m (first_words d))
+    (let e : 2 + programme_count d + turn_count d ≡ suc (suc (length (d.fill ++ zeros))) =
+    omega arith in e)
+    ∙ (ap (λ (l : List ℕ). drop (length (d.fill ++ zeros)) l)
+    (sym (append_assoc d.fill zeros (first_flags d)))
+    ∙ drop-append_seam (d.fill ++ zeros) (first_flags d)) in
     let cells =
     ap (λ (l : List ℕ). map cell_of (take (turn_count d) l)) past
-    ∙ (ap (map cell_of) (take-replicate (turn_count d) (turn_count d) 0 (le_refl (turn_count d)))
-    ∙ empty_cells (turn_count d)) in
+    ∙ (ap (map cell_of) front ∙ empty_cells (turn_count d)) in
     λ k. record {
       claim_number = 0;
       mark_held = false;
       mark_number = 0;
       seats = seats k;
       cells = cells k;
+      flags = flags k;
       views = fresh k;
     }
 
-wide : (d : Dictatorship) → IsValidDictatorship d → length (first_words d) ≡ word_count d
-wide d valid =
+-- there are as many words as there should be
+pub first_words_long : (d : Dictatorship) → IsValidDictatorship d → length (first_words d) ≡ word_count d
+first_words_long d valid =
     let zeros : List ℕ = replicate (turn_count d) 0 in
-    let a : length (d.fill ++ zeros) ≡ length d.fill + length zeros = length-append d.fill zeros in
+    let flags : List ℕ = first_flags d in
+    let a : length (d.fill ++ (zeros ++ flags)) ≡ length d.fill + length (zeros ++ flags) =
+    length-append d.fill (zeros ++ flags) in
+    let f : length (zeros ++ flags) ≡ length zeros + length flags = length-append zeros flags in
+    let g = first_flags_long d in
     let b : length zeros ≡ turn_count d = length-replicate (turn_count d) 0 in
     let c = valid.fills in
-    let e : length (first_words d) ≡ suc (suc (length (d.fill ++ zeros))) = refl in
+    let e : length (first_words d) ≡ suc (suc (length (d.fill ++ (zeros ++ flags)))) = refl in
     omega arith
 
 -- a table is made with a sound core state
@@ -75,7 +94,7 @@ opens_with_first key valid some few =
     record {
       valid = valid;
       team = few;
-      wide = wide d valid;
+      wide = first_words_long d valid;
       sound =
           let shown = words_open d key.workers (core_views (x ∷ [])) valid views in
           subst (IsSound d) (sym shown) (begins d key.workers valid);
@@ -92,6 +111,8 @@ opens_with_first key valid some few =
           absurd (other (first x i a ai.there ∙ sym (first x j c cj.there)));
       last = λ i j a c ai cj other.
           absurd (other (first x i a ai.there ∙ sym (first x j c cj.there)));
+      full = λ i y is.
+          subst (HasReadFull d _) (only x i y is.there) (λ n word none. absurd (cc (none)));
       undrawn = λ nobody. refl;
     }
   where

@@ -78,6 +78,7 @@ new_part_of round worker n share me table is number one = record {
   tries = ap (λ (x : SeatKnows). x.tries) is;
   took = ap (λ (x : SeatKnows). x.took) is;
   released = ap (λ (x : SeatKnows). x.released) is;
+  flags = ap (λ (x : SeatKnows). x.flags) is;
 }
 
 -- one more seat

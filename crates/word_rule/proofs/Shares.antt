@@ -8,13 +8,13 @@ use Rattle.std.proofs.lemmas.List.Sums.{sum_by-append, sum_by-cons}
 use Rattle.atomic_table.specs.Table.{State, Splits, Joins}
 use Rattle.market.specs.Dictatorships.{Dictatorship}
 use Rattle.interleaving_core.specs.declared.parts.Phase.{Phase}
-use Rattle.interleaving_core.specs.declared.parts.Phase.TheVariants.{Idle, Halted, Scan, Ready, Seated}
+use Rattle.interleaving_core.specs.declared.parts.Phase.TheVariants.{Idle, Halted, Scan, Ready, Seated, Raised}
 use Rattle.interleaving_core.specs.Core.{View, Core, fresh_view}
-use Rattle.interleaving_core.specs.Sound.{bit, some_bit, turn_bit, holder_seat_bit, hold_bit, done_bit, claim_bit, seat_bit, IsSoundPhase, IsSoundView, IsSound}
+use Rattle.interleaving_core.specs.Sound.{bit, some_bit, turn_bit, holder_seat_bit, holder_late_bit, hold_bit, done_bit, claim_bit, seat_bit, late_bit, IsSoundPhase, IsSoundView, IsSound}
 use Rattle.interleaving_core.proofs.Places.{at_set, at_snoc, at_longer, sum_set}
 use Rattle.interleaving_core.proofs.OwnTurns.{own_stays, own_nil}
 use Rattle.word_rule.specs.Views.{SeatKnows, ended_view, other_view, shared_views, core_views, kept_part, new_part, joined, spent_seat}
-use Rattle.word_rule.specs.Rule.{IsLive, Belongs, IsSoundTable, share_of, table_core}
+use Rattle.word_rule.specs.Rule.{IsLive, Belongs, IsSoundTable, HasReadFull, share_of, table_core}
 use Rattle.word_rule.specs.declared.rule.RoundKey.{RoundKey}
 use Rattle.word_rule.proofs.CoreViews.{there, live_there, other_there, Whose, whose, weight, sum_views, shared_sum, even_sum}
 use Rattle.word_rule.proofs.Keeps.{seat_fits}
@@ -30,6 +30,7 @@ module _ (d : Dictatorship) (c : Core) (vs : List View) where
   phase_refits h (Scan j) f = f
   phase_refits h (Ready j) f = f
   phase_refits h (Seated j full) f = f
+  phase_refits h (Raised j) f = f
 
   refits : (count : ℕ) (v : View) → IsSoundView d c count v → IsSoundView d regrouped count v
   refits count v f =
@@ -57,9 +58,10 @@ module _ (d : Dictatorship) (c : Core) (vs : List View) where
       → sum_by done_bit vs ≡ sum_by done_bit c.views
       → ((k : ℕ) → sum_by (claim_bit k) vs ≡ sum_by (claim_bit k) c.views)
       → ((p : ℕ) → sum_by (seat_bit d p) vs ≡ sum_by (seat_bit d p) c.views)
+      → ((p : ℕ) → sum_by (late_bit d p) vs ≡ sum_by (late_bit d p) c.views)
       → ((i : ℕ) (v : View) → slice_get vs i ≡ Some v → IsSoundView d c s.count v)
       → IsSound d regrouped
-  resound s same_hold same_done same_claim same_seat each =
+  resound s same_hold same_done same_claim same_seat same_late each =
       record {
         count = s.count;
         mark =
@@ -74,6 +76,13 @@ module _ (d : Dictatorship) (c : Core) (vs : List View) where
             record {
               each_programme = s.seats.each_programme;
               counts = λ p l. let a = s.seats.counts p l in let e = same_seat p in omega arith;
+            };
+        flags =
+            record {
+              each_group = s.flags.each_group;
+              raised = λ p l. let a = s.flags.raised p l in let e = same_late p in omega arith;
+              unused = s.flags.unused;
+              narrow = s.flags.narrow;
             };
         posts = s.posts;
         claims =
@@ -210,7 +219,7 @@ module _ (key : RoundKey) where
         team = h.team;
         wide = h.wide;
         sound = resound d (table_core key s) (core_views vs) h.sound (sums hold_bit) (sums done_bit)
-            (λ k. sums (claim_bit k)) (λ p. sums (seat_bit d p))
+            (λ k. sums (claim_bit k)) (λ p. sums (seat_bit d p)) (λ p. sums (late_bit d p))
             (λ i v e. fits_of v (whose vs i v e));
         shares =
             let p = sum_by-append share_of (set s.views id left) (right ∷ []) in
@@ -295,6 +304,18 @@ module _ (key : RoundKey) where
             (numbered j c cj))
             t)
             (numbered i a ai);
+        full = λ i y is.
+            ⊎_elim
+            (λ (p : (i ≡ id) × (left ≡ y)).
+            subst (HasReadFull d (table_core key s).seats) p.1 (h.full id x mine))
+            (λ rest.
+            ⊎_elim
+            (λ (p : (i ≢ id) × IsLive s.views i y). h.full i y p.1)
+            (λ (p : (i ≡ length s.views) × (right ≡ y)).
+            subst (HasReadFull d (table_core key s).seats) p.1
+            (λ n word none. absurd (cc (none))))
+            rest)
+            (origin i y is);
         undrawn = λ nobody.
             h.undrawn
             (nobody_before s.views id x left mine
@@ -412,6 +433,8 @@ module _ (key : RoundKey) where
             (λ k. sums (claim_bit k) (ap (turn_bit k) o.claim) (ap (turn_bit k) p.claim))
             (λ q. sums (seat_bit d q) (ap (holder_seat_bit d q) o.hold)
             (ap (holder_seat_bit d q) p.hold))
+            (λ q. sums (late_bit d q) (ap (holder_late_bit d q) o.hold)
+            (ap (holder_late_bit d q) p.hold))
             (λ i v e. fits_of v (whose vs i v e));
         shares =
             let r = sum_set share_of mid other y spent_seat in_mid in
@@ -460,6 +483,12 @@ module _ (key : RoundKey) where
             (λ (u : (j ≢ id) × IsLive s.views j c). h.last i j a c t.1 u.1 differ wide unfinished)
             (origin j c cj))
             (origin i a ai);
+        full = λ i z is.
+            ⊎_elim
+            (λ (t : (i ≡ id) × (z ≡ both)).
+            subst (HasReadFull d (table_core key s).seats) (sym t.1) (h.full id x mine))
+            (λ (t : (i ≢ id) × IsLive s.views i z). h.full i z t.1)
+            (origin i z is);
         -- the seat joined into is done
         undrawn = λ nobody.
             let at_both : slice_get vs id ≡ Some both =

@@ -7,7 +7,7 @@ use native.Mathlib.Decide.{ℕ_discrete}
 use Rattle.market.specs.Dictatorships.{Dictatorship}
 use Rattle.interleaving_core.specs.declared.parts.OwnTurn.{OwnTurn}
 use Rattle.interleaving_core.specs.Core.{View, Core, turn_count, entry, is_open}
-use Rattle.interleaving_core.specs.Events.{Action, Claims, Reads, Posts, Takes, Looks, Weighs, Seats, Seals, Releases, after, view_after, after_claim_if, after_read, after_take, with_place}
+use Rattle.interleaving_core.specs.Events.{Action, Claims, ReadsFlags, Reads, Posts, Takes, Looks, Weighs, Seats, Raises, Seals, Releases, after, view_after, after_claim_if, after_read, after_take, with_place}
 use Rattle.word_rule.specs.Views.{SeatKnows}
 use Rattle.word_rule.specs.Rule.{IsLive, HasNotDrawn}
 
@@ -39,13 +39,15 @@ pub undrawn_before : (d : Dictatorship) (c : Core) (i : ℕ) (v : View) (a : Act
     → HasNotDrawn v × ((after d c i v a).claim_number ≡ c.claim_number)
 undrawn_before d c i v Claims u =
     absurd (claims_draw (nat_lt c.claim_number (turn_count d)) v c.claim_number u)
+undrawn_before d c i v (ReadsFlags k j) u = (u, refl)
 undrawn_before d c i v (Reads k j) u =
     (read_draws_nothing (is_open d c (entry d k j)) v k j u, refl)
-undrawn_before d c i v (Posts k j met) u = ((no_place v.own j u.0, u.1), refl)
+undrawn_before d c i v (Posts k j looked met) u = ((no_place v.own j u.0, u.1), refl)
 undrawn_before d c i v Takes u = (take_draws_nothing c.mark_held v c.mark_number u, refl)
 undrawn_before d c i v (Looks h) u = (u, refl)
 undrawn_before d c i v (Weighs h j) u = (u, refl)
 undrawn_before d c i v (Seats h j) u = (u, refl)
+undrawn_before d c i v (Raises h j) u = (u, refl)
 undrawn_before d c i v (Seals h j phase) u = (u, refl)
 undrawn_before d c i v (Releases h phase) u = (u, refl)
 

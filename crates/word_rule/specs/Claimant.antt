@@ -1,11 +1,12 @@
 -- What each atomic step of a claimant tells, by the word found.
-use Rattle.std.specs.Prelude.{◌≡◌, ℕ, ◌/◌, ◌<◌, List, nat_lt, slice_get, Option, Some, None, IsSome}
+use Rattle.std.specs.Prelude.{◌≡◌, ℕ, ◌/◌, ◌<◌, List, [], ◌∷◌, ◌++◌, nat_lt, slice_get, Option, Some, None, IsSome}
 use Rattle.market.specs.Dictatorships.{Dictatorship}
 use Rattle.interleaving_core.specs.declared.parts.Claiming.{Claiming}
 use Rattle.interleaving_core.specs.declared.parts.OwnTurn.{OwnTurn}
+use Rattle.interleaving_core.specs.Flags.{flag_group}
 use Rattle.interleaving_core.specs.Core.{View, entry, quota_of}
-use Rattle.interleaving_core.specs.Events.{after_claim, after_read, after_post}
-use Rattle.word_rule.specs.Views.{SeatMe, me_with}
+use Rattle.interleaving_core.specs.Events.{after_claim, after_flags, after_read, after_post}
+use Rattle.word_rule.specs.Views.{SeatKnows, SeatMe, me_with}
 use Rattle.word_rule.specs.Copies.{IsInRange}
 
 -- own turns that rise, lie below the number just drawn, and were all posted
@@ -20,6 +21,21 @@ pub record TellsClaim (m : SeatMe) (found : ℕ) (n : SeatMe) : Type 0 where
   pub seat : n ≡ me_with m (after_claim m.0.dict m.0.core found)
   pub range : IsInRange n.0.dict n.0.core
   pub earlier : AreEarlier m.0.core.own found
+
+-- the seat after it looked at the word that has the flag of its next entry: the entries from there
+-- on whose flags are raised in the word are passed, and the word is kept
+abbrev pub flags_by : SeatKnows → Option Claiming → ℕ → SeatKnows
+flags_by x None found = x
+flags_by x (Some c) found =
+    record x {
+      core = after_flags x.dict x.core c.turn c.passed found;
+      flags = x.flags ++ (flag_group (entry x.dict c.turn c.passed), found) ∷ [];
+    }
+
+-- a look at flags, by the word found
+pub record TellsFlags (m : SeatMe) (found : ℕ) (n : SeatMe) : Type 0 where
+  pub seat : n ≡ (flags_by m.0 m.0.core.claim found, m.1)
+  pub range : IsInRange n.0.dict n.0.core
 
 -- the view after a reading of the next entry's seat word: the entry is met where the count found
 -- lies below the quota, and else passed

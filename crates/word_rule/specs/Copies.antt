@@ -2,7 +2,7 @@
 use Rattle.std.specs.Prelude.{◌≡◌, ℕ, ◌<◌, ◌≤◌, Bool, true, length, Option, Some, None}
 use Rattle.market.specs.Dictatorships.{Dictatorship, list_at}
 use Rattle.interleaving_core.specs.declared.parts.Phase.{Phase}
-use Rattle.interleaving_core.specs.declared.parts.Phase.TheVariants.{Scan, Ready, Seated}
+use Rattle.interleaving_core.specs.declared.parts.Phase.TheVariants.{Idle, Halted, Scan, Ready, Seated, Raised}
 use Rattle.interleaving_core.specs.declared.parts.Holding.{Holding}
 use Rattle.interleaving_core.specs.Core.{View, turn_count, claim_at, hold_at}
 
@@ -12,11 +12,23 @@ abbrev pub holding_of : Option Phase → ℕ → Option Holding
 holding_of None committed = None
 holding_of (Some phase) committed = hold_at committed phase
 
+-- the place of a phase, 0 where it has none
+abbrev pub place_of : Phase → ℕ
+place_of Idle = 0
+place_of Halted = 0
+place_of (Scan j) = j
+place_of (Ready j) = j
+place_of (Seated j filled) = j
+place_of (Raised j) = j
+
 -- the turns and places that a view speaks of are those of the round
 pub record IsInRange (d : Dictatorship) (v : View) : Type 0 where
-  pub claimed : (k j : ℕ) (met : Bool) → v.claim ≡ claim_at k j met → k < turn_count d
-  pub passed : (k j : ℕ) (met : Bool) → v.claim ≡ claim_at k j met → j ≤ length (list_at d k)
-  pub met : (k j : ℕ) → v.claim ≡ claim_at k j true → j < length (list_at d k)
+  pub claimed : (k j : ℕ) (looked met : Bool) → v.claim ≡ claim_at k j looked met
+      → k < turn_count d
+  pub passed : (k j : ℕ) (looked met : Bool) → v.claim ≡ claim_at k j looked met
+      → j ≤ length (list_at d k)
+  pub met : (k j : ℕ) (looked : Bool) → v.claim ≡ claim_at k j looked true
+      → j < length (list_at d k)
   pub committed : (c : ℕ) (phase : Phase) → v.hold ≡ hold_at c phase → c ≤ turn_count d
   pub scanned : (c j : ℕ) → v.hold ≡ hold_at c (Scan j) → c < turn_count d
   pub scanned_place : (c j : ℕ) → v.hold ≡ hold_at c (Scan j) → j ≤ length (list_at d c)
@@ -25,3 +37,5 @@ pub record IsInRange (d : Dictatorship) (v : View) : Type 0 where
   pub seated : (c j : ℕ) (full : Bool) → v.hold ≡ hold_at c (Seated j full) → c < turn_count d
   pub seated_place : (c j : ℕ) (full : Bool) → v.hold ≡ hold_at c (Seated j full)
       → j < length (list_at d c)
+  pub raised : (c j : ℕ) → v.hold ≡ hold_at c (Raised j) → c < turn_count d
+  pub raised_place : (c j : ℕ) → v.hold ≡ hold_at c (Raised j) → j < length (list_at d c)

@@ -4,7 +4,7 @@ use Rattle.market.specs.Dictatorships.{Dictatorship}
 use Rattle.interleaving_core.specs.declared.parts.Cell.{Cell}
 use Rattle.interleaving_core.specs.declared.parts.Cell.TheVariants.{Posted}
 use Rattle.interleaving_core.specs.declared.parts.Phase.{Phase}
-use Rattle.interleaving_core.specs.declared.parts.Phase.TheVariants.{Idle, Halted, Scan, Ready, Seated}
+use Rattle.interleaving_core.specs.declared.parts.Phase.TheVariants.{Idle, Halted, Scan, Ready, Seated, Raised}
 use Rattle.interleaving_core.specs.declared.parts.Holding.{Holding}
 use Rattle.interleaving_core.specs.Core.{View, turn_count, entry, quota_of, is_committed, hold_at}
 use Rattle.interleaving_core.specs.Events.{with_hold, after_take, phase_after_look, phase_after_weigh}
@@ -55,6 +55,7 @@ weigh_phase d c Idle found = Idle
 weigh_phase d c Halted found = Halted
 weigh_phase d c (Ready j) found = Ready j
 weigh_phase d c (Seated j filled) found = Seated j filled
+weigh_phase d c (Raised j) found = Raised j
 
 -- the view after it
 abbrev pub weigh_by : Dictatorship → View → Option Holding → ℕ → View
@@ -75,6 +76,7 @@ seat_phase d c Idle found = Idle
 seat_phase d c Halted found = Halted
 seat_phase d c (Scan j) found = Scan j
 seat_phase d c (Seated j filled) found = Seated j filled
+seat_phase d c (Raised j) found = Raised j
 
 -- the view after it
 abbrev pub seat_by : Dictatorship → View → Option Holding → ℕ → View
@@ -87,6 +89,26 @@ pub record TellsSeat (m : SeatMe) (found : ℕ) (n : SeatMe) : Type 0 where
   pub seat : n ≡ me_with m (seat_by m.0.dict m.0.core m.0.core.hold found)
   pub range : IsInRange n.0.dict n.0.core
   pub small : found < 2 ^ 32
+
+-- the phase after the flag of the programme that was just filled is raised
+abbrev pub raise_phase : Phase → Phase
+raise_phase (Seated j true) = Raised j
+raise_phase (Seated j false) = Seated j false
+raise_phase Idle = Idle
+raise_phase Halted = Halted
+raise_phase (Scan j) = Scan j
+raise_phase (Ready j) = Ready j
+raise_phase (Raised j) = Raised j
+
+-- the view after it
+abbrev pub raise_by : View → Option Holding → View
+raise_by v None = v
+raise_by v (Some h) = with_hold v (hold_at h.committed (raise_phase h.phase))
+
+-- a flag raised
+pub record TellsRaise (m : SeatMe) (n : SeatMe) : Type 0 where
+  pub seat : n ≡ me_with m (raise_by m.0.core m.0.core.hold)
+  pub range : IsInRange n.0.dict n.0.core
 
 -- the view after a commit: one turn more is committed
 abbrev pub seal_by : View → Option Holding → View

@@ -1,9 +1,11 @@
 -- What each word of a round's table holds: the claim number; the mark, as twice its number and one
--- more where it is held; a seat count for each programme; and a cell for each turn.
+-- more where it is held; a seat count for each programme; a cell for each turn; and the words of
+-- flags, which have a flag for each programme.
 use Rattle.std.specs.Prelude.{ℕ, ◌+◌, ◌-◌, ◌*◌, ◌/◌, ◌%◌, ◌==◌, Bool, true, false, List, ◌∷◌, ◌++◌, length, map, take, drop, replicate, slice_index}
 use Rattle.market.specs.Dictatorships.{Dictatorship}
 use Rattle.interleaving_core.specs.declared.parts.Cell.{Cell}
 use Rattle.interleaving_core.specs.declared.parts.Cell.TheVariants.{Empty, Posted, Committed}
+use Rattle.interleaving_core.specs.Flags.{flag_word_count, flag_group, first_flags}
 use Rattle.interleaving_core.specs.Core.{View, Core, turn_count}
 use Rattle.word_rule.specs.declared.layout.TheConstants.{CLAIM_WORD, MARK_WORD, FIRST_SEAT_WORD}
 
@@ -19,9 +21,13 @@ seat_word p = FIRST_SEAT_WORD + p
 abbrev pub cell_word : ℕ → ℕ → ℕ
 cell_word programmes k = FIRST_SEAT_WORD + programmes + k
 
+-- the word that has the flag of a programme, behind the cells of so many turns
+abbrev pub flag_word : ℕ → ℕ → ℕ → ℕ
+flag_word programmes turns p = cell_word programmes turns + flag_group p
+
 -- how many words there are
 abbrev pub word_count : Dictatorship → ℕ
-word_count d = cell_word (programme_count d) (turn_count d)
+word_count d = cell_word (programme_count d) (turn_count d) + flag_word_count (programme_count d)
 
 -- whether the mark is held, by its word
 abbrev pub is_held : ℕ → Bool
@@ -62,10 +68,11 @@ core_of d words views =
       mark_number = mark_number (slice_index words MARK_WORD);
       seats = take (programme_count d) (drop FIRST_SEAT_WORD words);
       cells = map cell_of (take (turn_count d) (drop (FIRST_SEAT_WORD + programme_count d) words));
+      flags = drop (FIRST_SEAT_WORD + programme_count d + turn_count d) words;
       views = views;
     }
 
--- the words at the opening: nothing is drawn, the mark is free, the seat counts are the fills, and
--- each cell is empty
+-- the words at the opening: nothing is drawn, the mark is free, the seat counts are the fills, each
+-- cell is empty, and the flags of exactly the full programmes are raised
 abbrev pub first_words : Dictatorship → List ℕ
-first_words d = 0 ∷ free_mark 0 ∷ (d.fill ++ replicate (turn_count d) 0)
+first_words d = 0 ∷ free_mark 0 ∷ (d.fill ++ (replicate (turn_count d) 0 ++ first_flags d))

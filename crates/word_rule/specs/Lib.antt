@@ -13,5 +13,7 @@ pub mod Claimant
 pub mod Holder
 -- a round and its seats, as clauses speak of them
 pub mod Rounds
+-- when the flag of a filled programme may be raised, and what that does
+pub mod Raising
 -- what the words of a round that is over show
 pub mod Closing

@@ -1,5 +1,5 @@
 -- A round and its seats, as clauses speak of them.
-use Rattle.std.specs.Prelude.{◌≡◌, ℕ, true, List, slice_get, Some, None}
+use Rattle.std.specs.Prelude.{◌≡◌, ℕ, true, List, [], slice_get, Some, None}
 use Rattle.std.specs.List.{sum_by}
 use Rattle.atomic_table.specs.Table.{State}
 use Rattle.market.specs.Dictatorships.{Dictatorship}
@@ -46,6 +46,7 @@ pub record IsNew (round : SharedRound) (worker : ℕ) (me : WorkSeat) : Type 0 w
   pub tries : (knows me).tries ≡ 0
   pub took : (knows me).took ≡ 0
   pub released : (knows me).released ≡ 0
+  pub flags : (knows me).flags ≡ []
 
 -- seats at the opening, numbered from 0
 abbrev pub AreNew : SharedRound → List WorkSeat → Type 0

@@ -2,9 +2,10 @@
 use Rattle.std.specs.Prelude.{◌≡◌, ◌≢◌, ◌⊎◌, ℕ, ◌<◌, ◌≤◌, true, false, List, [], length, slice_get, slice_index, Some}
 use Rattle.std.specs.List.{sum_by}
 use Rattle.atomic_table.specs.Table.{State}
-use Rattle.market.specs.Dictatorships.{IsValidDictatorship}
+use Rattle.market.specs.Dictatorships.{Dictatorship, IsValidDictatorship}
 use Rattle.interleaving_core.specs.declared.limits.TheConstants.{MAX_WORKERS}
-use Rattle.interleaving_core.specs.Core.{View, Core, fresh_view}
+use Rattle.interleaving_core.specs.Flags.{flag_group, is_raised_in}
+use Rattle.interleaving_core.specs.Core.{View, Core, fresh_view, quota_of}
 use Rattle.interleaving_core.specs.Sound.{IsSound}
 use Rattle.word_rule.specs.declared.layout.TheConstants.{CLAIM_WORD, MARK_WORD}
 use Rattle.word_rule.specs.Layout.{mark_number, core_of, word_count}
@@ -32,6 +33,13 @@ pub record IsLive (seats : List SeatKnows) (i : ℕ) (x : SeatKnows) : Type 0 wh
   pub there : slice_get seats i ≡ Some x
   pub live : 0 < x.share
 
+-- each flag that was raised in a word that the seat has read is a programme's, which is full
+abbrev pub HasReadFull : Dictatorship → List ℕ → SeatKnows → Type 0
+HasReadFull d seats x =
+    (n : ℕ) (word : ℕ × ℕ) → slice_get x.flags n ≡ Some word → (p : ℕ) → flag_group p ≡ word.0
+    → is_raised_in word.1 p ≡ true
+    → (p < length d.quota) × (quota_of d p ≤ slice_index seats p)
+
 -- the view of a worker that has drawn no number
 abbrev pub HasNotDrawn : View → Type 0
 HasNotDrawn v = (v.own ≡ []) × (v.done ≡ false)
@@ -51,6 +59,9 @@ pub record IsSoundTable (key : RoundKey) (s : State ℕ SeatKnows) : Type 0 wher
   -- a seat that is still to be split has the greatest number
   pub last : (i j : ℕ) (x y : SeatKnows) → IsLive s.views i x → IsLive s.views j y → i ≢ j
       → 1 < x.share → x.core.done ≡ false → y.number < x.number
+  -- what a seat has read of flags is so
+  pub full : (i : ℕ) (x : SeatKnows) → IsLive s.views i x
+      → HasReadFull key.dict.value (table_core key s).seats x
   -- while nobody has drawn a number, the claim number is 0
   pub undrawn : ((i : ℕ) (x : SeatKnows) → IsLive s.views i x → HasNotDrawn x.core)
       → slice_index s.words CLAIM_WORD ≡ 0

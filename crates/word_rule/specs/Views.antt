@@ -6,8 +6,9 @@ use Rattle.interleaving_core.specs.Core.{View, fresh_view}
 
 -- a worker's view of the core; the seat's number and its share, which is how many workers it stands
 -- for; how many tries on the mark it has made, held or not; the number of its last try that found
--- the mark free, and the number that its last release wrote; and the round's dictatorship and
--- number of workers
+-- the mark free, and the number that its last release wrote; the words of flags that it has read,
+-- each with the group of programmes whose flags it has; and the round's dictatorship and number of
+-- workers
 pub record SeatKnows : Type 0 where
   pub core : View
   pub number : ℕ
@@ -15,6 +16,7 @@ pub record SeatKnows : Type 0 where
   pub tries : ℕ
   pub took : ℕ
   pub released : ℕ
+  pub flags : List (ℕ × ℕ)
   pub dict : Dictatorship
   pub workers : ℕ
 
@@ -47,6 +49,7 @@ first_seat d workers =
       tries = 0;
       took = 0;
       released = 0;
+      flags = [];
       dict = d;
       workers = workers;
     }
@@ -69,6 +72,7 @@ new_part x =
       tries = 0;
       took = 0;
       released = 0;
+      flags = [];
     }
 
 -- a join: the share of the other seat is added

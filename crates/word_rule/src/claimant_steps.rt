@@ -12,6 +12,16 @@ impl Play<u8, SeatView> for ClaimStep {
     ghost then = { λ step. TellsClaim };
 }
 
+/// A claimant looks at the flags of its next entries: a load of the word that has the flag of the
+/// next one.
+pub struct FlagsStep;
+
+impl Play<u8, SeatView> for FlagsStep {
+    ghost use Rattle.word_rule.specs.Claimant.{TellsFlags};
+
+    ghost then = { λ step. TellsFlags };
+}
+
 /// A claimant reads the seat count of the next entry: a load of its seat word.
 pub struct ReadStep;
 

@@ -40,6 +40,15 @@ impl Play<u8, SeatView> for SeatStep {
     ghost then = { λ step. TellsSeat };
 }
 
+/// The holder raises the flag of the programme that it filled: a fetch-or on the word that has it.
+pub struct RaiseStep;
+
+impl Play<u8, SeatView> for RaiseStep {
+    ghost use Rattle.word_rule.specs.Holder.{TellsRaise};
+
+    ghost then = { λ step me found after. TellsRaise me after };
+}
+
 /// The holder commits its turn at its place: a store to the turn's cell.
 pub struct SealStep;
 

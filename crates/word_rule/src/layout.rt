@@ -2,9 +2,9 @@
 // read.
 
 ghost use Rattle.std.specs.Prelude.{◌≡◌, ◌≤◌, ◌/◌};
-ghost use Rattle.word_rule.specs.Layout.{seat_word, cell_word, is_held, mark_number, free_mark, posted_at, committed_at, cell_of};
+ghost use Rattle.word_rule.specs.Layout.{seat_word, cell_word, flag_word, is_held, mark_number, free_mark, posted_at, committed_at, cell_of};
 
-use interleaving_core::Cell;
+use interleaving_core::{Cell, flag_group};
 
 /// The word of the claim number.
 pub const CLAIM_WORD: usize = 0;
@@ -27,6 +27,13 @@ pub fn cell_word(programmes: u32, turn: u32) -> usize
     ensures { result ≡ cell_word programmes turn }
 {
     FIRST_SEAT_WORD + programmes as usize + turn as usize
+}
+
+/// The word that has the flag of a programme, behind the cells of so many turns.
+pub fn flag_word(programmes: u32, turns: u32, programme: u32) -> usize
+    ensures { result ≡ flag_word programmes turns programme }
+{
+    cell_word(programmes, turns) + flag_group(programme) as usize
 }
 
 /// Whether the mark is held, by its word.

@@ -1,10 +1,11 @@
 //! The words that the workers of a round share, and the one rule over them.
 //!
 //! A round runs one dictatorship on a table of words: the claim number, the mark, a seat count for
-//! each programme and a cell for each turn. Each worker steps on them with a seat, which has a view
-//! of what the worker knows. The rule says that words and views together are one sound state of the
-//! core. Every atomic step is proved to keep it, whatever the table is when the step comes. So it
-//! holds between any two steps, in whatever order the workers make them.
+//! each programme, a cell for each turn, and words of flags, with a flag for each programme. Each
+//! worker steps on them with a seat, which has a view of what the worker knows. The rule says that
+//! words and views together are one sound state of the core. Every atomic step is proved to keep
+//! it, whatever the table is when the step comes. So it holds between any two steps, in whatever
+//! order the workers make them.
 #![tactic(auto)]
 
 // The words of a table by name: where each stands, and how its contents are written and read.
@@ -19,19 +20,22 @@ mod holder_steps;
 mod seat;
 // The opening of a round, and the joining of its seats.
 mod opening;
+// The raising of a flag.
+mod raising;
 // The end of a round, and the choices that its words show.
 mod closing;
 #[cfg(test)]
 mod tests;
 
-pub use claimant_steps::{ClaimStep, PostStep, ReadStep};
+pub use claimant_steps::{ClaimStep, FlagsStep, PostStep, ReadStep};
 pub use closing::{Words, close_round};
-pub use holder_steps::{LookStep, ReleaseStep, SealStep, SeatStep, TakeStep, WeighStep};
+pub use holder_steps::{LookStep, RaiseStep, ReleaseStep, SealStep, SeatStep, TakeStep, WeighStep};
 pub use interleaving_core::{Claiming as ClaimCopy, Phase as PhaseCopy};
 pub use layout::{
-    CLAIM_WORD, FIRST_SEAT_WORD, MARK_WORD, cell_of, cell_word, committed_at, free_mark, is_held,
-    mark_number, posted_at, seat_word,
+    CLAIM_WORD, FIRST_SEAT_WORD, MARK_WORD, cell_of, cell_word, committed_at, flag_word, free_mark,
+    is_held, mark_number, posted_at, seat_word,
 };
 pub use opening::{join_all, open_round};
+pub use raising::raise_step;
 pub use rule::{RoundKey, RoundRule, RoundSeat, RoundTable, SeatView, ShareMove};
 pub use seat::{SharedRound, WorkSeat};

@@ -1,6 +1,7 @@
 // The opening of a round, and the joining of its seats.
 
 ghost use Rattle.std.specs.Prelude.{◌≡◌, ℕ, ◌+◌, ◌<◌, ◌≤◌, ◌++◌, IfOk, [], length, replicate, vec_len, vec_capacity};
+ghost use Rattle.interleaving_core.specs.Flags.{flag_word_count, first_flags};
 ghost use Rattle.interleaving_core.specs.Core.{fresh_view};
 ghost use Rattle.word_rule.specs.Layout.{first_words};
 ghost use Rattle.word_rule.specs.Views.{first_seat};
@@ -9,7 +10,7 @@ ghost use Rattle.word_rule.specs.Rounds.{knows, key_of, dict_of, IsNew, AreNew, 
 use crate::layout::{FIRST_SEAT_WORD, cell_word, free_mark};
 use crate::rule::{RoundKey, RoundSeat, RoundTable, ShareMove};
 use crate::seat::{SharedRound, WorkSeat};
-use interleaving_core::MAX_WORKERS;
+use interleaving_core::{MAX_WORKERS, first_flag_word, flag_word_count};
 use market::Dict;
 use std::alloc::{AllocError, Global};
 use std::snapshot::Snapshot;
@@ -54,13 +55,16 @@ fn opening_words(alloc: Global, dict: &Dict) -> Result<Vec<u64>, AllocError>
 {
     let programmes = dict.programmes();
     let turns = dict.turns();
-    let mut words = Vec::with_capacity(alloc, cell_word(programmes, turns))?;
+    let flag_words = flag_word_count(programmes);
+    let count = cell_word(programmes, turns) + flag_words as usize;
+    let mut words = Vec::with_capacity(alloc, count)?;
     let claim_number = 0;
     let free_mark = free_mark(0);
     words.push_reserved(claim_number);
     words.push_reserved(free_mark);
     push_fills(&mut words, dict);
     push_empty_cells(&mut words, turns);
+    push_first_flags(&mut words, dict);
     Ok(words)
 }
 
@@ -80,10 +84,22 @@ fn push_fills(words: &mut Vec<u64>, dict: &Dict)
 // Each cell is empty.
 fn push_empty_cells(words: &mut Vec<u64>, turns: u32)
     requires { vec_len words.old + turns ≤ vec_capacity words.old }
-    ensures { words.new.items ≡ words.old.items ++ replicate turns 0 }
+    ensures items { words.new.items ≡ words.old.items ++ replicate turns 0 }
+    ensures len { vec_len words.new ≡ vec_len words.old + turns }
+    ensures capacity { vec_capacity words.new ≡ vec_capacity words.old }
 {
     for _turn in 0..turns {
         words.push_reserved(0);
+    }
+}
+
+// The flags of exactly the full programmes are raised.
+fn push_first_flags(words: &mut Vec<u64>, dict: &Dict)
+    requires { vec_len words.old + flag_word_count (length dict.now.quota) ≤ vec_capacity words.old }
+    ensures { words.new.items ≡ words.old.items ++ first_flags dict.now }
+{
+    for group in 0..flag_word_count(dict.programmes()) {
+        words.push_reserved(first_flag_word(dict, group));
     }
 }
 

@@ -10,7 +10,8 @@ use crate::rule::{RoundSeat, RoundTable};
 use interleaving_core::{Claiming as ClaimCopy, Phase as PhaseCopy};
 
 /// The table of words of one round: a word for the claim number, one for the mark, one for each
-/// programme's seat count and one for each turn's cell. All workers share it.
+/// programme's seat count, one for each turn's cell, and one for each 64 programmes' flags. All
+/// workers share it.
 #[derive(Drop)]
 pub struct SharedRound {
     pub table: RoundTable,

@@ -1,5 +1,7 @@
 // Rounds are opened for several numbers of workers.
 
+ghost use Rattle.std.specs.Prelude.{◌≤◌};
+
 use crate::{SharedRound, WorkSeat, open_round};
 use market::{Dict, List};
 use std::alloc::{AllocError, Global};
@@ -45,11 +47,32 @@ fn a_round_opens_for_each_number_of_workers(rt: HostRuntime) -> Result<(), Fail>
             assert_eq!(rt; seat.worker(), number);
             moves_to_workers(&round, seat);
         }
-        // nothing is drawn, the mark is free, the seats taken are counted, and both cells are empty
+        // nothing is drawn, the mark is free, the seats taken are counted, both cells are empty, and
+        // the flag of the last programme is raised
         assert_eq!(rt;
             words_of(alloc, &round)?.as_slice(),
-            &[0, 0, 1, 0, 3, 0, 0][..]
+            &[0, 0, 1, 0, 3, 0, 0, 4][..]
         );
+    }
+    Ok(())
+}
+
+// So many programmes of one seat each, and no turn.
+fn only_programmes(alloc: Global, count: usize) -> Result<Dict, AllocError>
+    requires { count ≤ 100 }
+{
+    let quota = vec![in alloc; 1u32; count]?;
+    let fill = vec![in alloc; 0u32; count]?;
+    Ok(Dict::from_parts(quota, fill, Vec::new(alloc)))
+}
+
+#[test]
+fn there_is_a_word_of_flags_for_each_64_programmes(rt: HostRuntime) -> Result<(), Fail> {
+    let alloc = rt.alloc();
+    for (programmes, flag_words) in [(0, 0), (1, 1), (64, 1), (65, 2)] {
+        let dict = only_programmes(alloc, programmes)?;
+        let (round, _seats) = open_round(alloc, &dict, 1)?;
+        assert_eq!(rt; round.table.word_count(), 2 + programmes + flag_words);
     }
     Ok(())
 }

@@ -1,21 +1,19 @@
-// A round of 128 turns and 64 seats: twice all seats draw, and then post in falling order.
+// Rounds of 128 turns and 64 seats: twice all seats draw, and then post in falling order.
 
 ghost use Rattle.std.specs.Prelude.{◌≡◌, IfOk};
 ghost use Rattle.word_rule.specs.Rounds.{knows, dict_of, shares_of, AreOver};
 ghost use Rattle.commit_book.specs.Seats.{IsWorking, AreWorking};
 
-use super::{commits, draws, ends, posts, reads};
+use super::{commits, draws, ends, looks_at_flags, posts, reads};
 use market::{Dict, List};
 use std::alloc::{AllocError, Global};
 use std::process::Abort;
 use std::test::Fail;
 use word_rule::{SharedRound, Words, WorkSeat, close_round, join_all, open_round};
 
-const QUOTAS: [u32; 7] = [28, 10, 6, 20, 4, 20, 3];
-
 // 128 turns over seven programmes, of which each turn lists three. All programmes get full.
 fn many_turns(alloc: Global) -> Result<Dict, AllocError> {
-    let quota = Vec::from_slice(alloc, &QUOTAS)?;
+    let quota = vec![in alloc; 28, 10, 6, 20, 4, 20, 3]?;
     let fill = vec![in alloc; 0, 0, 0, 0, 0, 0, 0]?;
     let mut lists = Vec::with_capacity(alloc, 128)?;
     for turn in 0..128 {
@@ -24,8 +22,25 @@ fn many_turns(alloc: Global) -> Result<Dict, AllocError> {
     Ok(Dict::from_parts(quota, fill, lists))
 }
 
-// The seat reads its turn's list up to the first entry with a seat left, posts the turn there, and
-// commits what it then can.
+// 128 turns over 130 programmes of one seat each, whose flags stand in three words. The entries of
+// a list have their flags in two or three of them, and the first two get full at once.
+fn spread_turns(alloc: Global) -> Result<Dict, AllocError> {
+    let quota = vec![in alloc; 1u32; 130]?;
+    let fill = vec![in alloc; 0u32; 130]?;
+    let mut lists = Vec::with_capacity(alloc, 128)?;
+    for turn in 0..128 {
+        lists.push(List::from_slice(alloc, &[turn % 2, 64 + turn % 3, 66 + turn % 64])?)?;
+    }
+    Ok(Dict::from_parts(quota, fill, lists))
+}
+
+// Whether the seat has passed all three entries of its turn's list.
+fn is_at_end(me: &WorkSeat) -> bool {
+    matches!(me.claim, Some(claim) if claim.passed >= 3)
+}
+
+// The seat goes along its turn's list up to the first entry with a seat left, posts the turn there,
+// and commits what it then can.
 fn works(rt: &impl Abort, round: &SharedRound, dict: &Dict, me: &mut WorkSeat) -> Option<u32>
     requires ready { IsWorking round.now me.old }
     requires dict { dict.now ≡ dict_of round.now }
@@ -33,7 +48,7 @@ fn works(rt: &impl Abort, round: &SharedRound, dict: &Dict, me: &mut WorkSeat) -
     ensures share { (knows me.new).share ≡ (knows me.old).share }
 {
     for _entry in 0..3 {
-        if !reads(rt, round, dict, me) {
+        if is_at_end(me) || looks_at_flags(rt, round, dict, me) && !reads(rt, round, dict, me) {
             break;
         }
     }
@@ -123,7 +138,10 @@ fn first_open(rt: &impl Abort, programmes: &[u32], left: &mut [u32]) -> u32 {
 
 // The choices are those of one turn after the other.
 fn compare(alloc: Global, rt: &impl Abort, dict: &Dict, words: &Words) -> Result<(), AllocError> {
-    let mut left = Vec::from_slice(alloc, &QUOTAS)?;
+    let mut left = Vec::with_capacity(alloc, 130)?;
+    for programme in 0..dict.programmes() {
+        left.push(dict.quota(programme))?;
+    }
     assert_eq!(rt; words.committed(), 128);
     for turn in 0..dict.turns() {
         assert!(rt; turn < words.committed());
@@ -133,19 +151,24 @@ fn compare(alloc: Global, rt: &impl Abort, dict: &Dict, words: &Words) -> Result
     Ok(())
 }
 
+// Runs a round of these 128 turns so, and compares its choices.
+fn run_falling(alloc: Global, rt: &impl Abort, dict: &Dict) -> Result<(), AllocError> {
+    let (round, seats) = open_round(alloc, dict, 64)?;
+    let drawn = act_all(alloc, rt, &round, dict, seats, Some(0))?;
+    let seats = act_all(alloc, rt, &round, dict, drawn, None)?;
+    let drawn = act_all(alloc, rt, &round, dict, seats, Some(64))?;
+    let seats = act_all(alloc, rt, &round, dict, drawn, None)?;
+    let over = end_all(alloc, rt, &round, seats)?;
+    let mut me = join_all(&round, over);
+    assert_eq!(rt; commits(rt, &round, dict, &mut me), Some(0));
+    let words = close_round(round, me);
+    compare(alloc, rt, dict, &words)
+}
+
 #[test]
 fn turns_posted_in_falling_order_are_committed_in_order(rt: HostRuntime) -> Result<(), Fail> {
     let alloc = rt.alloc();
-    let dict = many_turns(alloc)?;
-    let (round, seats) = open_round(alloc, &dict, 64)?;
-    let drawn = act_all(alloc, &rt, &round, &dict, seats, Some(0))?;
-    let seats = act_all(alloc, &rt, &round, &dict, drawn, None)?;
-    let drawn = act_all(alloc, &rt, &round, &dict, seats, Some(64))?;
-    let seats = act_all(alloc, &rt, &round, &dict, drawn, None)?;
-    let over = end_all(alloc, &rt, &round, seats)?;
-    let mut me = join_all(&round, over);
-    assert_eq!(&rt; commits(&rt, &round, &dict, &mut me), Some(0));
-    let words = close_round(round, me);
-    compare(alloc, &rt, &dict, &words)?;
+    run_falling(alloc, &rt, &many_turns(alloc)?)?;
+    run_falling(alloc, &rt, &spread_turns(alloc)?)?;
     Ok(())
 }

@@ -6,6 +6,7 @@ ghost use Rattle.interleaving_core.specs.Runs.{Answers};
 
 use crate::entries::{entry_at, has_seat};
 use crate::events::{NotNow, Told};
+use crate::flag_words::{flag_group, flag_mask};
 use crate::parts::{Cell, Holding, Phase};
 use crate::state::CoreState;
 
@@ -91,6 +92,23 @@ impl CoreState {
             phase: Phase::Seated(place, filled),
         });
         Ok(Told::Seated(filled))
+    }
+
+    // Raises the flag of the programme that was just filled.
+    pub(super) fn raise(&mut self, worker: u32) -> Result<Told, NotNow>
+        requires { worker < length self.old.core.views }
+        ensures { Answers self.old worker CoreEvent.Raise self.new result }
+    {
+        let (committed, place) = self.workers[worker as usize].may_raise()?;
+        let programme = entry_at(&self.dict, committed, place);
+        let group = flag_group(programme) as usize;
+        let raised = self.flags[group] | flag_mask(programme);
+        self.flags[group] = raised;
+        self.workers[worker as usize].hold = Some(Holding {
+            committed,
+            phase: Phase::Raised(place),
+        });
+        Ok(Told::Raised(programme))
     }
 
     // Commits the turn.

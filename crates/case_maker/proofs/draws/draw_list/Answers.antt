@@ -1,7 +1,6 @@
 use Rattle.std.proofs.Common.{◌≡◌, ℕ, ◌+◌, ◌%◌, min, Bool, cond, List, [], ◌∷◌, ◌++◌, map, sym, ap, ◌∙◌, arith, zero-add}
 use Rattle.std.specs.List.{range_with_len}
 use Rattle.std.proofs.lemmas.List.FromFn.{map-range_with_len_more}
-use Rattle.case_maker.specs.declared.draws.TheConstants.{DRAWS}
 use Rattle.case_maker.specs.Draws.{without_repeats}
 use Rattle.case_maker.specs.Words.{Words, generator_after, words_of}
 use Rattle.case_maker.proofs.Repeats.{stands, with_entry, without_repeats-more}
@@ -70,7 +69,7 @@ returns-clause-list c =
     let word = taken-word 0 start start c.next_word.new.self c.next_word.result
     (sym (after_none start)) c.next_word.ensures in
     let all : c.loop-draw._draw ≡ c.min-draws.result = omega arith in
-    let count = all ∙ c.min-draws.ensures ∙ ap (λ w. min c.args.programmes (w % DRAWS)) word in
+    let count = all ∙ c.min-draws.ensures ∙ ap (λ w. min c.args.programmes (w % 25)) word in
     c.from_vec.ensures ∙ c.loop-draw.invariant.list
     ∙ ap (λ n. without_repeats (entries c.args.programmes (words_of start) n)) count
 
@@ -80,5 +79,5 @@ returns-clause-taken c =
     let word = taken-word 0 start start c.next_word.new.self c.next_word.result
     (sym (after_none start)) c.next_word.ensures in
     let all : c.loop-draw._draw ≡ c.min-draws.result = omega arith in
-    let count = all ∙ c.min-draws.ensures ∙ ap (λ w. min c.args.programmes (w % DRAWS)) word in
+    let count = all ∙ c.min-draws.ensures ∙ ap (λ w. min c.args.programmes (w % 25)) word in
     c.loop-draw.invariant.taken ∙ ap (λ n. generator_after (1 + n) start) count

@@ -14,6 +14,6 @@ store-requires c =
     let turn = next.turn in (
       c.requires.seat.table,
       omega arith,
-      post_allowed round.table.shared.key _ _ _ _ _ _ _ _ me.live me.narrow next.may
+      post_allowed round.table.shared.key _ _ _ _ _ _ _ _ _ me.live me.narrow next.may
           (omega arith) c.posted_at-cell.ensures,
     )

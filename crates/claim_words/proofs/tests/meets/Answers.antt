@@ -1,14 +1,8 @@
-use Rattle.std.proofs.Common.{◌≡◌, ℕ, zero, suc, ◌<◌, length, sym, ◌∙◌, subst, arith}
+use Rattle.std.proofs.Common.{◌≡◌, ◌<◌, length, sym, ◌∙◌, subst}
 use Rattle.market.specs.Dictatorships.{Dictatorship, list_at}
 use Rattle.market.specs.Examples.{two_turns}
+use Rattle.claim_words.proofs.TwoTurns.{listed}
 use Rattle.claim_words.proofs.tests.meets.Goals as goal
-
--- both turns list a programme
-listed : (turn : ℕ) → turn < 2 → 0 < length (list_at two_turns turn)
-unfolding list_at
-listed zero l = omega arith
-listed (suc zero) l = omega arith
-listed (suc (suc turn)) l = absurd (omega arith)
 
 pub read_entry-requires-clause-may : goal.read_entry-requires-clause-may
 read_entry-requires-clause-may g c =

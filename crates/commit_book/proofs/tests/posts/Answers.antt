@@ -13,7 +13,7 @@ list-places-requires g c =
     let me = c.args.me.now in
     let x = c.in-Some.claim in
     let same = c.requires.seat.0.dict ∙ sym c.requires.seat.1 in
-    let turn = me.in_range.claimed x.turn x.passed x.met (sym me.claim_is ∙ c.in-Some.is) in
+    let turn = me.in_range.claimed x.turn x.passed x.looked x.met (sym me.claim_is ∙ c.in-Some.is) in
     let turns = ap (λ (d : Dictatorship). turn_count d) same in
     omega arith
 
@@ -27,11 +27,11 @@ post-requires-clause-may g c =
     elim c.else-not-claim.branch [
       | else-not-claim-via-then-not-claim+else-claim-places w ↦
           let same = c.requires.seat.0.dict ∙ sym c.requires.seat.1 in
-          let passed = me.in_range.passed x.turn x.passed x.met claim in
+          let passed = me.in_range.passed x.turn x.passed x.looked x.met claim in
           let places = ap (λ (z : Dictatorship). length (list_at z x.turn)) same in
           let list = ap length c.list-places.ensures in
           let past = w.if-claim-places.false in
           inr (omega arith)
       | else-not-claim-via-else-not-claim w ↦ inl (is_met x.met w.if-not-claim.false)
     ] in
-    record { turn = x.turn; place = x.passed; met = x.met; allowed = (claim, ends) }
+    record { turn = x.turn; place = x.passed; looked = x.looked; met = x.met; allowed = (claim, ends) }

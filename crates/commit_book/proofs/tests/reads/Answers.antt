@@ -1,4 +1,5 @@
-use Rattle.std.proofs.Common.{length, sym, ap, ◌∙◌, arith}
+use Rattle.std.proofs.Common.{◌≡◌, true, length, sym, ap, ◌∙◌, arith, rules}
+use Rattle.std.proofs.lemmas.Bool.{not-false}
 use Rattle.market.specs.Dictatorships.{Dictatorship, list_at}
 use Rattle.interleaving_core.specs.Core.{turn_count, claim_at}
 use Rattle.commit_book.proofs.tests.reads.Goals as goal
@@ -8,7 +9,7 @@ list-places-requires g c =
     let me = c.args.me.now in
     let x = c.in-Some.claim in
     let same = c.requires.seat.0.dict ∙ sym c.requires.seat.1 in
-    let turn = me.in_range.claimed x.turn x.passed x.met (sym me.claim_is ∙ c.in-Some.is) in
+    let turn = me.in_range.claimed x.turn x.passed x.looked x.met (sym me.claim_is ∙ c.in-Some.is) in
     let turns = ap (λ (d : Dictatorship). turn_count d) same in
     omega arith
 
@@ -17,7 +18,7 @@ overflow_cast-claim g c =
     let me = c.args.me.now in
     let x = c.in-Some.claim in
     let same = c.requires.seat.0.dict ∙ sym c.requires.seat.1 in
-    let passed = me.in_range.passed x.turn x.passed x.met (sym me.claim_is ∙ c.in-Some.is) in
+    let passed = me.in_range.passed x.turn x.passed x.looked x.met (sym me.claim_is ∙ c.in-Some.is) in
     let places = ap (λ (d : Dictatorship). length (list_at d x.turn)) same in
     let list = ap length c.list-places.ensures in
     let most = c.list-places.type_inv.0 in
@@ -31,12 +32,13 @@ read_entry-requires-clause-may g c =
     let places = ap (λ (d : Dictatorship). length (list_at d x.turn)) same in
     let list = ap length c.list-places.ensures in
     let left = c.if-claim-places.false in
+    let looked : x.looked ≡ true = search (rules, not-false) in
     record {
       turn = x.turn;
       place = x.passed;
       allowed = (
         sym me.claim_is ∙ (c.in-Some.is
-            ∙ ap (λ met. claim_at x.turn x.passed met) c.if-claim.false),
+            ∙ (λ k. claim_at x.turn x.passed (looked k) (c.if-claim.false k))),
         omega arith,
       );
     }

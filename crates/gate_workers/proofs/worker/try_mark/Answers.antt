@@ -1,6 +1,6 @@
 use Rattle.std.proofs.Common.{ap, sym, ◌∙◌}
 use Rattle.word_rule.specs.Views.{SeatKnows}
-use Rattle.commit_book.proofs.Holds.{held}
+use Rattle.word_rule.proofs.HolderCopies.{held}
 use Rattle.gate_workers.proofs.worker.try_mark.Goals as goal
 
 pub pass-requires-3-after_bounds : goal.pass-requires-3-after_bounds

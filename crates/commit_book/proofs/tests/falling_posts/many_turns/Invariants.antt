@@ -5,5 +5,5 @@ use Rattle.commit_book.proofs.tests.falling_posts.many_turns.Given as goal
 abbrev pub invariant-loop-turn : goal.invariant-loop-turn
 invariant-loop-turn l = record {
   count : length l.lists.items ≡ l.turn;
-  small : AreSmall l.lists.items;
+  small : AreSmall 7 l.lists.items;
 }

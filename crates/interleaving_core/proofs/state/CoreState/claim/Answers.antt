@@ -39,7 +39,12 @@ invariant_of-self-2 c =
     let me = c.index_mut-me.result.now in
     (draws_turn c.self.inside _ _ _ c.push_reserved.ensures.capacity x (omega arith)
     (λ k. record {
-      claim = Some record { turn = c.self.inside.claim_number; passed = 0; met = false };
+      claim = Some record {
+        turn = c.self.inside.claim_number;
+        passed = 0;
+        looked = false;
+        met = false;
+      };
       own = c.push_reserved.ensures.items k;
       done = me.done;
       owes = me.owes;
@@ -54,7 +59,12 @@ returns c =
     let me = c.index_mut-me.result.now in
     (draws_turn c.self.inside _ _ _ c.push_reserved.ensures.capacity x (omega arith)
     (λ k. record {
-      claim = Some record { turn = c.self.inside.claim_number; passed = 0; met = false };
+      claim = Some record {
+        turn = c.self.inside.claim_number;
+        passed = 0;
+        looked = false;
+        met = false;
+      };
       own = c.push_reserved.ensures.items k;
       done = me.done;
       owes = me.owes;

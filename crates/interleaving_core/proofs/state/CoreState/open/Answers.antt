@@ -21,5 +21,6 @@ invariant_of-result c =
       mark_number = 0;
       seats = seats k;
       cells = cells k;
+      flags = c.in_ok-flags.ensures {u = tt} k;
       views = team.views k;
     }) team

@@ -15,7 +15,8 @@ index_mut-requires c =
 pub post-requires : goal.post-requires
 post-requires c =
     let x = allowed c.self.inside _ _ _ _
-    (Posts c.in_ok-claim.claim.turn c.in_ok-claim.claim.passed c.in_ok-claim.claim.met)
+    (Posts c.in_ok-claim.claim.turn c.in_ok-claim.claim.passed c.in_ok-claim.claim.looked
+    c.in_ok-claim.claim.met)
     c.self.invariant c.self.view_is c.requires c.index.ensures c.index_mut-2.ensures.value
     c.in_ok-claim.ensures in
     let own = has_own c.self.inside _ _ c.in_ok-claim.claim c.self.invariant x.there x.ok.0 in
@@ -25,16 +26,18 @@ post-requires c =
 pub invariant_of-self : goal.invariant_of-self
 invariant_of-self c =
     let x = allowed c.self.inside _ _ _ _
-    (Posts c.in_ok-claim.claim.turn c.in_ok-claim.claim.passed c.in_ok-claim.claim.met)
+    (Posts c.in_ok-claim.claim.turn c.in_ok-claim.claim.passed c.in_ok-claim.claim.looked
+    c.in_ok-claim.claim.met)
     c.self.invariant c.self.view_is c.requires c.index.ensures c.index_mut-2.ensures.value
     c.in_ok-claim.ensures in
-    (posts_turn c.self.inside _ _ _ c.post.ensures.room _ _ _ x c.post.ensures.view).kept
+    (posts_turn c.self.inside _ _ _ c.post.ensures.room _ _ _ _ x c.post.ensures.view).kept
 
 pub returns : goal.returns
 returns c =
     let x = allowed c.self.inside _ _ _ _
-    (Posts c.in_ok-claim.claim.turn c.in_ok-claim.claim.passed c.in_ok-claim.claim.met)
+    (Posts c.in_ok-claim.claim.turn c.in_ok-claim.claim.passed c.in_ok-claim.claim.looked
+    c.in_ok-claim.claim.met)
     c.self.invariant c.self.view_is c.requires c.index.ensures c.index_mut-2.ensures.value
     c.in_ok-claim.ensures in
-    (posts_turn c.self.inside _ _ _ c.post.ensures.room _ _ _ x c.post.ensures.view).step _
+    (posts_turn c.self.inside _ _ _ c.post.ensures.room _ _ _ _ x c.post.ensures.view).step _
     c.self.view_is

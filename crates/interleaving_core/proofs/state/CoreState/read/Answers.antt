@@ -10,6 +10,7 @@ has_seat-open-requires-clause-turn c =
     record {
       turn = c.in_ok-claim.claim.turn;
       passed = c.in_ok-claim.claim.passed;
+      looked = true;
       met = false;
     } c.in_ok-claim.ensures.0
 
@@ -36,6 +37,7 @@ overflow_add-me c =
     c.index.ensures).claimed record {
       turn = c.in_ok-claim.claim.turn;
       passed = c.in_ok-claim.claim.passed;
+      looked = true;
       met = false;
     } c.in_ok-claim.ensures.0 in
     let short = list_short c.self.inside.dict c.in_ok-claim.claim.turn c.self.invariant.valid inside

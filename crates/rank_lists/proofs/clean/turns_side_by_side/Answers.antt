@@ -1,6 +1,6 @@
 use Rattle.std.proofs.Common.{◌≡◌, length, get_or, arith}
 use Rattle.rank_lists.specs.Clean.{AreTurnsRead, keys_in}
-use Rattle.rank_lists.proofs.clean.turns_by_type.Goals as goal
+use Rattle.rank_lists.proofs.clean.turns_side_by_side.Goals as goal
 
 pub returns : goal.returns
 returns g c =

@@ -1,0 +1,38 @@
+use Rattle.std.proofs.Common.{ℕ, Some, get_or, refl, ap, ◌∙◌}
+use Rattle.interleaving_core.specs.declared.parts.Claiming.{Claiming}
+use Rattle.interleaving_core.specs.Flags.{flag_group}
+use Rattle.interleaving_core.specs.Events.{ReadsFlags, with_claim}
+use Rattle.interleaving_core.specs.Machines.{view_of}
+use Rattle.interleaving_core.proofs.Machines.{allowed, flag_word_is}
+use Rattle.interleaving_core.proofs.MachineEvents.{reads_flags}
+use Rattle.interleaving_core.proofs.state.CoreState.read_flags.Goals as goal
+
+pub invariant_of-self : goal.invariant_of-self
+invariant_of-self c =
+    let x = allowed c.self.inside _ _ _ _
+    (ReadsFlags c.in_ok-claim.claim.turn c.in_ok-claim.claim.passed) c.self.invariant c.self.view_is
+    c.requires c.index.ensures c.index_mut.ensures.value c.in_ok-claim.ensures in
+    let flags = c.self.inside.flags.items in
+    let word = flag_word_is c.self.inside c.entry_at-programme.result c.index-word.result.now
+    c.self.invariant c.entry_at-programme.ensures.programme
+    (c.index-word.ensures
+    ∙ ap (λ (g : ℕ). get_or flags g c.index-word.result.now) c.flag_group.ensures)
+    ∙ ap (λ (p : ℕ). get_or flags (flag_group p) 0) c.entry_at-programme.ensures.entry in
+    (reads_flags c.self.inside _ _ _ refl _ _ _ x word
+    (ap (λ (y : Claiming). with_claim (view_of c.index_mut.result.now) (Some y))
+    c.past_flags-next.ensures)).kept
+
+pub returns : goal.returns
+returns c =
+    let x = allowed c.self.inside _ _ _ _
+    (ReadsFlags c.in_ok-claim.claim.turn c.in_ok-claim.claim.passed) c.self.invariant c.self.view_is
+    c.requires c.index.ensures c.index_mut.ensures.value c.in_ok-claim.ensures in
+    let flags = c.self.inside.flags.items in
+    let word = flag_word_is c.self.inside c.entry_at-programme.result c.index-word.result.now
+    c.self.invariant c.entry_at-programme.ensures.programme
+    (c.index-word.ensures
+    ∙ ap (λ (g : ℕ). get_or flags g c.index-word.result.now) c.flag_group.ensures)
+    ∙ ap (λ (p : ℕ). get_or flags (flag_group p) 0) c.entry_at-programme.ensures.entry in
+    (reads_flags c.self.inside _ _ _ refl _ _ _ x word
+    (ap (λ (y : Claiming). with_claim (view_of c.index_mut.result.now) (Some y))
+    c.past_flags-next.ensures)).step _ c.self.view_is

@@ -1,0 +1,285 @@
+#!/usr/bin/env python3
+"""Refuses in turn what the built program asks of the system, and looks at how it ends: refusals.py [PART..]
+
+Build the program first, as with ./place. The parts, all of them where none is named:
+
+    memory   each allocation of each command fails once, until a run asks for no more of them; needs a C compiler
+    limits   the address space is limited, from nothing up step by step, until the command is done
+    system   a full disk, a closed pipe, files that are missing, a directory or a pipe, words that are no text
+
+Each run has to end by its own status: done with the whole text, or the refusal with its line on standard error and
+nothing on standard output, but for what was written before a write failed. None may end by a signal. A line is printed
+for each case, and at last how many runs were refused and how many of them answered wrong.
+"""
+import os
+import resource
+import subprocess
+import sys
+import tempfile
+import threading
+
+HERE = os.path.dirname(os.path.abspath(__file__))
+ROOT = os.path.dirname(HERE)
+PROGRAM = os.path.join(ROOT, "crates", "place_program", "out", "place_program")
+DONE, NO_WORDS, WORDS, FILE_FAULT, READ_FAULT, WRITE_FAULT, MEMORY, AUDIT_NO = range(8)
+WANT_OF_MEMORY = b"want of memory\n"
+LARGEST_LIMIT = 1 << 30
+STEP = 16 << 10
+SECONDS = 60
+
+# Counts the calls that take memory in the file COUNTED, and lets the one of the number REFUSED fail.
+SHIM = r"""
+#define _GNU_SOURCE
+#include <errno.h>
+#include <fcntl.h>
+#include <stdatomic.h>
+#include <stddef.h>
+#include <stdlib.h>
+#include <sys/mman.h>
+#include <unistd.h>
+void *__libc_malloc(size_t);
+void *__libc_calloc(size_t, size_t);
+void *__libc_realloc(void *, size_t);
+void *__libc_memalign(size_t, size_t);
+static atomic_long before_main;
+static atomic_long *calls = &before_main;
+static long refused;
+static int fails(void) {
+    if (atomic_fetch_add(calls, 1) + 1 != refused) return 0;
+    errno = ENOMEM;
+    return 1;
+}
+void *malloc(size_t n) { return fails() ? NULL : __libc_malloc(n); }
+void *calloc(size_t n, size_t m) { return fails() ? NULL : __libc_calloc(n, m); }
+void *realloc(void *p, size_t n) { return fails() ? NULL : __libc_realloc(p, n); }
+void *memalign(size_t a, size_t n) { return fails() ? NULL : __libc_memalign(a, n); }
+void *aligned_alloc(size_t a, size_t n) { return memalign(a, n); }
+int posix_memalign(void **p, size_t a, size_t n) { return (*p = memalign(a, n)) ? 0 : ENOMEM; }
+__attribute__((constructor)) static void begin(void) {
+    int file = open(getenv("COUNTED"), O_RDWR);
+    void *shared = mmap(NULL, sizeof *calls, PROT_READ | PROT_WRITE, MAP_SHARED, file, 0);
+    if (shared == MAP_FAILED) _exit(125);
+    close(file);
+    calls = shared;
+    refused = atol(getenv("REFUSED"));
+}
+"""
+
+
+class Tally:
+    """How many runs were refused something, and how many of all answered wrong."""
+
+    def __init__(self):
+        self.refused = self.wrong = 0
+
+    def case(self, name, told, wrong):
+        self.wrong += wrong
+        print("%-44s %s%s" % (name, told, "" if wrong == 0 else "   WRONG: %d" % wrong), flush=True)
+
+
+def run(words, **how):
+    """Status, standard output and standard error of the program; a status below 0 is a signal."""
+    how.setdefault("stdout", subprocess.PIPE)
+    how.setdefault("stderr", subprocess.PIPE)
+    ended = subprocess.run([PROGRAM, *words], stdin=subprocess.DEVNULL, timeout=SECONDS, **how)
+    return ended.returncode, ended.stdout, ended.stderr
+
+
+def files_in(folder, *names):
+    return [os.path.join(ROOT, folder, name + ".csv") for name in names]
+
+
+def commands(workers):
+    """Each command that the program knows, on each of the two markets, with the status and the text of a free run."""
+    found = []
+    for folder in ("examples", os.path.join("examples", "three_rounds")):
+        files = files_in(folder, "programmes", "candidates", "ranks")
+        placement = files_in(folder, "placement")
+        for words in (["place", *files], ["base", *files], ["reasons", *files], ["audit", *files, *placement]):
+            found.append((words[0] + " " + os.path.basename(folder), words))
+    found.append(("make", ["make", "7", "300", "40", "5"]))
+    for name, words in found:
+        words = words + ["--workers", str(workers)]
+        status, text, notes = run(words)
+        if (status, notes) == (WORDS, b"words UnknownCommand 1\n"):
+            print("%-44s is no command of this program" % name)
+        elif status in (DONE, AUDIT_NO) and notes == b"":
+            yield name + " by %d" % workers, words, status, text
+        else:
+            sys.exit("refusals: a free run of %s ended with status %d: %s" % (name, status, notes))
+
+
+def answer_of(ended, status, text):
+    """What a run came to that may have been refused memory: None where it may not end so."""
+    if ended == (status, text, b""):
+        return "done"
+    if ended == (MEMORY, b"", WANT_OF_MEMORY):
+        return "want of memory"
+    if ended == (NO_WORDS, b"", b""):
+        return "without words"
+    return None
+
+
+def told(counts):
+    return ", ".join("%d %s" % (count, answer) for answer, count in sorted(counts.items()))
+
+
+def memory(tally, room):
+    shim = os.path.join(room, "shim.so")
+    with open(os.path.join(room, "shim.c"), "w") as source:
+        source.write(SHIM)
+    try:
+        subprocess.run(["cc", "-O1", "-shared", "-fPIC", "-o", shim, source.name], check=True)
+    except OSError:
+        print("memory: skipped, there is no cc")
+        return
+    counted = os.path.join(room, "counted")
+
+    def refusing(number, words):
+        with open(counted, "wb") as file:
+            file.write(bytes(8))
+        ended = run(words, env={"LD_PRELOAD": shim, "REFUSED": str(number), "COUNTED": counted})
+        with open(counted, "rb") as file:
+            return ended, int.from_bytes(file.read(), sys.byteorder)
+
+    for workers in (1, 7):
+        for name, words, status, text in commands(workers):
+            counts, wrong, number = {}, 0, 0
+            while True:
+                number += 1
+                ended, calls = refusing(number, words)
+                if calls == 0:
+                    sys.exit("refusals: the program takes no memory through the C library")
+                answer = answer_of(ended, status, text)
+                if calls < number:
+                    wrong += answer != "done"
+                    break
+                if answer is None:
+                    wrong += 1
+                    print("  allocation %d: status %d, %r, %r" % (number, *ended))
+                counts[answer or "wrong"] = counts.get(answer or "wrong", 0) + 1
+            tally.refused += number - 1
+            tally.case("memory: " + name, "%d refused in turn: %s" % (number - 1, told(counts)), wrong)
+
+
+def limits(tally, room):
+    def limited(limit, words):
+        def set_limit():
+            resource.setrlimit(resource.RLIMIT_AS, (limit, limit))
+
+        try:
+            return run(words, preexec_fn=set_limit)
+        except (OSError, subprocess.SubprocessError):
+            return None
+
+    def begins(limit):
+        return limited(limit, []) == (WORDS, b"", b"words NoCommand 0\n")
+
+    # below this the system does not even begin the program
+    low, high = 0, LARGEST_LIMIT
+    while high - low > STEP:
+        middle = (low + high) // 2
+        low, high = (low, middle) if begins(middle) else (middle, high)
+    for workers in (1, 7):
+        for name, words, status, text in commands(workers):
+            counts, wrong, limit, done_from = {}, 0, 0, 0
+            while limit < LARGEST_LIMIT:
+                ended = limited(limit, words)
+                answer = "not begun" if limit < high and not begins(limit) else ended and answer_of(ended, status, text)
+                if answer is None:
+                    wrong += 1
+                    print("  limit %d KiB: %s" % (limit >> 10, ended))
+                counts[answer or "wrong"] = counts.get(answer or "wrong", 0) + 1
+                # where the command is done, only threads ask for more: their stacks are large, and so are the steps
+                step = STEP if limit < done_from + 8 * STEP else limit // 8
+                limit += step
+                if answer != "done":
+                    done_from = limit
+            tally.refused += counts.get("want of memory", 0)
+            tally.case("limits: " + name, "%s; done from %d KiB on" % (told(counts), done_from >> 10), wrong)
+
+
+def system(tally, room):
+    files = files_in("examples", "programmes", "candidates", "ranks")
+    place = ["place", *files]
+    with open(files_in("examples", "placement")[0], "rb") as file:
+        text = file.read()
+
+    def ends(name, ended, wanted):
+        tally.refused += wanted[0] != DONE
+        line = (wanted[2] or b"").decode().rstrip() or "-"
+        tally.case("system: " + name, "status %d, %s" % (ended[0], line), ended != wanted)
+        if ended != wanted:
+            print("  ended with %s" % (ended,))
+
+    def fed(name, content, at, wanted):
+        """The file at a place of the words is a pipe, into which this is written."""
+        pipe = os.path.join(room, "pipe")
+        os.mkfifo(pipe)
+
+        def feed():
+            with open(pipe, "wb") as into:
+                into.write(content)
+
+        feeder = threading.Thread(target=feed, daemon=True)
+        feeder.start()
+        words = list(place)
+        words[at] = pipe
+        ends(name, run(words), wanted)
+        feeder.join(SECONDS)
+        os.remove(pipe)
+
+    def into_closed_pipe(words, read_first):
+        reading, writing = os.pipe()
+        child = subprocess.Popen(
+            [PROGRAM, *words], stdin=subprocess.DEVNULL, stdout=writing, stderr=subprocess.PIPE, pass_fds=()
+        )
+        os.close(writing)
+        if read_first:
+            os.read(reading, read_first)
+        os.close(reading)
+        notes = child.communicate(timeout=SECONDS)[1]
+        return child.returncode, None, notes
+
+    write_fault = (WRITE_FAULT, None, b"write fault\n")
+    with open("/dev/full", "wb") as full:
+        ends("standard output on a full disk", run(place, stdout=full), write_fault)
+        missing = ["place", os.path.join(room, "missing"), *files[1:]]
+        ends("the line on a full disk", run(missing, stderr=full), (READ_FAULT, b"", None))
+    many = os.path.join(room, "candidates.csv")
+    with open(many, "w") as out:
+        out.write("candidate,list\n" + "".join("%d,\n" % number for number in range(1, 50_001)))
+    long = ["place", files[0], many, files[2]]
+    ends("a pipe that is closed in mid-text", into_closed_pipe(long, 1), write_fault)
+    reading, writing = os.pipe()
+    os.close(reading)
+    ends("a pipe that nobody reads", run(place, stdout=writing), write_fault)
+    os.close(writing)
+    ends("no standard output", run(place, stdout=None, preexec_fn=lambda: os.close(1)), write_fault)
+    read_fault = (READ_FAULT, b"", b"read fault\n")
+    for at, what in ((1, "programmes"), (2, "candidates"), (3, "ranks")):
+        for kind, name in (("missing", os.path.join(room, "missing")), ("a directory", room), ("of no name", "")):
+            words = list(place)
+            words[at] = name
+            ends("%s that are %s" % (what, kind), run(words), read_fault)
+        with open(files[at - 1], "rb") as file:
+            fed("%s from a pipe" % what, file.read(), at, (DONE, text, b""))
+    header = (FILE_FAULT, b"", b"fault ranks line 1 field 0 F01 Header earlier 0\n")
+    fed("ranks from a pipe without a byte", b"", 3, header)
+    ends("a word that is no text", run([b"place", b"\xff"]), (NO_WORDS, b"", b""))
+    ends("no words", run([]), (WORDS, b"", b"words NoCommand 0\n"))
+
+
+def main():
+    if not os.path.exists(PROGRAM):
+        sys.exit("refusals: build the program first, as with ./place")
+    parts = {"memory": memory, "limits": limits, "system": system}
+    tally = Tally()
+    with tempfile.TemporaryDirectory() as room:
+        for name in sys.argv[1:] or list(parts):
+            parts[name](tally, room)
+    print("%d runs were refused something, %d answers were wrong" % (tally.refused, tally.wrong))
+    sys.exit(tally.wrong != 0)
+
+
+main()
