@@ -1,17 +1,17 @@
 -- Words that give a command are as many as it takes, and give it 1 to 64 workers.
-use Rattle.std.proofs.Common.{◌≡◌, ◌⊎◌, ℕ, suc, ◌+◌, ◌<◌, ◌≤◌, Bool, true, false, List, [], ◌∷◌, drop, length, Option, Some, None, Result, Ok, Err, refl, sym, ap, ◌∙◌, subst, arith, ⊎_elim}
-use Rattle.std.specs.Prelude.{codes, nat_le, nat_lt}
+use Rattle.std.proofs.Common.{◌≡◌, ℕ, suc, ◌+◌, ◌<◌, ◌≤◌, List, [], ◌∷◌, drop, length, Option, Some, None, Result, Ok, Err, refl, sym, ◌∙◌, subst, arith, ⊎_elim}
+use Rattle.std.specs.Prelude.{codes}
 use Rattle.std.specs.Str.{bytes_eq}
-use Rattle.std.proofs.lemmas.Bool.{and_parts, cases_Bool, cases_lt, cond-false, cond-true, cond_both, le-ltb, leb-true, lt-ltb}
+use Rattle.std.proofs.lemmas.Bool.{and_parts, cases_lt, cond-false, cond-true, cond_both, le-ltb, leb-true, lt-ltb}
 use Rattle.place_base.specs.declared.fault.FaultKind.{FaultKind}
-use Rattle.place_base.specs.declared.fault.FaultKind.TheVariants.{NotNumber, OutOfRange}
+use Rattle.place_base.specs.declared.fault.FaultKind.TheVariants.{OutOfRange}
 use Rattle.record_files.specs.Numbers.{is_number, number_of, value}
 use Rattle.command_words.specs.Words.{CommandForm, command_by, command_of, command_with, form_of, number_at, number_behind, workers_of}
 use Rattle.command_words.specs.declared.words.Command.{Command}
 use Rattle.command_words.specs.declared.words.Command.TheVariants.{Place, Base, Reasons, Audit}
 use Rattle.command_words.specs.declared.words.TheConstants.{MAX_WORKERS, WORKERS}
 use Rattle.command_words.specs.declared.words.WordsFault.{WordsFault}
-use Rattle.command_words.specs.declared.words.WordsFault.TheVariants.{BadNumber, WordCount, UnknownCommand}
+use Rattle.command_words.specs.declared.words.WordsFault.TheVariants.{WordCount}
 
 -- how many words a command takes without the option, its own among them
 abbrev pub words_of : Command → ℕ

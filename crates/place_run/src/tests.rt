@@ -312,10 +312,12 @@ fn are_audited(
     rt: &(impl Threads + Sync + Abort),
     alloc: Global,
     texts: &[&str],
+    markets: &[Worked],
     audits: &[Audit],
 ) -> Result<(), Fail> {
     for audit in audits {
-        let shelf = files_with(alloc, &audit.market, audit.placement)?;
+        assert!(rt; audit.market < markets.len());
+        let shelf = files_with(alloc, &markets[audit.market], audit.placement)?;
         let code = if audit.verdict == b"STABLE\n".as_slice() { 0 } else { 7 };
         ends(rt, alloc, texts, shelf, &OpenGate, (code, audit.verdict, b"", 0, 12))?;
     }
@@ -328,7 +330,7 @@ fn the_first_verdict_is_printed_by_one_worker_and_by_sixty_four(
 ) -> Result<(), Fail> {
     for texts in AUDIT_BY {
         are_stable(&rt, rt.alloc(), texts, &MARKETS)?;
-        are_audited(&rt, rt.alloc(), texts, &AUDITS)?;
+        are_audited(&rt, rt.alloc(), texts, &MARKETS, &AUDITS)?;
     }
     Ok(())
 }
@@ -338,12 +340,13 @@ fn are_no_placements(
     rt: &(impl Threads + Sync + Abort),
     alloc: Global,
     texts: &[&str],
+    market: &Worked,
     placements: &[(&[u8], &[u8])],
 ) -> Result<(), Fail> {
     for (placement, note) in placements {
-        let shelf = files_with(alloc, &EXCHANGE, placement)?;
+        let shelf = files_with(alloc, market, placement)?;
         ends(rt, alloc, texts, shelf, &OpenGate, (3, b"", *note, 0, 12))?;
-        let mut shelf = files_with(alloc, &EXCHANGE, placement)?;
+        let mut shelf = files_with(alloc, market, placement)?;
         shelf.add(String::from_str(alloc, "r")?, BAD_RANKS.to_vec(alloc)?)?;
         let note = b"fault ranks line 2 field 2 F05 BadTypeName earlier 0\n";
         ends(rt, alloc, texts, shelf, &OpenGate, (3, b"", note, 0, 9))?;
@@ -356,14 +359,14 @@ fn the_first_fault_of_a_placement_file_is_noted_behind_the_three(
     rt: HostRuntime,
 ) -> Result<(), Fail> {
     for texts in AUDIT_BY {
-        are_no_placements(&rt, rt.alloc(), texts, &FAULTY_PLACEMENTS)?;
+        are_no_placements(&rt, rt.alloc(), texts, &MARKETS[EXCHANGE], &FAULTY_PLACEMENTS)?;
     }
     Ok(())
 }
 
 #[test]
 fn an_audit_without_its_placement_file_is_a_read_fault(rt: HostRuntime) -> Result<(), Fail> {
-    let shelf = files_of(rt.alloc(), &EXCHANGE)?;
+    let shelf = files_of(rt.alloc(), &MARKETS[EXCHANGE])?;
     let ended = (4, b"".as_slice(), b"read fault\n".as_slice(), 1, 10);
     ends(&rt, rt.alloc(), AUDIT_BY[0], shelf, &OpenGate, ended)?;
     Ok(())

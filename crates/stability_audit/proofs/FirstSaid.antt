@@ -2,13 +2,13 @@
 use Rattle.std.proofs.Common.{◌≡◌, ◌⊎◌, ℕ, zero, suc, ◌+◌, ◌<◌, ◌≤◌, Bool, true, false, List, [], ◌∷◌, ◌++◌, length, map, Option, Some, None, refl, sym, ap, ◌∙◌, subst, inl, inr, arith, append-nil, ◌||◌, ⊎_elim}
 use Rattle.std.specs.Prelude.{filter}
 use Rattle.std.specs.List.{flat_map, range_with_len}
-use Rattle.std.proofs.lemmas.Bool.{and_from, and_parts, cases_Bool, cases_eq, cases_lt, cond-false, cond-true, false_from_ne_true, le-ltb, lt-ltb, ltb-true, or_left, or_right, false≢true}
+use Rattle.std.proofs.lemmas.Bool.{and_from, and_parts, cases_eq, cases_lt, cond-false, cond-true, false_from_ne_true, le-ltb, lt-ltb, ltb-true, or_left, or_right, false≢true}
 use Rattle.std.proofs.lemmas.List.{get_or_past}
 use Rattle.std.proofs.lemmas.Option.{none-some}
 use Rattle.market.specs.BaseRanks.{base_rank}
 use Rattle.market.specs.Counting.{count_of}
 use Rattle.market.specs.Problems.{IsAcceptable, Problem, kind_of, list_of, place_of, quota_of, rank_of}
-use Rattle.market.specs.Stability.{HasWorseHolder, IsBetter, IsBlocking, IsStable, Prefers, held_by}
+use Rattle.market.specs.Stability.{HasWorseHolder, IsBetter, IsBlocking, Prefers, held_by}
 use Rattle.market.proofs.Firsts.{place-cons-le, place-here, place-next}
 use Rattle.market.proofs.Tallies.{count_none}
 use Rattle.market.proofs.Valid.{candidate_lt}

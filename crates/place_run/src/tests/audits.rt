@@ -1,19 +1,21 @@
 // Placement files, and what an audit says of them.
-use super::worked_markets::{MARKETS, Worked};
 
-// A placement in a market, and the first verdict on it.
+// A placement in one of the worked markets, by its place among them, and the first verdict on it.
 #[derive(Clone, Copy)]
 pub(super) struct Audit {
-    pub(super) market: Worked,
+    pub(super) market: usize,
     pub(super) placement: &'static [u8],
     pub(super) verdict: &'static [u8],
 }
 
 // The exchange: each candidate wants the other's programme.
-pub(super) const EXCHANGE: Worked = MARKETS[0];
+pub(super) const EXCHANGE: usize = 0;
+
+// The three rounds.
+const CHAIN: usize = 2;
 
 // One programme, and a candidate who has no rank in its score type.
-const NO_RANK: Worked = MARKETS[5];
+const NO_RANK: usize = 5;
 
 pub(super) const AUDITS: [Audit; 8] = [
     // Each has the first wish.
@@ -57,7 +59,7 @@ pub(super) const AUDITS: [Audit; 8] = [
     },
     // All seats are taken, one by a holder of worse rank.
     Audit {
-        market: MARKETS[2],
+        market: CHAIN,
         placement: b"candidate,programme\n1,21\n2,11\n3,12\n",
         verdict: b"BLOCKING,1,11\n",
     },
