@@ -6,7 +6,7 @@ here=$(cd "$(dirname "$0")" && pwd)
 command -v rustc >/dev/null || { echo "bench: skipped, there is no rustc"; exit 0; }
 repository=$(mktemp -d)
 trap 'rm -rf "$repository"' EXIT
-crates='market case_maker interleaving_core word_rule claim_words commit_book gate_workers truncation round_rerun'
+crates='market case_maker interleaving_core word_rule full_flags claim_words commit_book gate_workers truncation round_rerun'
 mkdir -p "$here/out" "$repository/crates/turns/src" "$repository/crates/turns/proofs/main" "$repository/crates/turns/proofs/make_parts" "$repository/crates/turns/specs"
 (cd "$repository" && git init -q .)
 cp "$here/../HANDLES" "$repository/"

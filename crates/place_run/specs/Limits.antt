@@ -2,7 +2,6 @@
 use Rattle.std.specs.Prelude.{◌≡◌, ℕ, ◌^◌, List, [], ◌∷◌}
 use Rattle.place_base.specs.declared.limits.TheConstants.{MOST_PROGRAMMES, MOST_CANDIDATES, MOST_REQUESTS, MOST_RANKS, MOST_TYPES, MOST_ENTRIES, LARGEST_NUMBER, LARGEST_CODE, LARGEST_QUOTA, LARGEST_RANK, LONGEST_NAME, LONGEST_LINE, MOST_PIECES, LF, CR, COMMA, SEMICOLON, BYTE_ORDER_MARK}
 use Rattle.place_edges.specs.Shelf.{file_limit}
-use Rattle.interleaving_core.specs.declared.limits.TheConstants.{MAX_WORKERS}
 use Rattle.market.specs.declared.limits.TheConstants.{MAX_TYPES, MAX_PROGRAMMES, MAX_CANDIDATES, MAX_ENTRIES, MAX_QUOTA, MAX_RANK}
 
 -- those of the files
@@ -30,7 +29,7 @@ pub record HasFileBytes : Type 0 where
   pub semicolon : SEMICOLON ≡ 59
   pub mark : BYTE_ORDER_MARK ≡ 239 ∷ 187 ∷ 191 ∷ []
 
--- those of a market, and of the workers on it
+-- those of a market
 pub record HasMarketLimits : Type 0 where
   pub types : MAX_TYPES ≡ 32
   pub programmes : MAX_PROGRAMMES ≡ 120000
@@ -38,4 +37,3 @@ pub record HasMarketLimits : Type 0 where
   pub entries : MAX_ENTRIES ≡ 48
   pub quota : MAX_QUOTA ≡ 100000
   pub rank : MAX_RANK ≡ 99999999
-  pub workers : MAX_WORKERS ≡ 64
