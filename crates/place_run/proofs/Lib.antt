@@ -22,3 +22,5 @@ pub mod WrittenTexts
 pub mod Finishing
 -- the parts of a line
 pub mod LineTexts
+-- names that are all granted
+pub mod Granting

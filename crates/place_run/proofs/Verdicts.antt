@@ -47,9 +47,11 @@ names-verdict m held valid programmes sizes (NotAcceptable i) h =
 names-verdict m held valid programmes sizes (Blocking i p) h =
     let listed = h.blocks.acceptable.listed in
     let place = place_of p (list_of m i) in
-    let known = candidate_lt m i place listed in
-    (known, subst (λ q. q < length m.programmes) (place_get p (list_of m i) 0 listed)
-    (valid.list_entries i place known listed))
+    let known = candidate_lt m i place listed in (
+      known,
+      subst (λ q. q < length m.programmes) (place_get p (list_of m i) 0 listed)
+          (valid.list_entries i place known listed),
+    )
 
 abbrev answer_with : Ending → List ℕ → Answer
 answer_with end text = record { ending = end; text = text }

@@ -118,13 +118,7 @@ fn fill(rows: &mut RowBuffer, placed: &Placed, bases: &BaseRanks, candidate: u32
 }
 
 // Appends the row of the entry at a place of a candidate's list.
-fn put_entry(
-    rows: &mut RowBuffer,
-    placed: &Placed,
-    bases: &BaseRanks,
-    candidate: u32,
-    place: u32,
-)
+fn put_entry(rows: &mut RowBuffer, placed: &Placed, bases: &BaseRanks, candidate: u32, place: u32)
     requires room { length rows.old + 96 ≤ 4096 }
     requires named { IsNamedPlacement placed.now.problem placed.now.placement }
     requires bases { IsBaseTable placed.now.problem.market placed.now.placement bases.now }

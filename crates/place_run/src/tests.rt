@@ -7,6 +7,12 @@ mod audits;
 mod faulty_files;
 // Gates that count turns.
 mod gates;
+// Files at their limits.
+mod large_files;
+// Files in each number of parts.
+mod parts;
+// Each call and each put fails once.
+mod refused_in_turn;
 // Markets that are placed.
 mod worked_markets;
 
@@ -24,7 +30,6 @@ use command_words::WordsFault;
 use gate_workers::{Gate, OpenGate};
 use market::{Placer, Steps};
 use place_edges::{MemShelf, MemSink, SureShelf, SureSink};
-use record_files::{Field, put_row_2, put_row_3};
 use round_rerun::Rounds;
 use std::alloc::{AllocError, Global};
 use std::marker::Brand;
@@ -37,11 +42,13 @@ const PLACE: [&str; 4] = ["place", "p", "c", "r"];
 
 const BY_TWO: [&str; 6] = ["place", "p", "c", "r", "--workers", "2"];
 
-// The same by one worker, by two, by as many as when the words say nothing, and by the most.
-const PLACE_BY: [&[&str]; 4] = [
+// The same by one worker, by two, by as many as when the words say nothing, by seven, and by the
+// most.
+const PLACE_BY: [&[&str]; 5] = [
     &["place", "p", "c", "r", "--workers", "1"],
     &BY_TWO,
     &PLACE,
+    &["place", "p", "c", "r", "--workers", "7"],
     &["place", "p", "c", "r", "--workers", "64"],
 ];
 
@@ -103,6 +110,20 @@ fn shelf(alloc: Global, files: &[(&str, &[u8])]) -> Result<MemShelf, AllocError>
     Ok(shelf)
 }
 
+// Runs these words over this shelf, with these sinks and this gate.
+fn run_on(
+    rt: &(impl Threads + Sync),
+    alloc: Global,
+    texts: &[&str],
+    shelf: &mut MemShelf,
+    (out, notes): (&mut MemSink, &mut MemSink),
+    gate: &impl Gate,
+) -> Result<Status, AllocError> {
+    let words = words(alloc, texts)?;
+    let status = run_words(rt, alloc, &words, shelf, out, notes, gate);
+    Ok(status)
+}
+
 // Runs these words over this shelf, with this gate.
 fn run(
     rt: &(impl Threads + Sync),
@@ -113,8 +134,7 @@ fn run(
 ) -> Result<Ran, AllocError> {
     let mut out = MemSink::new(alloc, 16, 65_536)?;
     let mut notes = MemSink::new(alloc, 16, 65_536)?;
-    let words = words(alloc, texts)?;
-    let status = run_words(rt, alloc, &words, &mut shelf, &mut out, &mut notes, gate);
+    let status = run_on(rt, alloc, texts, &mut shelf, (&mut out, &mut notes), gate)?;
     Ok(Ran {
         status,
         out,
@@ -302,7 +322,14 @@ fn are_stable(
 ) -> Result<(), Fail> {
     for market in markets {
         let shelf = files_with(alloc, market, market.placed)?;
-        ends(rt, alloc, texts, shelf, &OpenGate, (0, b"STABLE\n", b"", 0, 12))?;
+        ends(
+            rt,
+            alloc,
+            texts,
+            shelf,
+            &OpenGate,
+            (0, b"STABLE\n", b"", 0, 12),
+        )?;
     }
     Ok(())
 }
@@ -318,8 +345,19 @@ fn are_audited(
     for audit in audits {
         assert!(rt; audit.market < markets.len());
         let shelf = files_with(alloc, &markets[audit.market], audit.placement)?;
-        let code = if audit.verdict == b"STABLE\n".as_slice() { 0 } else { 7 };
-        ends(rt, alloc, texts, shelf, &OpenGate, (code, audit.verdict, b"", 0, 12))?;
+        let code = if audit.verdict == b"STABLE\n".as_slice() {
+            0
+        } else {
+            7
+        };
+        ends(
+            rt,
+            alloc,
+            texts,
+            shelf,
+            &OpenGate,
+            (code, audit.verdict, b"", 0, 12),
+        )?;
     }
     Ok(())
 }
@@ -359,7 +397,13 @@ fn the_first_fault_of_a_placement_file_is_noted_behind_the_three(
     rt: HostRuntime,
 ) -> Result<(), Fail> {
     for texts in AUDIT_BY {
-        are_no_placements(&rt, rt.alloc(), texts, &MARKETS[EXCHANGE], &FAULTY_PLACEMENTS)?;
+        are_no_placements(
+            &rt,
+            rt.alloc(),
+            texts,
+            &MARKETS[EXCHANGE],
+            &FAULTY_PLACEMENTS,
+        )?;
     }
     Ok(())
 }
@@ -610,10 +654,8 @@ fn a_write_that_fails_leaves_the_front_of_the_text(rt: HostRuntime) -> Result<()
     let mut out = MemSink::new(alloc, 16, 65_536)?;
     out.fail_at(2)?;
     let mut notes = MemSink::new(alloc, 16, 65_536)?;
-    let words = words(alloc, &PLACE)?;
-    let status = run_words(
-        &rt, alloc, &words, &mut shelf, &mut out, &mut notes, &OpenGate,
-    );
+    let sinks = (&mut out, &mut notes);
+    let status = run_on(&rt, alloc, &PLACE, &mut shelf, sinks, &OpenGate)?;
     assert_eq!(rt; (status, status.code()), (Status::WriteFault, 5));
     assert_eq!(rt; out.bytes(), b"candidate,progra".as_slice());
     assert_eq!(rt; out.faults(), 1);
@@ -634,10 +676,8 @@ fn reasons_that_cannot_be_written_leave_the_front_of_their_text(
         let mut out = MemSink::new(alloc, 16, 65_536)?;
         out.fail_at(put)?;
         let mut notes = MemSink::new(alloc, 16, 65_536)?;
-        let words = words(alloc, &["reasons", "p", "c", "r"])?;
-        let status = run_words(
-            &rt, alloc, &words, &mut shelf, &mut out, &mut notes, &OpenGate,
-        );
+        let sinks = (&mut out, &mut notes);
+        let status = run_on(&rt, alloc, REASONS_BY[0], &mut shelf, sinks, &OpenGate)?;
         assert_eq!(rt; (status.code(), out.faults()), (5, 1));
         assert_eq!(rt; out.bytes(), front);
     }
@@ -655,12 +695,13 @@ fn notes_that_fail_at_once_change_no_refusal(rt: HostRuntime) -> Result<(), Fail
         let mut out = MemSink::new(alloc, 16, 65_536)?;
         let mut notes = MemSink::new(alloc, 4, 65_536)?;
         notes.fail_at(1)?;
-        let words = words(alloc, &PLACE)?;
-        let status = run_words(
-            &rt, alloc, &words, &mut shelf, &mut out, &mut notes, &OpenGate,
-        );
+        let sinks = (&mut out, &mut notes);
+        let status = run_on(&rt, alloc, &PLACE, &mut shelf, sinks, &OpenGate)?;
         assert_eq!(rt; (status.code(), notes.faults()), (code, 1));
-        assert_eq!(rt; (out.bytes(), notes.bytes()), (b"".as_slice(), b"".as_slice()));
+        assert_eq!(rt;
+            (out.bytes(), notes.bytes()),
+            (b"".as_slice(), b"".as_slice())
+        );
     }
     Ok(())
 }
@@ -672,10 +713,8 @@ fn notes_that_fail_change_nothing_else(rt: HostRuntime) -> Result<(), Fail> {
     let mut out = MemSink::new(alloc, 16, 65_536)?;
     let mut notes = MemSink::new(alloc, 4, 65_536)?;
     notes.fail_at(6)?;
-    let words = words(alloc, &PLACE)?;
-    let status = run_words(
-        &rt, alloc, &words, &mut shelf, &mut out, &mut notes, &OpenGate,
-    );
+    let sinks = (&mut out, &mut notes);
+    let status = run_on(&rt, alloc, &PLACE, &mut shelf, sinks, &OpenGate)?;
     assert_eq!(rt; status.code(), 3);
     assert_eq!(rt; out.bytes(), b"".as_slice());
     assert_eq!(rt; notes.bytes(), b"fault candidates".as_slice());
@@ -696,176 +735,5 @@ fn nothing_fails_over_a_sure_shelf_and_a_sure_sink(rt: HostRuntime) -> Result<()
         &rt, alloc, &words, &mut shelf, &mut out, &mut notes, &OpenGate,
     );
     assert_eq!(rt; status, Status::Done);
-    Ok(())
-}
-
-// A file of a header and a row, whose line has so many bytes by zeros in front.
-fn long_line(alloc: Global, header: &str, size: usize, row: &str) -> Result<Vec<u8>, AllocError> {
-    let mut bytes = header.as_bytes().to_vec(alloc)?;
-    for _ in row.len()..size {
-        bytes.push(b'0')?;
-    }
-    bytes.extend_from_slice(row.as_bytes())?;
-    bytes.extend_from_slice(b"\r\n")?;
-    Ok(bytes)
-}
-
-// Three files whose data rows stand in lines of these sizes.
-fn long_lines(alloc: Global, sizes: [usize; 3]) -> Result<MemShelf, AllocError> {
-    let [programmes, candidates, ranks] = sizes;
-    let programmes = long_line(alloc, "programme,type,quota\n", programmes, "101,SAY,1")?;
-    let candidates = long_line(alloc, "candidate,list\n", candidates, "1,101")?;
-    let ranks = long_line(alloc, "candidate,type,rank\n", ranks, "1,SAY,1")?;
-    shelf(
-        alloc,
-        &[("p", &programmes), ("c", &candidates), ("r", &ranks)],
-    )
-}
-
-#[test]
-fn a_line_may_have_1024_bytes_in_each_file(rt: HostRuntime) -> Result<(), Fail> {
-    let alloc = rt.alloc();
-    for (sizes, note) in [
-        ([1024, 1024, 1024], ""),
-        (
-            [1025, 1025, 1025],
-            "fault programmes line 2 field 0 F10 LineTooLong earlier 0\n",
-        ),
-        (
-            [1024, 1025, 1025],
-            "fault candidates line 2 field 0 F10 LineTooLong earlier 0\n",
-        ),
-        (
-            [1024, 1024, 1025],
-            "fault ranks line 2 field 0 F10 LineTooLong earlier 0\n",
-        ),
-    ] {
-        let ran = run(&rt, alloc, &PLACE, long_lines(alloc, sizes)?, &OpenGate)?;
-        assert_eq!(rt; ran.notes.bytes(), note.as_bytes());
-    }
-    Ok(())
-}
-
-// A programmes file with so many rows.
-fn many_programmes(alloc: Global, rows: u64) -> Result<Vec<u8>, AllocError> {
-    let mut programmes = b"programme,type,quota\n".to_vec(alloc)?;
-    for code in 1..=rows {
-        put_row_3(
-            &mut programmes,
-            Field::Number(code),
-            Field::Text(b"SAY"),
-            Field::Number(1),
-        )?;
-    }
-    Ok(programmes)
-}
-
-#[test]
-fn a_programmes_file_may_have_60_000_rows(rt: HostRuntime) -> Result<(), Fail> {
-    let alloc = rt.alloc();
-    for (rows, note) in [
-        (60_000, ""),
-        (
-            60_001,
-            "fault programmes line 60002 field 0 F09 TooManyRows earlier 0\n",
-        ),
-    ] {
-        let mut shelf = shelf(alloc, &FREED_SEAT)?;
-        shelf.add(String::from_str(alloc, "p")?, many_programmes(alloc, rows)?)?;
-        let ran = run(&rt, alloc, &PLACE, shelf, &OpenGate)?;
-        assert_eq!(rt; ran.notes.bytes(), note.as_bytes());
-    }
-    Ok(())
-}
-
-// The score type of each of four groups.
-fn type_of(group: u64) -> &'static [u8] {
-    match group {
-        0 => b"A",
-        1 => b"B",
-        2 => b"C",
-        _ => b"D",
-    }
-}
-
-// The list of each group: its own programme first.
-fn list_of(group: u64) -> &'static [u8] {
-    match group {
-        0 => b"1;2;3;4",
-        1 => b"2;3;4;1",
-        2 => b"3;4;1;2",
-        _ => b"4;1;2;3",
-    }
-}
-
-// Four programmes with a quarter of the seats each.
-fn four_programmes(alloc: Global) -> Result<Vec<u8>, AllocError> {
-    let mut bytes = b"programme,type,quota\n".to_vec(alloc)?;
-    for group in 0..4 {
-        let code = Field::Number(group + 1);
-        put_row_3(
-            &mut bytes,
-            code,
-            Field::Text(type_of(group)),
-            Field::Number(1_250),
-        )?;
-    }
-    Ok(bytes)
-}
-
-// 5,000 candidates in four groups.
-fn many_candidates(alloc: Global) -> Result<Vec<u8>, AllocError> {
-    let mut bytes = b"candidate,list\n".to_vec(alloc)?;
-    for index in 0..5_000 {
-        let list = list_of(index / 1_250);
-        put_row_2(&mut bytes, Field::Number(index + 1), Field::Text(list))?;
-    }
-    Ok(bytes)
-}
-
-// The ranks of all candidates in all four types: in the type of a group its candidates come first.
-fn many_ranks(alloc: Global) -> Result<Vec<u8>, AllocError> {
-    let mut bytes = b"candidate,type,rank\n".to_vec(alloc)?;
-    for group in 0..4 {
-        for index in 0..5_000 {
-            let rank = (index + 5_000 - 1_250 * group) % 5_000 + 1;
-            let name = Field::Text(type_of(group));
-            put_row_3(
-                &mut bytes,
-                Field::Number(index + 1),
-                name,
-                Field::Number(rank),
-            )?;
-        }
-    }
-    Ok(bytes)
-}
-
-#[test]
-fn five_thousand_candidates_are_placed_by_twenty_thousand_ranks(
-    rt: HostRuntime,
-) -> Result<(), Fail> {
-    let alloc = rt.alloc();
-    let programmes = four_programmes(alloc)?;
-    let candidates = many_candidates(alloc)?;
-    let ranks = many_ranks(alloc)?;
-    let shelf = shelf(
-        alloc,
-        &[("p", &programmes), ("c", &candidates), ("r", &ranks)],
-    )?;
-    let mut placed = b"candidate,programme\n".to_vec(alloc)?;
-    for index in 0..5_000 {
-        let code = Field::Number(index / 1_250 + 1);
-        put_row_2(&mut placed, Field::Number(index + 1), code)?;
-    }
-    // the ranks are taken in more than one piece
-    ends(
-        &rt,
-        alloc,
-        &PLACE,
-        shelf,
-        &OpenGate,
-        (0, &placed, b"", 0, 12),
-    )?;
     Ok(())
 }

@@ -40,5 +40,9 @@ returns-clause-len c =
     (number-short c.number_at-2.result (omega (arith, c.number_at-2.type_inv))) few
     c.reason_base.ensures.len in
     let sizes = ap length c.put_row_4.ensures in
-    omega (arith, sizes, short,
-    length-append c.args.rows.now (row_text (number ∷ code ∷ word ∷ base ∷ [])))
+    omega (
+      arith,
+      sizes,
+      short,
+      length-append c.args.rows.now (row_text (number ∷ code ∷ word ∷ base ∷ [])),
+    )

@@ -1,0 +1,178 @@
+// Files at their limits, and many candidates.
+use super::{FREED_SEAT, PLACE, ends, run, shelf};
+use gate_workers::OpenGate;
+use place_edges::MemShelf;
+use record_files::{Field, put_row_2, put_row_3};
+use std::alloc::{AllocError, Global};
+use std::test::Fail;
+
+// A file of a header and a row, whose line has so many bytes by zeros in front.
+fn long_line(alloc: Global, header: &str, size: usize, row: &str) -> Result<Vec<u8>, AllocError> {
+    let mut bytes = header.as_bytes().to_vec(alloc)?;
+    for _ in row.len()..size {
+        bytes.push(b'0')?;
+    }
+    bytes.extend_from_slice(row.as_bytes())?;
+    bytes.extend_from_slice(b"\r\n")?;
+    Ok(bytes)
+}
+
+// Three files whose data rows stand in lines of these sizes.
+fn long_lines(alloc: Global, sizes: [usize; 3]) -> Result<MemShelf, AllocError> {
+    let [programmes, candidates, ranks] = sizes;
+    let programmes = long_line(alloc, "programme,type,quota\n", programmes, "101,SAY,1")?;
+    let candidates = long_line(alloc, "candidate,list\n", candidates, "1,101")?;
+    let ranks = long_line(alloc, "candidate,type,rank\n", ranks, "1,SAY,1")?;
+    shelf(
+        alloc,
+        &[("p", &programmes), ("c", &candidates), ("r", &ranks)],
+    )
+}
+
+#[test]
+fn a_line_may_have_1024_bytes_in_each_file(rt: HostRuntime) -> Result<(), Fail> {
+    let alloc = rt.alloc();
+    for (sizes, note) in [
+        ([1024, 1024, 1024], ""),
+        (
+            [1025, 1025, 1025],
+            "fault programmes line 2 field 0 F10 LineTooLong earlier 0\n",
+        ),
+        (
+            [1024, 1025, 1025],
+            "fault candidates line 2 field 0 F10 LineTooLong earlier 0\n",
+        ),
+        (
+            [1024, 1024, 1025],
+            "fault ranks line 2 field 0 F10 LineTooLong earlier 0\n",
+        ),
+    ] {
+        let ran = run(&rt, alloc, &PLACE, long_lines(alloc, sizes)?, &OpenGate)?;
+        assert_eq!(rt; ran.notes.bytes(), note.as_bytes());
+    }
+    Ok(())
+}
+
+// A programmes file with so many rows.
+fn many_programmes(alloc: Global, rows: u64) -> Result<Vec<u8>, AllocError> {
+    let mut programmes = b"programme,type,quota\n".to_vec(alloc)?;
+    for code in 1..=rows {
+        put_row_3(
+            &mut programmes,
+            Field::Number(code),
+            Field::Text(b"SAY"),
+            Field::Number(1),
+        )?;
+    }
+    Ok(programmes)
+}
+
+#[test]
+fn a_programmes_file_may_have_60_000_rows(rt: HostRuntime) -> Result<(), Fail> {
+    let alloc = rt.alloc();
+    for (rows, note) in [
+        (60_000, ""),
+        (
+            60_001,
+            "fault programmes line 60002 field 0 F09 TooManyRows earlier 0\n",
+        ),
+    ] {
+        let mut shelf = shelf(alloc, &FREED_SEAT)?;
+        shelf.add(String::from_str(alloc, "p")?, many_programmes(alloc, rows)?)?;
+        let ran = run(&rt, alloc, &PLACE, shelf, &OpenGate)?;
+        assert_eq!(rt; ran.notes.bytes(), note.as_bytes());
+    }
+    Ok(())
+}
+
+// The score type of each of four groups.
+fn type_of(group: u64) -> &'static [u8] {
+    match group {
+        0 => b"A",
+        1 => b"B",
+        2 => b"C",
+        _ => b"D",
+    }
+}
+
+// The list of each group: its own programme first.
+fn list_of(group: u64) -> &'static [u8] {
+    match group {
+        0 => b"1;2;3;4",
+        1 => b"2;3;4;1",
+        2 => b"3;4;1;2",
+        _ => b"4;1;2;3",
+    }
+}
+
+// Four programmes with a quarter of the seats each.
+fn four_programmes(alloc: Global) -> Result<Vec<u8>, AllocError> {
+    let mut bytes = b"programme,type,quota\n".to_vec(alloc)?;
+    for group in 0..4 {
+        let code = Field::Number(group + 1);
+        put_row_3(
+            &mut bytes,
+            code,
+            Field::Text(type_of(group)),
+            Field::Number(1_250),
+        )?;
+    }
+    Ok(bytes)
+}
+
+// 5,000 candidates in four groups.
+fn many_candidates(alloc: Global) -> Result<Vec<u8>, AllocError> {
+    let mut bytes = b"candidate,list\n".to_vec(alloc)?;
+    for index in 0..5_000 {
+        let list = list_of(index / 1_250);
+        put_row_2(&mut bytes, Field::Number(index + 1), Field::Text(list))?;
+    }
+    Ok(bytes)
+}
+
+// The ranks of all candidates in all four types: in the type of a group its candidates come first.
+fn many_ranks(alloc: Global) -> Result<Vec<u8>, AllocError> {
+    let mut bytes = b"candidate,type,rank\n".to_vec(alloc)?;
+    for group in 0..4 {
+        for index in 0..5_000 {
+            let rank = (index + 5_000 - 1_250 * group) % 5_000 + 1;
+            let name = Field::Text(type_of(group));
+            put_row_3(
+                &mut bytes,
+                Field::Number(index + 1),
+                name,
+                Field::Number(rank),
+            )?;
+        }
+    }
+    Ok(bytes)
+}
+
+#[test]
+fn five_thousand_candidates_are_placed_by_twenty_thousand_ranks(
+    rt: HostRuntime,
+) -> Result<(), Fail> {
+    let alloc = rt.alloc();
+    let programmes = four_programmes(alloc)?;
+    let candidates = many_candidates(alloc)?;
+    let ranks = many_ranks(alloc)?;
+    let shelf = shelf(
+        alloc,
+        &[("p", &programmes), ("c", &candidates), ("r", &ranks)],
+    )?;
+    let mut placed = b"candidate,programme\n".to_vec(alloc)?;
+    for index in 0..5_000 {
+        let code = Field::Number(index / 1_250 + 1);
+        put_row_2(&mut placed, Field::Number(index + 1), code)?;
+    }
+    // the ranks are taken in more than one piece
+    ends(
+        &rt,
+        alloc,
+        &PLACE,
+        shelf,
+        &OpenGate,
+        (0, &placed, b"", 0, 12),
+    )?;
+    Ok(())
+}

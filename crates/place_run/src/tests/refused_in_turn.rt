@@ -1,0 +1,169 @@
+// Each call of a shelf and each put of a sink fails once, in turn.
+ghost use Rattle.std.specs.Prelude.{◌<◌};
+
+use super::worked_markets::{MARKETS, Worked};
+use super::{files_with, run_on};
+use gate_workers::OpenGate;
+use place_edges::{MemShelf, MemSink};
+use std::alloc::{AllocError, Global};
+use std::process::Abort;
+use std::test::Fail;
+use std::thread::Threads;
+
+// The words of each command over the four files, and how often it calls the shelf.
+const COMMANDS: [(&[&str], u64); 4] = [
+    (&["place", "p", "c", "r"], 9),
+    (&["base", "p", "c", "r"], 9),
+    (&["reasons", "p", "c", "r"], 9),
+    (&["audit", "p", "c", "r", "h"], 12),
+];
+
+// A sink of pieces of so many bytes.
+fn sink(alloc: Global, piece: usize) -> Result<MemSink, AllocError>
+    requires { 0 < piece }
+{
+    MemSink::new(alloc, piece, 65_536)
+}
+
+// Where this call of the shelf fails, the run is a read fault and prints nothing; another run over
+// the same shelf is done.
+fn fails_at_call(
+    rt: &(impl Threads + Sync + Abort),
+    alloc: Global,
+    texts: &[&str],
+    mut shelf: MemShelf,
+    call: u64,
+) -> Result<(), Fail> {
+    shelf.fail_at(call)?;
+    let (mut out, mut notes) = (sink(alloc, 16)?, sink(alloc, 16)?);
+    let sinks = (&mut out, &mut notes);
+    let status = run_on(rt, alloc, texts, &mut shelf, sinks, &OpenGate)?;
+    assert_eq!(rt; (status.code(), shelf.faults()), (4, 1));
+    assert_eq!(rt; out.bytes(), b"".as_slice());
+    assert_eq!(rt; notes.bytes(), b"read fault\n".as_slice());
+    let (mut out, mut notes) = (sink(alloc, 16)?, sink(alloc, 16)?);
+    let sinks = (&mut out, &mut notes);
+    let status = run_on(rt, alloc, texts, &mut shelf, sinks, &OpenGate)?;
+    assert_eq!(rt; (status.code(), shelf.faults()), (0, 1));
+    Ok(())
+}
+
+// Each call fails in turn, for each command.
+fn fail_at_each_call(
+    rt: &(impl Threads + Sync + Abort),
+    alloc: Global,
+    market: &Worked,
+    commands: &[(&[&str], u64)],
+) -> Result<(), Fail> {
+    for (texts, calls) in commands {
+        for call in 1..=*calls {
+            let shelf = files_with(alloc, market, market.placed)?;
+            fails_at_call(rt, alloc, texts, shelf, call)?;
+        }
+    }
+    Ok(())
+}
+
+#[test]
+fn a_call_of_the_shelf_that_fails_is_a_read_fault_whichever_it_is(
+    rt: HostRuntime,
+) -> Result<(), Fail> {
+    fail_at_each_call(&rt, rt.alloc(), &MARKETS[1], &COMMANDS)
+}
+
+// The words of each command over the files of the freed seat, and the parts in which it writes its
+// text: the reasons have a header, and then the rows of a candidate after the other.
+const TEXTS: [(&[&str], &[&[u8]]); 4] = [
+    (
+        &["place", "p", "c", "r"],
+        &[b"candidate,programme\n1,101\n2,201\n"],
+    ),
+    (
+        &["base", "p", "c", "r"],
+        &[b"programme,quota,held,base\n101,1,1,1\n201,1,1,2\n"],
+    ),
+    (
+        &["reasons", "p", "c", "r"],
+        &[
+            b"candidate,programme,reason,base\n",
+            b"1,101,PLACED,-\n1,201,BELOW,-\n",
+            b"2,201,PLACED,-\n",
+        ],
+    ),
+    (&["audit", "p", "c", "r", "h"], &[b"STABLE\n"]),
+];
+
+// Where this put fails, the run is a write fault, and what was put before it stands.
+fn fails_at_put(
+    rt: &(impl Threads + Sync + Abort),
+    alloc: Global,
+    texts: &[&str],
+    market: &Worked,
+    piece: usize,
+    (put, front): (u64, &[u8]),
+) -> Result<(), Fail>
+    requires { 0 < piece }
+{
+    let mut shelf = files_with(alloc, market, market.placed)?;
+    let (mut out, mut notes) = (sink(alloc, piece)?, sink(alloc, 16)?);
+    out.fail_at(put)?;
+    let sinks = (&mut out, &mut notes);
+    let status = run_on(rt, alloc, texts, &mut shelf, sinks, &OpenGate)?;
+    assert_eq!(rt; (status.code(), out.faults()), (5, 1));
+    assert_eq!(rt; out.bytes(), front);
+    assert_eq!(rt; notes.bytes(), b"write fault\n".as_slice());
+    Ok(())
+}
+
+// Each put of pieces of so many bytes fails in turn.
+fn fail_at_each_put(
+    rt: &(impl Threads + Sync + Abort),
+    alloc: Global,
+    (texts, parts): (&[&str], &[&[u8]]),
+    market: &Worked,
+    piece: usize,
+) -> Result<(), Fail>
+    requires { 0 < piece }
+{
+    let mut front = Vec::new(alloc);
+    let mut put = 1u64;
+    for part in parts {
+        for bytes in part.chunks(piece) {
+            fails_at_put(rt, alloc, texts, market, piece, (put, &front))?;
+            front.extend_from_slice(bytes)?;
+            put = put.saturating_add(1);
+        }
+    }
+    Ok(())
+}
+
+#[test]
+fn a_put_that_fails_leaves_exactly_what_was_put_before_it(rt: HostRuntime) -> Result<(), Fail> {
+    for command in TEXTS {
+        fail_at_each_put(&rt, rt.alloc(), command, &MARKETS[1], 1)?;
+        fail_at_each_put(&rt, rt.alloc(), command, &MARKETS[1], 16)?;
+        fail_at_each_put(&rt, rt.alloc(), command, &MARKETS[1], 4096)?;
+    }
+    Ok(())
+}
+
+// The line of a fault of the ranks.
+const LINE: &[u8] = b"fault ranks line 2 field 2 F05 BadTypeName earlier 0\n";
+
+#[test]
+fn notes_that_fail_at_any_put_have_a_prefix_of_the_line(rt: HostRuntime) -> Result<(), Fail> {
+    let alloc = rt.alloc();
+    for put in 1..=53u64 {
+        let mut shelf = files_with(alloc, &MARKETS[1], b"")?;
+        let ranks = b"candidate,type,rank\n1,say,1\n".to_vec(alloc)?;
+        shelf.add(String::from_str(alloc, "r")?, ranks)?;
+        let (mut out, mut notes) = (sink(alloc, 16)?, sink(alloc, 1)?);
+        notes.fail_at(put)?;
+        let sinks = (&mut out, &mut notes);
+        let status = run_on(&rt, alloc, COMMANDS[0].0, &mut shelf, sinks, &OpenGate)?;
+        assert_eq!(rt; (status.code(), notes.faults()), (3, 1));
+        assert_eq!(rt; out.bytes(), b"".as_slice());
+        assert_eq!(rt; Some(notes.bytes()), LINE.get(..put as usize - 1));
+    }
+    Ok(())
+}
