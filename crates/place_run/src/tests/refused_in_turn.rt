@@ -100,7 +100,8 @@ fn fails_at_put(
     texts: &[&str],
     market: &Worked,
     piece: usize,
-    (put, front): (u64, &[u8]),
+    put: u64,
+    front: &[u8],
 ) -> Result<(), Fail>
     requires { 0 < piece }
 {
@@ -119,7 +120,8 @@ fn fails_at_put(
 fn fail_at_each_put(
     rt: &(impl Threads + Sync + Abort),
     alloc: Global,
-    (texts, parts): (&[&str], &[&[u8]]),
+    texts: &[&str],
+    parts: &[&[u8]],
     market: &Worked,
     piece: usize,
 ) -> Result<(), Fail>
@@ -129,7 +131,7 @@ fn fail_at_each_put(
     let mut put = 1u64;
     for part in parts {
         for bytes in part.chunks(piece) {
-            fails_at_put(rt, alloc, texts, market, piece, (put, &front))?;
+            fails_at_put(rt, alloc, texts, market, piece, put, &front)?;
             front.extend_from_slice(bytes)?;
             put = put.saturating_add(1);
         }
@@ -139,10 +141,11 @@ fn fail_at_each_put(
 
 #[test]
 fn a_put_that_fails_leaves_exactly_what_was_put_before_it(rt: HostRuntime) -> Result<(), Fail> {
-    for command in TEXTS {
-        fail_at_each_put(&rt, rt.alloc(), command, &MARKETS[1], 1)?;
-        fail_at_each_put(&rt, rt.alloc(), command, &MARKETS[1], 16)?;
-        fail_at_each_put(&rt, rt.alloc(), command, &MARKETS[1], 4096)?;
+    let alloc = rt.alloc();
+    for (texts, parts) in TEXTS {
+        fail_at_each_put(&rt, alloc, texts, parts, &MARKETS[1], 1)?;
+        fail_at_each_put(&rt, alloc, texts, parts, &MARKETS[1], 16)?;
+        fail_at_each_put(&rt, alloc, texts, parts, &MARKETS[1], 4096)?;
     }
     Ok(())
 }
