@@ -11,7 +11,7 @@ mod gates;
 mod large_files;
 // Files in each number of parts.
 mod parts;
-// Each call and each put fails once.
+// Each put fails once.
 mod refused_in_turn;
 // Markets that are placed.
 mod worked_markets;
@@ -363,14 +363,15 @@ fn are_audited(
 }
 
 #[test]
-fn the_first_verdict_is_printed_by_one_worker_and_by_sixty_four(
-    rt: HostRuntime,
-) -> Result<(), Fail> {
-    for texts in AUDIT_BY {
-        are_stable(&rt, rt.alloc(), texts, &MARKETS)?;
-        are_audited(&rt, rt.alloc(), texts, &MARKETS, &AUDITS)?;
-    }
-    Ok(())
+fn what_is_placed_is_stable(rt: HostRuntime) -> Result<(), Fail> {
+    are_stable(&rt, rt.alloc(), AUDIT_BY[0], &MARKETS)?;
+    are_stable(&rt, rt.alloc(), AUDIT_BY[1], &MARKETS)
+}
+
+#[test]
+fn the_first_verdict_is_printed(rt: HostRuntime) -> Result<(), Fail> {
+    are_audited(&rt, rt.alloc(), AUDIT_BY[0], &MARKETS, &AUDITS)?;
+    are_audited(&rt, rt.alloc(), AUDIT_BY[1], &MARKETS, &AUDITS)
 }
 
 // These placement files have these first faults, and a fault of the three files comes before them.

@@ -1,74 +1,20 @@
-// Each call of a shelf and each put of a sink fails once, in turn.
+// Each put of a sink fails once, in turn.
 ghost use Rattle.std.specs.Prelude.{◌<◌};
 
 use super::worked_markets::{MARKETS, Worked};
-use super::{files_with, run_on};
+use super::{PLACE, files_with, run_on};
 use gate_workers::OpenGate;
-use place_edges::{MemShelf, MemSink};
+use place_edges::MemSink;
 use std::alloc::{AllocError, Global};
 use std::process::Abort;
 use std::test::Fail;
 use std::thread::Threads;
-
-// The words of each command over the four files, and how often it calls the shelf.
-const COMMANDS: [(&[&str], u64); 4] = [
-    (&["place", "p", "c", "r"], 9),
-    (&["base", "p", "c", "r"], 9),
-    (&["reasons", "p", "c", "r"], 9),
-    (&["audit", "p", "c", "r", "h"], 12),
-];
 
 // A sink of pieces of so many bytes.
 fn sink(alloc: Global, piece: usize) -> Result<MemSink, AllocError>
     requires { 0 < piece }
 {
     MemSink::new(alloc, piece, 65_536)
-}
-
-// Where this call of the shelf fails, the run is a read fault and prints nothing; another run over
-// the same shelf is done.
-fn fails_at_call(
-    rt: &(impl Threads + Sync + Abort),
-    alloc: Global,
-    texts: &[&str],
-    mut shelf: MemShelf,
-    call: u64,
-) -> Result<(), Fail> {
-    shelf.fail_at(call)?;
-    let (mut out, mut notes) = (sink(alloc, 16)?, sink(alloc, 16)?);
-    let sinks = (&mut out, &mut notes);
-    let status = run_on(rt, alloc, texts, &mut shelf, sinks, &OpenGate)?;
-    assert_eq!(rt; (status.code(), shelf.faults()), (4, 1));
-    assert_eq!(rt; out.bytes(), b"".as_slice());
-    assert_eq!(rt; notes.bytes(), b"read fault\n".as_slice());
-    let (mut out, mut notes) = (sink(alloc, 16)?, sink(alloc, 16)?);
-    let sinks = (&mut out, &mut notes);
-    let status = run_on(rt, alloc, texts, &mut shelf, sinks, &OpenGate)?;
-    assert_eq!(rt; (status.code(), shelf.faults()), (0, 1));
-    Ok(())
-}
-
-// Each call fails in turn, for each command.
-fn fail_at_each_call(
-    rt: &(impl Threads + Sync + Abort),
-    alloc: Global,
-    market: &Worked,
-    commands: &[(&[&str], u64)],
-) -> Result<(), Fail> {
-    for (texts, calls) in commands {
-        for call in 1..=*calls {
-            let shelf = files_with(alloc, market, market.placed)?;
-            fails_at_call(rt, alloc, texts, shelf, call)?;
-        }
-    }
-    Ok(())
-}
-
-#[test]
-fn a_call_of_the_shelf_that_fails_is_a_read_fault_whichever_it_is(
-    rt: HostRuntime,
-) -> Result<(), Fail> {
-    fail_at_each_call(&rt, rt.alloc(), &MARKETS[1], &COMMANDS)
 }
 
 // The words of each command over the files of the freed seat, and the parts in which it writes its
@@ -163,7 +109,7 @@ fn notes_that_fail_at_any_put_have_a_prefix_of_the_line(rt: HostRuntime) -> Resu
         let (mut out, mut notes) = (sink(alloc, 16)?, sink(alloc, 1)?);
         notes.fail_at(put)?;
         let sinks = (&mut out, &mut notes);
-        let status = run_on(&rt, alloc, COMMANDS[0].0, &mut shelf, sinks, &OpenGate)?;
+        let status = run_on(&rt, alloc, &PLACE, &mut shelf, sinks, &OpenGate)?;
         assert_eq!(rt; (status.code(), notes.faults()), (3, 1));
         assert_eq!(rt; out.bytes(), b"".as_slice());
         assert_eq!(rt; Some(notes.bytes()), LINE.get(..put as usize - 1));
