@@ -59,7 +59,7 @@ fn a_round_opens_for_each_number_of_workers(rt: HostRuntime) -> Result<(), Fail>
 
 // So many programmes of one seat each, and no turn.
 fn only_programmes(alloc: Global, count: usize) -> Result<Dict, AllocError>
-    requires { count ≤ 100 }
+    requires { count ≤ 200 }
 {
     let quota = vec![in alloc; 1u32; count]?;
     let fill = vec![in alloc; 0u32; count]?;
