@@ -13,11 +13,19 @@ use claim_words::{claim, post, read_entry};
 use commit_book::{commit_turn, look, release, take};
 use full_flags::read_flags;
 use market::Dict;
+use std::hint::spin_loop;
 use word_rule::{SharedRound, WorkSeat};
+
+// How often a worker spins after a miss, and at most after more of them in a row.
+const FIRST_PAUSE: u32 = 64;
+
+const LONGEST_PAUSE: u32 = 16_384;
 
 /// Draws a turn, goes along its list up to the first entry that has a seat left, posts the place found
 /// and tries the mark once; who takes it commits turns until a look finds none, and gives it back.
 /// So on until no turn is left: the seat is then done, and has no claim, no debt and not the mark.
+/// Who misses the mark stands back for a while, and longer after the next miss, since who holds it is
+/// quickest alone.
 pub fn work<G: Gate>(round: &SharedRound, dict: &Dict, me: &mut WorkSeat, gate: &G)
     requires seat { IsSeatOf round.now me.old }
     requires dict { dict.now ≡ dict_of round.now }
@@ -26,13 +34,26 @@ pub fn work<G: Gate>(round: &SharedRound, dict: &Dict, me: &mut WorkSeat, gate: 
     ensures over { IsOver round.now me.new }
     ensures worked { HasWorked me.old me.new }
 {
+    let mut pause = FIRST_PAUSE;
     while let Some(turn) = claim(round, me) {
         pass(gate, me, GatePoint::Claimed(turn));
         read_list(round, dict, me, turn, gate);
         post(round, dict, me);
         pass(gate, me, GatePoint::Posted(turn));
-        try_mark(round, dict, me, gate);
+        let held = try_mark(round, dict, me, gate);
+        pause = stand_back(held, pause);
     }
+}
+
+// Spins so often after a miss. How often to spin after the next one.
+fn stand_back(held: bool, pause: u32) -> u32 {
+    if held {
+        return FIRST_PAUSE;
+    }
+    for _ in 0..pause {
+        spin_loop();
+    }
+    LONGEST_PAUSE.min(pause.saturating_mul(2))
 }
 
 // Lets the worker pass the gate at a point that its seat has come to.
@@ -96,8 +117,9 @@ fn read_on<G: Gate>(
     }
 }
 
-// Tries the mark; who takes it commits turns until a look finds none, and gives it back.
-fn try_mark<G: Gate>(round: &SharedRound, dict: &Dict, me: &mut WorkSeat, gate: &G)
+// Tries the mark; who takes it commits turns until a look finds none, and gives it back. Whether it
+// was taken.
+fn try_mark<G: Gate>(round: &SharedRound, dict: &Dict, me: &mut WorkSeat, gate: &G) -> bool
     requires seat { IsSeatOf round.now me.old }
     requires dict { dict.now ≡ dict_of round.now }
     requires may { MayTake me.old }
@@ -106,7 +128,7 @@ fn try_mark<G: Gate>(round: &SharedRound, dict: &Dict, me: &mut WorkSeat, gate: 
 {
     if !take(round, me) {
         pass(gate, me, GatePoint::Missed);
-        return;
+        return false;
     }
     pass(gate, me, GatePoint::Took(me.committed));
     while let Some(place) = look(round, me) {
@@ -116,4 +138,5 @@ fn try_mark<G: Gate>(round: &SharedRound, dict: &Dict, me: &mut WorkSeat, gate: 
     let committed = me.committed;
     release(round, me);
     pass(gate, me, GatePoint::Released(committed));
+    true
 }

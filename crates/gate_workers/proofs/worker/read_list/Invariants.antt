@@ -1,4 +1,4 @@
-use Rattle.std.proofs.Common.{◌≡◌, ◌-◌, ◌≤◌, false, length}
+use Rattle.std.proofs.Common.{◌-◌, ◌≤◌, false, length}
 use Rattle.market.specs.Dictatorships.{list_at}
 use Rattle.interleaving_core.specs.Core.{claim_at}
 use Rattle.word_rule.specs.Rounds.{Stays, knows}

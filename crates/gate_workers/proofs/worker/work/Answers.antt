@@ -10,10 +10,10 @@ pass-requires-in-Some-after_bounds g c κs within =
 pub loop-turn-preserved : goal.loop-turn-preserved
 loop-turn-preserved g c =
     let v = c.loop-turn.invariant in
-    let tried = c.try_mark.ensures.tried in
+    let tried = c.try_mark-held.ensures.tried in
     let one = one_turn _ _ _ _ _ _ _ (c.in-Some.ensures.stays, c.in-Some.ensures.event)
     (c.read_list.ensures.stays, c.read_list.ensures.read)
-    (c.post.ensures.stays, c.post.ensures.event) (c.try_mark.ensures.stays, tried) in
+    (c.post.ensures.stays, c.post.ensures.event) (c.try_mark-held.ensures.stays, tried) in
     let own = one.own in
     let tries = one.tries in
     let before = v.tries in
@@ -35,7 +35,7 @@ loop-turn-smaller g c =
     let one = one_turn _ _ _ _ _ _ _ (c.in-Some.ensures.stays, c.in-Some.ensures.event)
     (c.read_list.ensures.stays, c.read_list.ensures.read)
     (c.post.ensures.stays, c.post.ensures.event)
-    (c.try_mark.ensures.stays, c.try_mark.ensures.tried) in
+    (c.try_mark-held.ensures.stays, c.try_mark-held.ensures.tried) in
     let turns = ap (λ d. turn_count d) one.stays.dict in
     let own = one.own in
     let room = one.room in
