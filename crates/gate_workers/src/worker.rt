@@ -16,9 +16,10 @@ use market::Dict;
 use std::hint::spin_loop;
 use word_rule::{SharedRound, WorkSeat};
 
-// How often a worker spins after a miss, and at most after more of them in a row.
-const FIRST_PAUSE: u32 = 64;
+// How often a worker spins after a miss, at least.
+const SHORTEST_PAUSE: u32 = 64;
 
+// How often it spins at most, after many misses.
 const LONGEST_PAUSE: u32 = 16_384;
 
 /// Draws a turn, goes along its list up to the first entry that has a seat left, posts the place found
@@ -34,7 +35,7 @@ pub fn work<G: Gate>(round: &SharedRound, dict: &Dict, me: &mut WorkSeat, gate: 
     ensures over { IsOver round.now me.new }
     ensures worked { HasWorked me.old me.new }
 {
-    let mut pause = FIRST_PAUSE;
+    let mut pause = SHORTEST_PAUSE;
     while let Some(turn) = claim(round, me) {
         pass(gate, me, GatePoint::Claimed(turn));
         read_list(round, dict, me, turn, gate);
@@ -45,10 +46,11 @@ pub fn work<G: Gate>(round: &SharedRound, dict: &Dict, me: &mut WorkSeat, gate: 
     }
 }
 
-// Spins so often after a miss. How often to spin after the next one.
+// Spins so often after a miss. How often to spin after the next one: twice as often after a miss,
+// and half as often after a take.
 fn stand_back(held: bool, pause: u32) -> u32 {
     if held {
-        return FIRST_PAUSE;
+        return SHORTEST_PAUSE.max(pause / 2);
     }
     for _ in 0..pause {
         spin_loop();
