@@ -1,5 +1,6 @@
 -- The limits in numbers, as docs/FORMATS.md has them.
 use Rattle.std.specs.Prelude.{◌≡◌, ℕ, ◌^◌, List, [], ◌∷◌}
+use Rattle.command_words.specs.declared.words.TheConstants.{WORKERS, MAX_WORKERS}
 use Rattle.place_base.specs.declared.limits.TheConstants.{MOST_PROGRAMMES, MOST_CANDIDATES, MOST_REQUESTS, MOST_RANKS, MOST_TYPES, MOST_ENTRIES, LARGEST_NUMBER, LARGEST_CODE, LARGEST_QUOTA, LARGEST_RANK, LONGEST_NAME, LONGEST_LINE, MOST_PIECES, LF, CR, COMMA, SEMICOLON, BYTE_ORDER_MARK}
 use Rattle.place_edges.specs.Shelf.{file_limit}
 use Rattle.market.specs.declared.limits.TheConstants.{MAX_TYPES, MAX_PROGRAMMES, MAX_CANDIDATES, MAX_ENTRIES, MAX_QUOTA, MAX_RANK}
@@ -20,6 +21,11 @@ pub record HasFileLimits : Type 0 where
   pub line : LONGEST_LINE ≡ 1024
   pub file : file_limit ≡ 2 ^ 30
   pub pieces : MOST_PIECES ≡ 64
+
+-- the number of workers where the words give none, and the most that they may ask for
+pub record HasWorkerLimits : Type 0 where
+  pub usual : WORKERS ≡ 4
+  pub most : MAX_WORKERS ≡ 64
 
 -- the bytes that cut them
 pub record HasFileBytes : Type 0 where
