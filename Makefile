@@ -24,3 +24,5 @@ clean:
 	rm -rf crates/*/out
 
 .PHONY: all install test clean
+# each of the two builds uses all processors, and they prove the same crates
+.NOTPARALLEL:
