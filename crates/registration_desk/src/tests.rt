@@ -7,9 +7,10 @@ mod gates;
 // Each read and each put fails once.
 mod refused_in_turn;
 
-use self::gates::Meeting;
+use self::gates::{Come, Meeting, OneWay};
 use crate::{
-    Clerk, Desk, DeskGate, DeskState, DeskStatus, DeskWords, OpenDesk, Reply, run_desk, serve_next,
+    Clerk, Desk, DeskGate, DeskPoint, DeskState, DeskStatus, DeskWords, OpenDesk, Reply, run_desk,
+    serve_next,
 };
 use place_edges::{MemShelf, MemSink, SureShelf, SureSink};
 use placement_file::{read_alone, read_requests};
@@ -278,6 +279,31 @@ fn two_clerks_serve_side_by_side(rt: HostRuntime) -> Result<(), Fail> {
     )?;
     assert!(rt; !gate.has_given_up());
     assert_eq!(rt; gate.counts(), ([1, 1, 1, 1], 0));
+    Ok(())
+}
+
+// What one clerk comes to who serves five requests.
+const ONE_WAY: [Come; 10] = [
+    (0, 0, DeskPoint::Before),
+    (0, 0, DeskPoint::After),
+    (0, 1, DeskPoint::Before),
+    (0, 1, DeskPoint::After),
+    (0, 2, DeskPoint::Before),
+    (0, 2, DeskPoint::After),
+    (0, 3, DeskPoint::Before),
+    (0, 3, DeskPoint::After),
+    (0, 4, DeskPoint::Before),
+    (0, 4, DeskPoint::After),
+];
+
+#[test]
+fn one_clerk_comes_to_both_points_of_each_of_its_calls(rt: HostRuntime) -> Result<(), Fail> {
+    let alloc = rt.alloc();
+    let gate = OneWay::new(ONE_WAY);
+    let shelf = shelf(alloc, &[("p", PLACEMENT), ("r", REQUESTS)])?;
+    let wanted = (0, REGISTERED, NUMBERS, 0, 6);
+    ends(&rt, alloc, DESK_BY[0], shelf, &gate, wanted)?;
+    assert_eq!(rt; gate.counts(), (10, 10));
     Ok(())
 }
 
