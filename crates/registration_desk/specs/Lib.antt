@@ -23,5 +23,7 @@ pub mod Desks
 pub mod Crew
 -- the words of the desk
 pub mod Words
+-- the limits of a desk in numbers
+pub mod Limits
 -- the number of each status, and its line on the notes
 pub mod Statuses

@@ -1,8 +1,8 @@
 // All clerks of a desk at work.
 
-ghost use Rattle.std.specs.Prelude.{◌≡◌, ◌+◌, ◌<◌, ◌≤◌, All, IfOk, ℕ, length, slice_index_or};
-ghost use Rattle.registration_desk.specs.Crew.{HasWorked};
-ghost use Rattle.registration_desk.specs.Desks.{IsClerkOf, Stays, knows};
+ghost use Rattle.std.specs.Prelude.{◌≡◌, ◌+◌, ◌<◌, ◌≤◌, IfOk, ℕ, length, slice_index_or};
+ghost use Rattle.registration_desk.specs.Crew.{HasCome, HasWorked};
+ghost use Rattle.registration_desk.specs.Desks.{AllNew, IsClerkOf, IsNew, Stays, knows};
 ghost use Rattle.registration_desk.specs.Replies.{IsHistory};
 ghost use Rattle.registration_desk.specs.declared.desk.Clerk.{Clerk};
 
@@ -48,7 +48,7 @@ fn work_all<R: Threads + Wait + Sync, G: DeskGate>(
     gate: &G,
 )
     requires some { (0 < length crew.old) × (length crew.old ≤ MOST_CLERKS) }
-    requires of_desk { All (IsClerkOf desk.now) crew.old }
+    requires new { AllNew desk.now crew.old }
     ensures { (i : ℕ) (d : Clerk) → i < length crew.old
         → HasWorked (slice_index_or crew.old i d) (slice_index_or crew.new i d) }
 {
@@ -58,20 +58,27 @@ fn work_all<R: Threads + Wait + Sync, G: DeskGate>(
         crew,
         clerks,
         &|number, clerk: &mut Clerk|
-            requires { IsClerkOf desk.now clerk.old × (number < MOST_CLERKS) }
+            requires { IsNew desk.now number clerk.old × (number < MOST_CLERKS) }
             ensures { HasWorked clerk.old clerk.new }
         { work(rt, desk, number as u32, clerk, gate) },
     );
 }
 
-// Serves until the clerk has no request left.
+// Serves until the clerk with this number has no request left.
 fn work<R: Wait, G: DeskGate>(rt: &R, desk: &Desk, number: u32, clerk: &mut Clerk, gate: &G)
-    requires { IsClerkOf desk.now clerk.old }
+    requires { IsNew desk.now number clerk.old }
     ensures { HasWorked clerk.old clerk.new }
 {
     for call in 0..clerk.left() {
-        gate.at(number, call, DeskPoint::Before);
+        pass(desk, number, clerk, call, DeskPoint::Before, gate);
         serve_next(rt, desk, clerk);
-        gate.at(number, call, DeskPoint::After);
+        pass(desk, number, clerk, call, DeskPoint::After, gate);
     }
+}
+
+// Lets the clerk with this number pass the gate at a point of a call that it has come to.
+fn pass<G: DeskGate>(desk: &Desk, number: u32, clerk: &Clerk, call: u32, point: DeskPoint, gate: &G)
+    requires { HasCome desk.now number clerk.now call point }
+{
+    gate.at(number, call, point);
 }

@@ -24,6 +24,8 @@ mod crew;
 mod report;
 // The words of the desk.
 mod words;
+// The limits of a desk in numbers.
+mod limits;
 // The placement and the requests, read from their files.
 mod inputs;
 // How a run of the desk ends.
@@ -36,6 +38,7 @@ mod run;
 pub use crew::serve_all;
 pub use desk::{Clerk, Desk, MOST_CLERKS};
 pub use gate::{DeskGate, DeskPoint, OpenDesk};
+pub use limits::limits_in_numbers;
 pub use reply::Reply;
 pub use report::{DeskNumbers, Report, report_all, report_of};
 pub use rule::{

@@ -4,10 +4,13 @@ ghost use Rattle.registration_desk.specs.Desks.{AllNew, key_of, opened};
 
 // Gates that hold clerks and count their calls.
 mod gates;
+// Each read and each put fails once.
+mod refused_in_turn;
 
-use self::gates::Meeting;
+use self::gates::{Come, Meeting, OneWay};
 use crate::{
-    Clerk, Desk, DeskGate, DeskState, DeskStatus, DeskWords, OpenDesk, Reply, run_desk, serve_next,
+    Clerk, Desk, DeskGate, DeskPoint, DeskState, DeskStatus, DeskWords, OpenDesk, Reply, run_desk,
+    serve_next,
 };
 use place_edges::{MemShelf, MemSink, SureShelf, SureSink};
 use placement_file::{read_alone, read_requests};
@@ -279,6 +282,31 @@ fn two_clerks_serve_side_by_side(rt: HostRuntime) -> Result<(), Fail> {
     Ok(())
 }
 
+// What one clerk comes to who serves five requests.
+const ONE_WAY: [Come; 10] = [
+    (0, 0, DeskPoint::Before),
+    (0, 0, DeskPoint::After),
+    (0, 1, DeskPoint::Before),
+    (0, 1, DeskPoint::After),
+    (0, 2, DeskPoint::Before),
+    (0, 2, DeskPoint::After),
+    (0, 3, DeskPoint::Before),
+    (0, 3, DeskPoint::After),
+    (0, 4, DeskPoint::Before),
+    (0, 4, DeskPoint::After),
+];
+
+#[test]
+fn one_clerk_comes_to_both_points_of_each_of_its_calls(rt: HostRuntime) -> Result<(), Fail> {
+    let alloc = rt.alloc();
+    let gate = OneWay::new(ONE_WAY);
+    let shelf = shelf(alloc, &[("p", PLACEMENT), ("r", REQUESTS)])?;
+    let wanted = (0, REGISTERED, NUMBERS, 0, 6);
+    ends(&rt, alloc, DESK_BY[0], shelf, &gate, wanted)?;
+    assert_eq!(rt; gate.counts(), (10, 10));
+    Ok(())
+}
+
 // Four thousand requests of four candidates.
 fn many_requests(alloc: Global) -> Result<Vec<u8>, AllocError> {
     let mut bytes = b"candidate\n".to_vec(alloc)?;
@@ -434,17 +462,10 @@ fn a_number_of_clerks_may_have_zeros_in_front(rt: HostRuntime) -> Result<(), Fai
 }
 
 #[test]
-fn each_read_that_fails_is_a_read_fault(rt: HostRuntime) -> Result<(), Fail> {
-    let alloc = rt.alloc();
-    for call in 1..=6u64 {
-        let mut shelf = shelf(alloc, &[("p", PLACEMENT), ("r", REQUESTS)])?;
-        shelf.fail_at(call)?;
-        let wanted = (4, b"".as_slice(), b"read fault\n".as_slice(), 1, call);
-        ends(&rt, alloc, &DESK, shelf, &OpenDesk, wanted)?;
-    }
-    let missing = shelf(alloc, &[("p", PLACEMENT)])?;
+fn a_missing_file_is_a_read_fault(rt: HostRuntime) -> Result<(), Fail> {
+    let missing = shelf(rt.alloc(), &[("p", PLACEMENT)])?;
     let wanted = (4, b"".as_slice(), b"read fault\n".as_slice(), 1, 4);
-    ends(&rt, alloc, &DESK, missing, &OpenDesk, wanted)?;
+    ends(&rt, rt.alloc(), &DESK, missing, &OpenDesk, wanted)?;
     Ok(())
 }
 
@@ -454,51 +475,6 @@ fn a_placement_with_a_fault_keeps_the_registrations_closed(rt: HostRuntime) -> R
     let shelf = shelf(alloc, &[("p", b"candidate,programme\n0,1\n")])?;
     let note = b"fault placement line 2 field 1 F04 OutOfRange earlier 0\n";
     ends(&rt, alloc, &DESK, shelf, &OpenDesk, (3, b"", note, 0, 3))?;
-    Ok(())
-}
-
-#[test]
-fn each_write_that_fails_leaves_the_front_of_the_text(rt: HostRuntime) -> Result<(), Fail> {
-    let alloc = rt.alloc();
-    // the text has 14 bytes, and the sink takes four at once
-    for (call, front) in [
-        (1u64, ""),
-        (2, "cand"),
-        (3, "candidat"),
-        (4, "candidate\n1\n"),
-    ] {
-        let mut shelf = shelf(alloc, &[("p", PLACEMENT), ("r", REQUESTS)])?;
-        let mut out = MemSink::new(alloc, 4, 65_536)?;
-        out.fail_at(call)?;
-        let mut notes = MemSink::new(alloc, 16, 65_536)?;
-        let words = words(alloc, &DESK)?;
-        let status = run_desk(
-            &rt, alloc, &words, &mut shelf, &mut out, &mut notes, &OpenDesk,
-        );
-        assert_eq!(rt; (status, status.code()), (DeskStatus::WriteFault, 5));
-        assert_eq!(rt; out.bytes(), front.as_bytes());
-        assert_eq!(rt; notes.bytes(), b"write fault\n".as_slice());
-    }
-    Ok(())
-}
-
-#[test]
-fn notes_that_fail_change_nothing_else(rt: HostRuntime) -> Result<(), Fail> {
-    let alloc = rt.alloc();
-    // the line of numbers has nine parts, and each is put at once
-    for (call, front) in [(1u64, ""), (2, "registered "), (4, "registered 2 again ")] {
-        let mut shelf = shelf(alloc, &[("p", PLACEMENT), ("r", REQUESTS)])?;
-        let mut out = MemSink::new(alloc, 16, 65_536)?;
-        let mut notes = MemSink::new(alloc, 16, 65_536)?;
-        notes.fail_at(call)?;
-        let words = words(alloc, &DESK)?;
-        let status = run_desk(
-            &rt, alloc, &words, &mut shelf, &mut out, &mut notes, &OpenDesk,
-        );
-        assert_eq!(rt; status.code(), 0);
-        assert_eq!(rt; out.bytes(), REGISTERED);
-        assert_eq!(rt; notes.bytes(), front.as_bytes());
-    }
     Ok(())
 }
 

@@ -70,3 +70,39 @@ impl DeskGate for Meeting {
         }
     }
 }
+
+// A clerk, a call of it, and a point of this call.
+pub(super) type Come = (u32, u32, DeskPoint);
+
+// Compares each point that one clerk comes to with the next of those expected.
+#[derive(Drop)]
+pub(super) struct OneWay {
+    expected: [Come; 10],
+    points: AtomicU32,
+    matched: AtomicU32,
+}
+
+impl OneWay {
+    pub(super) fn new(expected: [Come; 10]) -> OneWay {
+        OneWay {
+            expected,
+            points: AtomicU32::new(0),
+            matched: AtomicU32::new(0),
+        }
+    }
+
+    // How many points there were, and how many of them were the next of those expected.
+    pub(super) fn counts(&self) -> (u32, u32) {
+        (self.points.load(SeqCst), self.matched.load(SeqCst))
+    }
+}
+
+impl DeskGate for OneWay {
+    fn at(&self, clerk: u32, call: u32, point: DeskPoint) {
+        let matched = self.matched.load(SeqCst);
+        if self.expected.get(matched as usize) == Some(&(clerk, call, point)) {
+            self.matched.fetch_add(1, SeqCst);
+        }
+        self.points.fetch_add(1, SeqCst);
+    }
+}

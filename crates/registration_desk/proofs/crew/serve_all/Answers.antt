@@ -4,6 +4,11 @@ use Rattle.registration_desk.specs.declared.desk.Clerk.{Clerk}
 use Rattle.registration_desk.proofs.Crews.{whole, still_all, none_left}
 use Rattle.registration_desk.proofs.crew.serve_all.Goals as goal
 
+pub work_all-requires-clause-new : goal.work_all-requires-clause-new
+work_all-requires-clause-new g c κs within =
+    subst (AllNew c.in_ok-desk.desk) (sym c.as_mut_slice.ensures.value)
+    (c.in_ok-desk.ensures {u = tt}).new
+
 pub close-requires : goal.close-requires
 close-requires g c =
     let opened = c.in_ok-desk.ensures {u = tt} in
