@@ -1,5 +1,5 @@
 -- An answer that is made of what was read, and why there is none.
-use Rattle.std.proofs.Common.{◌≡◌, ℕ, List, Option, Some, None, Result, Ok, Err, refl, sym, subst, ap, ◌∙◌, inl, inr, arith, ⊎_elim}
+use Rattle.std.proofs.Common.{◌≡◌, ℕ, List, Option, Some, Result, Ok, Err, refl, sym, subst, ap, ◌∙◌, inl, inr, ⊎_elim}
 use Rattle.std.specs.Prelude.{IsErrAnd}
 use Rattle.place_base.specs.declared.fault.FileKind.{FileKind}
 use Rattle.command_words.specs.declared.words.WordsFault.{WordsFault}
@@ -8,12 +8,13 @@ use Rattle.place_edges.specs.Shelf.{Files}
 use Rattle.run_frame.specs.Files.{Reads}
 use Rattle.run_frame.specs.declared.stop.FileStop.TheVariants as unread
 use Rattle.run_frame.proofs.Parts.{at-error}
+use Rattle.run_frame.proofs.Readings.{causes-ok, none-read}
 use Rattle.place_run.specs.Answers.{Answer}
 use Rattle.place_run.specs.Runs.{IsAnswering, IsReading}
-use Rattle.place_run.specs.Says.{answered}
+use Rattle.place_run.specs.Says.{answered, named}
 use Rattle.place_run.specs.declared.status.Stop.{Stop}
 use Rattle.place_run.specs.declared.status.Stop.TheVariants.{File, Words}
-use Rattle.place_run.proofs.Readings.{are-held, causes-ok, reads_of}
+use Rattle.place_run.proofs.Readings.{holds-stops}
 
 module _ {T : Type 0} (make : T → Answer) (said : Reads → Option (Result T Stop))
     (files : Reads → List (List ℕ)) (told : Option Files) (words : List (List ℕ))
@@ -33,7 +34,7 @@ module _ {T : Type 0} (make : T → Answer) (said : Reads → Option (Result T S
       meets = ap (answered make) reading.meets ∙ ap (λ v. Some (Ok v)) (sym same);
       taken = λ _. reading.taken tt;
       begun = λ _. reading.begun (λ e. cc e);
-      causes = causes-ok _ before now tally_before tally_now reading.causes.faults
+      causes = causes-ok File _ before now tally_before tally_now reading.causes.faults
           reading.causes.tally;
     },
     kept,
@@ -95,18 +96,7 @@ pub words-refused : (told : Option Files) (words : List (List ℕ))
 words-refused told words command refused before tally_before none =
     subst (λ v. IsAnswering told words v (Err (Words refused)) before before tally_before
     tally_before) (sym none) (record {
-      reading = record {
-        reads = reads_of told words None None None;
-        held = are-held told words None None None;
-        meets = inr refl;
-        taken = λ _. refl;
-        begun = λ _. tt;
-        causes = record {
-          faults = omega arith;
-          tally = omega arith;
-          read = λ e. cc e;
-          long = λ kind e. cc e;
-        };
-      };
+      reading = none-read holds-stops told (named words) (Err (Words refused)) before tally_before
+          (inr refl) (λ stop e. cc e);
       promise = tt;
     })

@@ -1,15 +1,12 @@
 -- What a run leaves of a sink, and what follows where no read and no write failed.
 use Rattle.std.proofs.Common.{◌≡◌, ◌⊎◌, ◌∙◌, ◌≤◌, ℕ, List, [], refl, sym, ap, subst, take, inl, inr, arith, Option, Some, None, Result, Ok, Err, IfOk, ⊎_elim}
-use Rattle.std.specs.Prelude.{length}
-use Rattle.place_base.specs.declared.fault.FileFault.{FileFault}
-use Rattle.place_base.specs.declared.fault.FileKind.{FileKind}
 use Rattle.place_base.specs.declared.fault.FileKind.TheVariants as file
 use Rattle.command_words.specs.Words.{command_of}
 use Rattle.command_words.specs.declared.words.Command.{Command}
 use Rattle.command_words.specs.declared.words.Command.TheVariants.{Place, Base, Reasons, Audit}
 use Rattle.command_words.specs.declared.words.WordsFault.{WordsFault}
 use Rattle.place_edges.specs.Causes.{Rose}
-use Rattle.place_edges.specs.Shelf.{Files, file_limit}
+use Rattle.place_edges.specs.Shelf.{Files}
 use Rattle.place_edges.specs.Sink.{Appended}
 use Rattle.programme_table.specs.Table.{codes_of}
 use Rattle.candidate_table.specs.Table.{numbers_of}
@@ -18,13 +15,16 @@ use Rattle.run_frame.specs.Meetings.{Meets}
 use Rattle.run_frame.specs.Stops.{too_long}
 use Rattle.run_frame.specs.declared.stop.FileStop.{FileStop}
 use Rattle.run_frame.specs.declared.stop.FileStop.TheVariants.{Fault, ReadFault, Memory}
+use Rattle.run_frame.specs.Runs.{IsConstant, StaysInFront}
+use Rattle.run_frame.specs.Says.{and_then, opened}
+use Rattle.run_frame.proofs.JudgedTables.{judged-ok}
 use Rattle.run_frame.proofs.Parts.{appended-nothing}
-use Rattle.place_run.specs.Runs.{HasCause, IsAnswering, IsComplete, IsConstant, IsFinished, IsWhole, LeavesSink, PlacesWhole, PrintsReports, PrintsVerdict, PrintsWorstStable, StaysInFront, status_said, text_said}
+use Rattle.place_run.specs.Runs.{HasCause, IsAnswering, IsComplete, IsFinished, IsWhole, LeavesSink, PlacesWhole, PrintsReports, PrintsVerdict, PrintsWorstStable, status_said, text_said}
 use Rattle.place_run.specs.Answers.{Answer, done}
-use Rattle.place_run.specs.Says.{KeepsPromise, and_then, answered, audited_said, behind_tables, opened, says, tables_said}
+use Rattle.place_run.specs.Says.{KeepsPromise, answered, audited_said, behind_tables, says, tables_said}
 use Rattle.place_run.specs.Statuses.{ended, status_of}
 use Rattle.place_run.specs.Stops.{is_free}
-use Rattle.place_run.specs.Tables.{HasNoFault, Tables, ThreeFiles, candidates_said, codes_in, fault_or, judged, numbers_in, programmes_said, ranks_said, tables_in}
+use Rattle.place_run.specs.Tables.{HasNoFault, Tables, ThreeFiles, candidates_said, codes_in, numbers_in, programmes_said, ranks_said, tables_in}
 use Rattle.place_run.specs.commands.Place.{AreThree, placement_of}
 use Rattle.place_run.specs.declared.status.Ending.{Ending}
 use Rattle.place_run.specs.declared.status.Ending.TheVariants as ending
@@ -33,7 +33,6 @@ use Rattle.place_run.specs.declared.status.Status.TheVariants as ends
 use Rattle.place_run.specs.declared.status.Stop.{Stop}
 use Rattle.place_run.specs.declared.status.Stop.TheVariants.{Words, File}
 use Rattle.place_run.proofs.Headline.{printed-in}
-use Rattle.place_run.proofs.Judging.{judged-short}
 
 -- the stop of a status, if it is that of one
 abbrev stop_in : Status → Option Stop
@@ -103,14 +102,14 @@ write-cause written faults (Err stop) status old new (is, same_sink) same =
 -- files say no refusal of words
 behind-no-words : {T U : Type 0} (said : Result T FileStop) (next : T → Option (Result U Stop))
     (refused : WordsFault) → ((table : T) → next table ≡ Some (Err (Words refused)) → ⊥)
-    → and_then said next ≡ Some (Err (Words refused)) → ⊥
+    → and_then File said next ≡ Some (Err (Words refused)) → ⊥
 behind-no-words (Err stop) next refused never e = cc e
 behind-no-words (Ok table) next refused never e = never table e
 
 opened-no-words : {T U : Type 0} (held : Option (List ℕ)) (judge : List ℕ → Result T FileStop)
     (next : T → Option (Result U Stop)) (refused : WordsFault)
     → ((table : T) → next table ≡ Some (Err (Words refused)) → ⊥)
-    → opened held judge next ≡ Some (Err (Words refused)) → ⊥
+    → opened File held judge next ≡ Some (Err (Words refused)) → ⊥
 opened-no-words None judge next refused never e = cc e
 opened-no-words (Some bytes) judge next refused never e =
     behind-no-words (judge bytes) next refused never e
@@ -240,23 +239,17 @@ pub constant-count : {S : Type 0} (count : S → ℕ) (old new : S) → IsConsta
 constant-count count old new (n, few, same) rose =
     omega (arith, few, same old, same new, rose)
 
-says-ok : {T : Type 0} (kind : FileKind) (found : Option FileFault) (table : T) (bytes : List ℕ)
-    → length bytes ≤ file_limit
-    → found ≡ None → judged kind found table bytes ≡ Ok table
-says-ok kind found table bytes few none = judged-short kind found table bytes few ∙ ap
-    (λ v. fault_or v table) none
-
 says-programmes : (three : ThreeFiles) → HasNoFault three
     → programmes_said three.programmes ≡ Ok (tables_in three).programmes
 unfolding programmes_said tables_in
-says-programmes three faultless = says-ok _ _ _ three.programmes faultless.programmes_few
+says-programmes three faultless = judged-ok _ _ _ three.programmes faultless.programmes_few
     faultless.programmes
 
 says-candidates : (three : ThreeFiles) → HasNoFault three
     → candidates_said (codes_of (tables_in three).programmes.rows) three.candidates
     ≡ Ok (tables_in three).candidates
 unfolding candidates_said tables_in codes_in
-says-candidates three faultless = says-ok _ _ _ three.candidates faultless.candidates_few
+says-candidates three faultless = judged-ok _ _ _ three.candidates faultless.candidates_few
     faultless.candidates
 
 says-ranks : (three : ThreeFiles) → HasNoFault three
@@ -264,7 +257,7 @@ says-ranks : (three : ThreeFiles) → HasNoFault three
     three).candidates.numbers)
     three.ranks ≡ Ok (tables_in three).ranks
 unfolding ranks_said tables_in numbers_in codes_in
-says-ranks three faultless = says-ok _ _ _ three.ranks faultless.ranks_few faultless.ranks
+says-ranks three faultless = judged-ok _ _ _ three.ranks faultless.ranks_few faultless.ranks
 
 -- three files without a fault say their tables
 three-said : (reads : Reads) (three : ThreeFiles) → AreThree reads three → HasNoFault three

@@ -1,44 +1,24 @@
 -- A placement file that is read and judged behind three files: what all four come to.
-use Rattle.std.proofs.Common.{◌≡◌, ℕ, ◌≤◌, List, [], ◌∷◌, ◌++◌, Option, Some, None, Result, Ok, Err, refl, sym, ap, subst, ◌∙◌, inl, inr, arith, ⊎_elim}
-use Rattle.std.specs.Prelude.{Bool, IsErrAnd, IsTrue}
+use Rattle.std.proofs.Common.{◌≡◌, ◌∙◌, ℕ, List, [], ◌∷◌, ◌++◌, Option, Some, None, Result, Ok, Err, refl, sym, ap, subst}
+use Rattle.std.specs.Prelude.{Bool, IsTrue}
 use Rattle.place_base.specs.declared.fault.FileKind.{FileKind}
 use Rattle.place_base.specs.declared.fault.FileKind.TheVariants as file
 use Rattle.place_edges.specs.Shelf.{Files}
 use Rattle.programme_table.specs.Table.{codes_of}
 use Rattle.candidate_table.specs.Table.{numbers_of}
-use Rattle.run_frame.specs.Files.{AreHeld, AreTaken, IsHeld, IsJudged, Reads}
-use Rattle.run_frame.specs.Meetings.{IsDecided, Meets}
-use Rattle.run_frame.specs.Stops.{is_free}
+use Rattle.run_frame.specs.Files.{AreHeld, AreRead, AreTaken, HasBegun, IsHeld, IsJudged, Reads}
+use Rattle.run_frame.specs.Meetings.{Meets}
+use Rattle.run_frame.specs.Says.{opened, read_from}
 use Rattle.run_frame.specs.declared.stop.FileStop.{FileStop}
+use Rattle.run_frame.proofs.Readings.{at-read, begun-later, causes-later, file-reads, file-stops, held-with, none-read, same-with, with_read}
 use Rattle.place_run.specs.Runs.{IsReading}
-use Rattle.place_run.specs.Says.{MayOpenAudit, audited_read, audited_said, behind_tables, named, opened, placement_read, read_from, tables_read, tables_said}
-use Rattle.place_run.specs.Stops as stops
+use Rattle.place_run.specs.Says.{MayOpenAudit, audited_read, audited_said, behind_tables, named, placement_read, tables_read, tables_said}
+use Rattle.place_run.specs.Stops.{is_free}
 use Rattle.place_run.specs.Tables.{Tables, placement_said}
 use Rattle.place_run.specs.commands.Audit.{Audited}
 use Rattle.place_run.specs.declared.status.Stop.{Stop}
 use Rattle.place_run.specs.declared.status.Stop.TheVariants.{File}
-use Rattle.place_run.proofs.Readings.{begun-later, causes-behind, causes-ok, opened-ok, opened-stop, taken-ok, taken-stop}
-
--- these files, with the placement file of these bytes
-abbrev with_placement : Reads → Option (List ℕ) → Reads
-with_placement reads bytes file.Programmes = reads file.Programmes
-with_placement reads bytes file.Candidates = reads file.Candidates
-with_placement reads bytes file.Ranks = reads file.Ranks
-with_placement reads bytes file.Placement = bytes
-with_placement reads bytes file.Registrations = reads file.Registrations
-
-held-with : (told : Option Files) (words : List (List ℕ)) (reads : Reads) (bytes : Option (List ℕ))
-    → AreHeld told (named words) reads → IsHeld told (named words file.Placement) bytes
-    → AreHeld told (named words) (with_placement reads bytes)
-held-with None words reads bytes held last = tt
-held-with (Some files) words reads bytes held last = each
-  where
-    each : (kind : FileKind) → files (named words kind) ≡ with_placement reads bytes kind
-    each file.Programmes = held file.Programmes
-    each file.Candidates = held file.Candidates
-    each file.Ranks = held file.Ranks
-    each file.Placement = last
-    each file.Registrations = held file.Registrations
+use Rattle.place_run.proofs.Readings.{holds-stops}
 
 -- files that are taken one behind the other
 taken-both : (xs ys : List (List ℕ)) (before between now : ℕ) → AreTaken xs before between
@@ -61,10 +41,64 @@ pub may-open-placement : (told : Option Files) (grants : List ℕ → Bool) (wor
 may-open-placement told grants words tables before now tally_before tally_now may reading =
     may.placement reading.reads tables reading.held reading.meets
 
+-- what the placement file says behind these tables, and with it all four, and that it is read
+abbrev placement_from : Tables → Option (List ℕ) → Option (Result Audited Stop)
+placement_from tables bytes =
+    opened File bytes (held_beside tables) (λ held.
+    Some (Ok (record { tables = tables; held = held })))
+
+abbrev placement_behind : Tables → Option (List ℕ) → List (List ℕ)
+placement_behind tables bytes = read_from bytes (held_beside tables) (λ held. [])
+
+held-at : (told : Option Files) (names : FileKind → List ℕ) (kind : FileKind) (reads : Reads)
+    → AreHeld told names reads → IsHeld told (names kind) (reads kind)
+held-at None names kind reads held = tt
+held-at (Some files) names kind reads held = held kind
+
 module _ (told : Option Files) (words : List (List ℕ)) (tables : Tables)
     (first before now tally_first tally_before tally_now : ℕ)
     (three : IsReading told words (Some file.Programmes) tables_said tables_read (Ok tables) first
     before tally_first tally_before) where
+  -- behind the three files, what the placement file comes to is what all four come to
+  behind-three : (result : Result Audited Stop)
+      → AreRead told (named words) is_free File (Some file.Placement)
+      (λ reads. placement_from tables (reads file.Placement))
+      (λ reads. placement_behind tables (reads file.Placement)) result before now tally_before
+      tally_now
+      → IsReading told words (Some file.Programmes) audited_said audited_read result first now
+      tally_first tally_now
+  behind-three result last =
+      let bytes = last.reads file.Placement in
+      let all = with_read told file.Placement bytes three.reads in
+      let same : all file.Placement ≡ bytes = at-read told (named words) file.Placement bytes
+      three.reads three.held (held-at told (named words) file.Placement last.reads last.held) in
+      let first_same : all file.Programmes ≡ three.reads file.Programmes =
+      same-with told file.Placement bytes three.reads (λ reads. reads file.Programmes)
+      (λ given others. refl) in
+      let said : tables_said all ≡ Some (Ok tables) =
+      same-with told file.Placement bytes three.reads tables_said (λ given others. refl)
+      ∙ three.meets in
+      let read : tables_read all ≡ tables_read three.reads =
+      same-with told file.Placement bytes three.reads tables_read (λ given others. refl) in
+      record {
+        reads = all;
+        held = held-with told (named words) file.Placement bytes three.reads three.held;
+        meets = subst (λ v. Meets is_free v result)
+            (sym (ap (λ v. behind_tables v (λ t. placement_from t (all file.Placement))) said
+            ∙ ap (placement_from tables) same)) last.meets;
+        taken = λ decided. subst (λ v. AreTaken v tally_first tally_now)
+            (sym (ap (λ v. tables_read all ++ placement_read v (all file.Placement)) said
+            ∙ ap (λ v. tables_read all ++ placement_behind tables v) same
+            ∙ ap (λ v. v ++ placement_behind tables bytes) read))
+            (taken-both (tables_read three.reads) (placement_behind tables bytes) tally_first
+            tally_before tally_now (three.taken tt) (last.taken decided));
+        begun = λ unread. begun-later (all file.Programmes) tally_first tally_before tally_now
+            last.causes.tally (subst (λ v. HasBegun v tally_first tally_before) (sym first_same)
+            (three.begun (λ e. cc e)));
+        causes = causes-later File result first before now tally_first tally_before tally_now
+            three.causes.faults three.causes.tally last.causes;
+      }
+
   -- the placement file has a stop
   pub placement-stops : (stop : FileStop)
       → IsJudged told (named words file.Placement) (held_beside tables) (Err stop) before now
@@ -72,27 +106,10 @@ module _ (told : Option Files) (words : List (List ℕ)) (tables : Tables)
       → IsReading told words (Some file.Programmes) audited_said audited_read (Err (File stop))
       first now tally_first tally_now
   placement-stops stop last =
-      let reads = with_placement three.reads last.bytes in
-      let said : tables_said reads ≡ Some (Ok tables) = three.meets in
-      record {
-        reads = reads;
-        held = held-with told words three.reads last.bytes three.held last.held;
-        meets = subst (λ v. Meets stops.is_free v (Err (File stop)))
-            (sym (ap (λ v. behind_tables v (λ t. opened last.bytes (held_beside t) (λ held.
-            Some (Ok (record { tables = t; held = held }))))) said))
-            (opened-stop (held_beside tables) _ last.bytes last.bytes stop refl last.meets);
-        taken = λ decided.
-            subst (λ v. AreTaken (tables_read reads ++ placement_read v last.bytes) tally_first
-            tally_now) (sym said)
-            (taken-both (tables_read reads) (read_from last.bytes (held_beside tables) (λ held. []))
-            tally_first tally_before tally_now (three.taken tt)
-            (taken-stop (held_beside tables) (λ held. []) last.bytes last.bytes stop tally_before
-            tally_now refl last.meets last.taken decided));
-        begun = λ unread. begun-later (three.reads file.Programmes) tally_first tally_before
-            tally_now last.causes.tally (three.begun (λ e. cc e));
-        causes = causes-behind stop first before now tally_first tally_before tally_now
-            three.causes.faults three.causes.tally last.causes;
-      }
+      behind-three (Err (File stop))
+      (file-stops holds-stops told (named words) file.Placement (held_beside tables)
+      (λ held reads. Some (Ok (record { tables = tables; held = held }))) (λ held reads. []) stop
+      _ _ _ _ last)
 
   -- it says its placement
   pub four-read : (held : List (Option ℕ))
@@ -101,24 +118,9 @@ module _ (told : Option Files) (words : List (List ℕ)) (tables : Tables)
       → IsReading told words (Some file.Programmes) audited_said audited_read
       (Ok (record { tables = tables; held = held })) first now tally_first tally_now
   four-read held last =
-      let reads = with_placement three.reads last.bytes in
-      let said : tables_said reads ≡ Some (Ok tables) = three.meets in
-      record {
-        reads = reads;
-        held = held-with told words three.reads last.bytes three.held last.held;
-        meets = ap (λ v. behind_tables v (λ t. opened last.bytes (held_beside t) (λ given.
-            Some (Ok (record { tables = t; held = given }))))) said
-            ∙ opened-ok (held_beside tables) _ last.bytes last.bytes held refl last.meets;
-        taken = λ _.
-            subst (λ v. AreTaken (tables_read reads ++ placement_read v last.bytes) tally_first
-            tally_now) (sym said)
-            (taken-both (tables_read reads) (read_from last.bytes (held_beside tables) (λ given. []))
-            tally_first tally_before tally_now (three.taken tt)
-            (taken-ok (held_beside tables) (λ given. []) last.bytes last.bytes held tally_before
-            tally_now tally_now refl last.meets last.taken refl));
-        begun = λ unread. begun-later (three.reads file.Programmes) tally_first tally_before
-            tally_now last.causes.tally (three.begun (λ e. cc e));
-        causes = causes-ok _ first now tally_first tally_now
-            (omega (arith, three.causes.faults, last.causes.faults))
-            (omega (arith, three.causes.tally, last.causes.tally));
-      }
+      let end : Result Audited Stop = Ok (record { tables = tables; held = held }) in
+      behind-three end
+      (file-reads holds-stops told (named words) file.Placement (held_beside tables)
+      (λ given reads. Some (Ok (record { tables = tables; held = given }))) (λ given reads. []) held
+      None end _ _ _ _ _ _ (λ bytes reads. refl) (λ bytes reads. refl) last
+      (none-read holds-stops told (named words) end now tally_now refl (λ stop e. cc e)))

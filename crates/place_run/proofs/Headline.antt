@@ -1,10 +1,7 @@
 -- What files say that were read: they have no fault, and their tables are those of the files. So what
 -- is known of the market of the tables is known of the market of the files.
-use Rattle.std.proofs.Common.{◌≡◌, ℕ, ◌<◌, ◌≤◌, List, refl, sym, subst, ap, ◌∙◌, Option, Some, None, Result, Ok, Err, inl, inr, arith, ⊎_elim}
+use Rattle.std.proofs.Common.{◌≡◌, ℕ, ◌≤◌, List, refl, sym, subst, ap, ◌∙◌, Option, Some, None, Result, Ok, Err}
 use Rattle.std.specs.Prelude.{length, ◌↔◌}
-use Rattle.std.proofs.lemmas.Bool.{cases_lt}
-use Rattle.place_base.specs.declared.fault.FileFault.{FileFault}
-use Rattle.place_base.specs.declared.fault.FileKind.{FileKind}
 use Rattle.place_base.specs.declared.fault.FileKind.TheVariants as file
 use Rattle.market.specs.Comparisons.{IsWorstStable}
 use Rattle.market.specs.Mechanism.{mechanism_placement}
@@ -19,16 +16,15 @@ use Rattle.candidate_table.specs.Rows.{candidates_fault}
 use Rattle.rank_lists.specs.Rows.{ranks_fault}
 use Rattle.rank_lists.specs.Table.{RankTable, ranks_table}
 use Rattle.run_frame.specs.Files.{Reads}
-use Rattle.run_frame.specs.Stops.{too_long}
-use Rattle.run_frame.specs.declared.stop.FileStop.{FileStop}
-use Rattle.run_frame.specs.declared.stop.FileStop.TheVariants as unread
+use Rattle.run_frame.proofs.JudgedTables.{SaysTable, says-table}
+use Rattle.run_frame.proofs.Readings.{said-from}
 use Rattle.reports.specs.FullEntries.{FullMeansFilled}
 use Rattle.stability_audit.specs.declared.verdict.Verdict.{Verdict}
 use Rattle.stability_audit.specs.declared.verdict.Verdict.TheVariants.{Stable, OverQuota, NotAcceptable, Blocking}
 use Rattle.place_run.specs.Answers.{Answer}
 use Rattle.place_run.specs.Audits.{IsAuditOf}
-use Rattle.place_run.specs.Says.{and_then, audited_said, behind_tables, opened, tables_said}
-use Rattle.place_run.specs.Tables.{HasNoFault, Tables, ThreeFiles, candidates_said, codes_in, fault_or, judged, numbers_in, placement_said, problem_of, programmes_said, ranks_said, tables_in}
+use Rattle.place_run.specs.Says.{audited_said, behind_tables, tables_said}
+use Rattle.place_run.specs.Tables.{HasNoFault, Tables, ThreeFiles, candidates_said, codes_in, numbers_in, placement_said, problem_of, programmes_said, ranks_said, tables_in}
 use Rattle.placement_file.specs.Texts.{placement_text}
 use Rattle.place_run.specs.commands.Audit.{Audited, IsAudit, verdict_ending}
 use Rattle.place_run.specs.commands.Base.{IsBaseText, base_text, bases_of}
@@ -36,32 +32,7 @@ use Rattle.place_run.specs.commands.Place.{AreThree, IsOfWorstStable, IsWorstSta
 use Rattle.place_run.specs.commands.Reasons.{IsReasonsText, reasons_of, reasons_text}
 use Rattle.place_run.specs.declared.status.Ending.TheVariants.{Done}
 use Rattle.place_run.specs.declared.status.Stop.{Stop}
-use Rattle.place_run.proofs.Judging.{judged-short, judged-long}
-
--- a file that says its table is short and has no fault
-record SaysTable {T : Type 0} (fault : Option FileFault) (table said : T) (bytes : List ℕ) : Type 0
-  where
-    few : length bytes ≤ file_limit
-    none : fault ≡ None
-    same : said ≡ table
-
-no-fault : {T : Type 0} (fault : Option FileFault) (table said : T) → fault_or fault table ≡ Ok said
-    → (fault ≡ None) × (said ≡ table)
-no-fault None table said e = (refl, sym (cc e))
-no-fault (Some f) table said e = cc e
-
-says-table : {T : Type 0} (kind : FileKind) (fault : Option FileFault) (table said : T)
-    (bytes : List ℕ)
-    → judged kind fault table bytes ≡ Ok said → SaysTable fault table said bytes
-says-table kind fault table said bytes e =
-    ⊎_elim (λ (many : file_limit < length bytes).
-    let never : Err (unread.Fault (too_long kind)) ≡ Ok said =
-    sym (judged-long kind fault table bytes many) ∙ e
-    in cc never)
-    (λ (few : length bytes ≤ file_limit).
-    let both = no-fault fault table said (sym (judged-short kind fault table bytes few) ∙ e) in
-    record { few = few; none = both.0; same = both.1 })
-    (cases_lt file_limit (length bytes))
+use Rattle.place_run.specs.declared.status.Stop.TheVariants.{File}
 
 says-programmes : (bytes : List ℕ) (said : Programmes) → programmes_said bytes ≡ Ok said
     → SaysTable (programmes_fault bytes) (programmes_table bytes) said bytes
@@ -78,23 +49,6 @@ says-ranks : (names : List (List ℕ)) (numbers bytes : List ℕ) (said : RankTa
     → SaysTable (ranks_fault bytes) (ranks_table names numbers bytes) said bytes
 unfolding ranks_said
 says-ranks names numbers bytes said e = says-table file.Ranks _ _ said bytes e
-
-said-behind : {T U : Type 0} (said : Result T FileStop) (next : T
-    → Option (Result U Stop)) (end : U)
-    → and_then said next ≡ Some (Ok end)
-    → (table : T) × (said ≡ Ok table) × (next table ≡ Some (Ok end))
-said-behind (Err stop) next end e = cc e
-said-behind (Ok table) next end e = (table, refl, e)
-
--- where all is said in the end, a file was there, and said its table
-said-from : {T U : Type 0} (held : Option (List ℕ)) (judge : List ℕ → Result T FileStop)
-    (next : T → Option (Result U Stop)) (end : U) → opened held judge next ≡ Some (Ok end)
-    → (bytes : List ℕ) × (held ≡ Some bytes)
-    × (table : T) × (judge bytes ≡ Ok table) × (next table ≡ Some (Ok end))
-said-from None judge next end e = cc e
-said-from (Some bytes) judge next end e =
-    let behind = said-behind (judge bytes) next end e in
-    (bytes, refl, behind.0, behind.1, behind.2)
 
 -- tables with the same parts are the same
 abbrev tables_with : Programmes → Candidates → RankTable → Tables
@@ -117,9 +71,9 @@ are-read : (reads : Reads) (tables : Tables) → tables_said reads ≡ Some (Ok 
     → AreRead reads tables
 unfolding tables_in codes_in numbers_in
 are-read reads tables e =
-    let p = said-from (reads file.Programmes) programmes_said _ tables e in
-    let c = said-from (reads file.Candidates) (candidates_said (codes_of p.2.rows)) _ tables p.4 in
-    let r = said-from (reads file.Ranks) (ranks_said p.2.names (numbers_of c.2.numbers)) _ tables
+    let p = said-from File (reads file.Programmes) programmes_said _ tables e in
+    let c = said-from File (reads file.Candidates) (candidates_said (codes_of p.2.rows)) _ tables p.4 in
+    let r = said-from File (reads file.Ranks) (ranks_said p.2.names (numbers_of c.2.numbers)) _ tables
     c.4 in
     let one = says-programmes p.0 p.2 p.3 in
     let two = says-candidates (codes_of p.2.rows) c.0 c.2 c.3 in
@@ -270,7 +224,7 @@ audit-answer reads audited answer said is =
     let behind = behind-said (tables_said reads) _ audited said in
     let tables = behind.0 in
     let files = are-read reads tables behind.1 in
-    let last = said-from (reads file.Placement) (placement_said (codes_of tables.programmes.rows)
+    let last = said-from File (reads file.Placement) (placement_said (codes_of tables.programmes.rows)
     (numbers_of tables.candidates.numbers)) _ audited behind.2 in
     let one = says-placement (codes_of tables.programmes.rows)
     (numbers_of tables.candidates.numbers) last.0 last.2 last.3 in

@@ -1,5 +1,3 @@
--- a file that was read whole, and what its table was read as
-pub mod Judging
 -- no fault of a table is that its file is too long
 pub mod TableFaults
 -- files that are read and judged one after the other

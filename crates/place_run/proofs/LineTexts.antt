@@ -1,14 +1,9 @@
 -- The parts of a line as they are written, with their spaces, are the line.
-use Rattle.std.proofs.Common.{◌≡◌, ℕ, List, [], ◌∷◌, ◌++◌, append_assoc}
+use Rattle.std.proofs.Common.{◌≡◌, ℕ, List, [], ◌++◌}
 use Rattle.std.specs.Prelude.{codes, decimal}
 use Rattle.command_words.specs.declared.words.WordsFault.{WordsFault}
-use Rattle.run_frame.specs.Lines.{line_text}
+use Rattle.run_frame.proofs.LineTexts.{words-parts}
 use Rattle.place_run.specs.Statuses.{words_line, refusal_name, refusal_place}
-
-words-parts : (name place : List ℕ)
-    → codes "words " ++ (name ++ (codes " " ++ (place ++ (codes "\n" ++ []))))
-    ≡ line_text (codes "words" ∷ name ∷ place ∷ [])
-words-parts name place = simp append_assoc
 
 pub words-line : (refused : WordsFault) (name : List ℕ) (place : ℕ) → name ≡ refusal_name refused
     → place ≡ refusal_place refused

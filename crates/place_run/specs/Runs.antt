@@ -1,5 +1,5 @@
 -- What may be said of a run: the promise of the top call.
-use Rattle.std.specs.Prelude.{◌≡◌, ◌≤◌, ◌<◌, ◌⊎◌, ℕ, ◌-◌, ◌^◌, List, [], IfOk, IfSome, IsErrOf, Option, Some, None, Result, Ok, Err, ⊤}
+use Rattle.std.specs.Prelude.{◌≡◌, ◌≤◌, ◌⊎◌, ℕ, List, [], IfOk, IfSome, IsErrOf, Option, Some, Result, Ok, Err}
 use Rattle.place_base.specs.declared.fault.FileKind.{FileKind}
 use Rattle.command_words.specs.Words.{command_of}
 use Rattle.command_words.specs.declared.words.Command.{Command}
@@ -9,10 +9,9 @@ use Rattle.market.specs.Mechanism.{mechanism_placement}
 use Rattle.place_edges.specs.Causes.{Rose}
 use Rattle.place_edges.specs.Shelf.{Files, GaveMore, file_limit}
 use Rattle.place_edges.specs.Sink.{Appended, AppendedPrefix}
-use Rattle.run_frame.specs.Files.{AreHeld, AreTaken, HasBegun, HasCauses, Reads}
-use Rattle.run_frame.specs.Meetings.{IsDecided, Meets}
+use Rattle.run_frame.specs.Files.{AreHeld, AreRead, Reads}
+use Rattle.run_frame.specs.Runs.{StaysInFront}
 use Rattle.run_frame.specs.Stops.{too_long}
-use Rattle.run_frame.specs.declared.stop.FileStop.TheVariants as file
 use Rattle.place_run.specs.Answers.{Answer}
 use Rattle.place_run.specs.Says.{KeepsPromise, files_read, first_file, named, says}
 use Rattle.place_run.specs.Statuses.{ended, status_of}
@@ -29,26 +28,13 @@ use Rattle.place_run.specs.declared.status.Status.TheVariants as ends
 use Rattle.place_run.specs.declared.status.Stop.{Stop}
 use Rattle.place_run.specs.declared.status.Stop.TheVariants.{File, Words}
 
--- the reading of the first file has begun, if there is one
-abbrev pub FirstHasBegun : Option FileKind → Reads → ℕ → ℕ → Type 0
-FirstHasBegun None reads before now = ⊤
-FirstHasBegun (Some kind) reads before now = HasBegun (reads kind) before now
-
--- What reading files came to: there are bytes for each kind of file, those held under the names
--- that the words give where that is told, such that the result meets what is said over them. Each
--- file up to the one that decides was read once. Memory is refused only once the first file is
--- read.
-pub record IsReading {T : Type 0} (told : Option Files) (words : List (List ℕ))
-    (first : Option FileKind) (said : Reads → Option (Result T Stop))
-    (files : Reads → List (List ℕ)) (result : Result T Stop)
-    (before now tally_before tally_now : ℕ) : Type 0 where
-  pub reads : Reads
-  pub held : AreHeld told (named words) reads
-  pub meets : Meets is_free (said reads) result
-  pub taken : IsDecided is_free result → AreTaken (files reads) tally_before tally_now
-  pub begun : (IsErrOf result (File file.ReadFault) → ⊥)
-      → FirstHasBegun first reads tally_before tally_now
-  pub causes : HasCauses File result before now tally_before tally_now
+-- what reading the files that the words name came to
+abbrev pub IsReading : {T : Type 0} → Option Files → List (List ℕ) → Option FileKind
+    → (Reads → Option (Result T Stop)) → (Reads → List (List ℕ)) → Result T Stop
+    → ℕ → ℕ → ℕ → ℕ → Type 0
+IsReading told words first said files result before now tally_before tally_now =
+    AreRead told (named words) is_free File first said files result before now tally_before
+    tally_now
 
 -- an answer was written: whole, with its status, or a write failed, and a prefix of its text was
 abbrev pub IsEnded : Answer → Status → Option (List ℕ) → Option (List ℕ) → ℕ → ℕ → Type 0
@@ -162,14 +148,6 @@ pub record IsComplete (told : Option Files) (words : List (List ℕ)) (status : 
     (old new : Option (List ℕ)) : Type 0 where
   pub whole : IsWhole told words status old new
   pub places : PlacesWhole told words status old new
-
--- a count is the same at every moment, and can still rise
-abbrev pub IsConstant : {S : Type 0} → (S → ℕ) → Type 0
-IsConstant {S} count = (n : ℕ) × (n < 2 ^ 64 - 1) × ((state : S) → count state ≡ n)
-
--- what was written before stays in front
-abbrev pub StaysInFront : Option (List ℕ) → Option (List ℕ) → Type 0
-StaysInFront old new = (bytes : List ℕ) × Appended old new bytes
 
 -- where something was refused before the first byte of a text, this is as it was
 abbrev pub Untouched : {A : Type 0} → Status → A → A → Type 0

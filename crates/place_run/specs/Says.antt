@@ -1,5 +1,5 @@
 -- What the words come to, and which files are read for it.
-use Rattle.std.specs.Prelude.{◌≡◌, ℕ, List, [], ◌∷◌, ◌++◌, Bool, IsTrue, slice_index_or, Option, Some, None, Result, Ok, Err, ⊤}
+use Rattle.std.specs.Prelude.{◌≡◌, ℕ, List, [], ◌++◌, Bool, IsTrue, slice_index_or, Option, Some, None, Result, Ok, Err, ⊤}
 use Rattle.place_base.specs.declared.fault.FileKind.{FileKind}
 use Rattle.place_base.specs.declared.fault.FileKind.TheVariants.{Programmes, Candidates, Ranks, Placement, Registrations}
 use Rattle.command_words.specs.declared.words.Command.{Command}
@@ -11,7 +11,7 @@ use Rattle.programme_table.specs.Table as programme
 use Rattle.candidate_table.specs.Table.{numbers_of}
 use Rattle.candidate_table.specs.Table as candidate
 use Rattle.run_frame.specs.Files.{AreHeld, IsHeld, Reads}
-use Rattle.run_frame.specs.declared.stop.FileStop.{FileStop}
+use Rattle.run_frame.specs.Says.{opened, read_from}
 use Rattle.place_run.specs.Answers.{Answer, done}
 use Rattle.place_run.specs.Tables.{Tables, candidates_said, placement_said, programmes_said, ranks_said}
 use Rattle.place_run.specs.commands.Audit.{Audited, IsAudit, audit_of}
@@ -33,35 +33,12 @@ named words Ranks = word_at words 3
 named words Placement = word_at words 4
 named words Registrations = word_at words 5
 
--- go on with what a file says
-abbrev pub and_then : {T U : Type 0} → Result T FileStop → (T → Option (Result U Stop))
-    → Option (Result U Stop)
-and_then (Err stop) next = Some (Err (File stop))
-and_then (Ok said) next = next said
-
--- open a file, judge it, and go on; nothing is said where it is not held
-abbrev pub opened : {T U : Type 0} → Option (List ℕ) → (List ℕ → Result T FileStop)
-    → (T → Option (Result U Stop)) → Option (Result U Stop)
-opened None judge next = None
-opened (Some bytes) judge next = and_then (judge bytes) next
-
--- no file is read behind one that has a fault
-abbrev pub read_behind : {T : Type 0} → Result T FileStop → (T → List (List ℕ)) → List (List ℕ)
-read_behind (Err stop) next = []
-read_behind (Ok said) next = next said
-
--- the files that are read so: each is read once, in this order
-abbrev pub read_from : {T : Type 0} → Option (List ℕ) → (List ℕ → Result T FileStop)
-    → (T → List (List ℕ)) → List (List ℕ)
-read_from None judge next = []
-read_from (Some bytes) judge next = bytes ∷ read_behind (judge bytes) next
-
 -- what three files say: their tables, or the first fault
 abbrev pub tables_said : Reads → Option (Result Tables Stop)
 tables_said reads =
-    opened (reads Programmes) programmes_said (λ programmes.
-    opened (reads Candidates) (candidates_said (codes_of programmes.rows)) (λ candidates.
-    opened (reads Ranks) (ranks_said programmes.names (numbers_of candidates.numbers)) (λ ranks.
+    opened File (reads Programmes) programmes_said (λ programmes.
+    opened File (reads Candidates) (candidates_said (codes_of programmes.rows)) (λ candidates.
+    opened File (reads Ranks) (ranks_said programmes.names (numbers_of candidates.numbers)) (λ ranks.
     Some (Ok (record { programmes = programmes; candidates = candidates; ranks = ranks })))))
 
 -- the files that are read for it
@@ -83,7 +60,7 @@ behind_tables (Some (Ok tables)) next = next tables
 abbrev pub audited_said : Reads → Option (Result Audited Stop)
 audited_said reads =
     behind_tables (tables_said reads) (λ tables.
-    opened (reads Placement) (placement_said (codes_of tables.programmes.rows)
+    opened File (reads Placement) (placement_said (codes_of tables.programmes.rows)
     (numbers_of tables.candidates.numbers)) (λ held.
     Some (Ok (record { tables = tables; held = held }))))
 

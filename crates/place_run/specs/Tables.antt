@@ -1,7 +1,5 @@
 -- The three tables of a market, and what each file says, a placement file beside them too.
-use Rattle.std.specs.Prelude.{◌≡◌, ℕ, ◌≤◌, List, All, map, nat_lt, length, if◌then◌else◌, Option, Some, None, Result, Ok, Err}
-use Rattle.place_base.specs.declared.fault.FileFault.{FileFault}
-use Rattle.place_base.specs.declared.fault.FileKind.{FileKind}
+use Rattle.std.specs.Prelude.{◌≡◌, ℕ, ◌≤◌, List, All, map, length, Option, None, Result}
 use Rattle.place_base.specs.declared.fault.FileKind.TheVariants as file
 use Rattle.market.specs.Problems.{Problem, problem}
 use Rattle.place_edges.specs.Shelf.{file_limit}
@@ -13,9 +11,8 @@ use Rattle.candidate_table.specs.Rows.{candidates_fault}
 use Rattle.candidate_table.specs.Table.{Candidates, IsPreferenceList, candidates_table, numbers_of}
 use Rattle.rank_lists.specs.Rows.{ranks_fault}
 use Rattle.rank_lists.specs.Table.{RankTable, ranks_table}
-use Rattle.run_frame.specs.Stops.{too_long}
+use Rattle.run_frame.specs.Says.{judged}
 use Rattle.run_frame.specs.declared.stop.FileStop.{FileStop}
-use Rattle.run_frame.specs.declared.stop.FileStop.TheVariants.{Fault}
 
 -- the tables of programmes, candidates and ranks
 pub record Tables : Type 0 where
@@ -38,16 +35,6 @@ problem_with programmes lists ranks =
 -- the market of three tables
 abbrev pub problem_of : Tables → Problem
 problem_of tables = problem_with tables.programmes tables.candidates.lists tables.ranks
-
--- the fault, or the table where there is none
-abbrev pub fault_or : {T : Type 0} → Option FileFault → T → Result T FileStop
-fault_or (Some found) table = Err (Fault found)
-fault_or None table = Ok table
-
--- what a file says by its first fault and its table: it may also be too long, which comes first
-abbrev pub judged : {T : Type 0} → FileKind → Option FileFault → T → List ℕ → Result T FileStop
-judged kind found table bytes =
-    if nat_lt file_limit (length bytes) then Err (Fault (too_long kind)) else fault_or found table
 
 -- what a programmes file says
 unfoldable pub programmes_said : List ℕ → Result Programmes FileStop

@@ -3,7 +3,8 @@ ghost use Rattle.std.specs.Prelude.{◌≡◌, ◌≤◌};
 ghost use Rattle.command_words.specs.Words.{command_of, texts};
 ghost use Rattle.place_edges.specs.Causes.{Rose};
 ghost use Rattle.run_frame.specs.Lines.{IsNoted};
-ghost use Rattle.place_run.specs.Runs.{HasCause, IsComplete, IsConstant, IsFinished, IsAnsweredRun, IsWordsRefusal, LeavesSink, HasNoLine, PrintsReports, PrintsVerdict, PrintsWorstStable};
+ghost use Rattle.run_frame.specs.Runs.{IsConstant};
+ghost use Rattle.place_run.specs.Runs.{HasCause, IsComplete, IsFinished, IsAnsweredRun, IsWordsRefusal, LeavesSink, HasNoLine, PrintsReports, PrintsVerdict, PrintsWorstStable};
 ghost use Rattle.place_run.specs.Says.{MayOpen};
 ghost use Rattle.place_run.specs.Statuses.{status_line};
 

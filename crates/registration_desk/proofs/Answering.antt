@@ -3,16 +3,15 @@
 use Rattle.std.proofs.Common.{◌≡◌, ◌∙◌, ℕ, List, Option, Some, Result, Ok, Err, refl, sym, ap, subst, inl, inr, arith, ⊎_elim}
 use Rattle.place_base.specs.declared.fault.FileKind.TheVariants as file
 use Rattle.place_edges.specs.Shelf.{Files}
-use Rattle.run_frame.proofs.Readings.{causes-ok}
+use Rattle.run_frame.proofs.Readings.{causes-ok, none-read}
 use Rattle.run_frame.specs.declared.stop.FileStop.TheVariants.{Memory}
 use Rattle.registration_desk.specs.Reports.{DeskReport, report_on}
 use Rattle.registration_desk.specs.Runs.{IsAnswering, IsReading}
-use Rattle.registration_desk.specs.Says.{DeskFiles, both_read, both_said, reported}
-use Rattle.registration_desk.specs.Statuses.{is_free}
+use Rattle.registration_desk.specs.Says.{DeskFiles, both_read, both_said, named, reported}
 use Rattle.registration_desk.specs.declared.status.Stop.{Stop}
 use Rattle.registration_desk.specs.declared.status.Stop.TheVariants.{File, Words}
 use Rattle.registration_desk.specs.declared.words.DeskWords.{DeskWords}
-use Rattle.registration_desk.proofs.BothFiles.{apart, no-file}
+use Rattle.registration_desk.proofs.BothFiles.{holds-stops}
 
 -- the report on what was read
 pub desk-answers : (told : Option Files) (words : List (List ℕ)) (files : DeskFiles)
@@ -27,7 +26,7 @@ desk-answers told words files report clerks before now tally_before tally_now re
   meets = ap reported reading.meets ∙ ap (λ (v : DeskReport). Some (Ok v)) (sym is);
   taken = λ _. reading.taken tt;
   begun = λ _. reading.begun (λ e. cc e);
-  causes = causes-ok is_free File (λ s. refl) apart report before now tally_before tally_now
+  causes = causes-ok File report before now tally_before tally_now
       reading.causes.faults reading.causes.tally;
 }
 
@@ -76,18 +75,7 @@ pub words-refused : (told : Option Files) (words : List (List ℕ)) (clerks : Re
     (refused : DeskWords) (before tally_before : ℕ) → clerks ≡ Err refused
     → IsAnswering told words clerks (Err (Words refused)) before before tally_before tally_before
 words-refused told words clerks refused before tally_before none =
-    let nothing = no-file told words in
     subst (λ v. IsAnswering told words v (Err (Words refused)) before before tally_before
-    tally_before) (sym none) (record {
-      reads = nothing.0;
-      held = nothing.1;
-      meets = inr refl;
-      taken = λ _. refl;
-      begun = λ _. tt;
-      causes = record {
-        faults = omega arith;
-        tally = omega arith;
-        read = λ e. cc e;
-        long = λ kind e. cc e;
-      };
-    })
+    tally_before) (sym none)
+    (none-read holds-stops told (named words) (Err (Words refused)) before tally_before (inr refl)
+    (λ stop e. cc e))

@@ -2,14 +2,10 @@
 use Rattle.std.proofs.Common.{◌≡◌, ℕ, List, [], ◌∷◌, ◌++◌, append_assoc}
 use Rattle.std.specs.Prelude.{codes, decimal}
 use Rattle.run_frame.specs.Lines.{line_text}
+use Rattle.run_frame.proofs.LineTexts.{words-parts}
 use Rattle.registration_desk.specs.Statuses.{numbers_line, refusal_name, refusal_place, words_line}
 use Rattle.registration_desk.specs.declared.report.DeskNumbers.{DeskNumbers}
 use Rattle.registration_desk.specs.declared.words.DeskWords.{DeskWords}
-
-words-parts : (name place : List ℕ)
-    → codes "words " ++ (name ++ (codes " " ++ (place ++ (codes "\n" ++ []))))
-    ≡ line_text (codes "words" ∷ name ∷ place ∷ [])
-words-parts name place = simp append_assoc
 
 -- the line of a refusal of words
 pub words-line : (refused : DeskWords) (name : List ℕ) (place : ℕ) → name ≡ refusal_name refused

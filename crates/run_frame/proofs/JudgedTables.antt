@@ -27,6 +27,13 @@ pub judged-long : {T : Type 0} (kind : FileKind) (fault : Option FileFault) (tab
     → file_limit < length bytes → judged kind fault table bytes ≡ Err (Fault (too_long kind))
 judged-long kind fault table bytes many = cond-true _ _ _ (lt-ltb file_limit (length bytes) many)
 
+-- a short file without a fault says its table
+pub judged-ok : {T : Type 0} (kind : FileKind) (fault : Option FileFault) (table : T)
+    (bytes : List ℕ)
+    → length bytes ≤ file_limit → fault ≡ None → judged kind fault table bytes ≡ Ok table
+judged-ok kind fault table bytes few none =
+    judged-short kind fault table bytes few ∙ ap (λ v. fault_or v table) none
+
 -- what was read of a table is what the file says
 table-meets : {T : Type 0} (kind : FileKind) (fault : Option FileFault) (table : T)
     (bytes : List ℕ) (said : List ℕ → Result T FileStop) (read : Result T TableStop)

@@ -6,6 +6,12 @@ use Rattle.place_base.specs.FileKind.{file_name}
 use Rattle.place_base.specs.declared.fault.FileFault.{FileFault}
 use Rattle.run_frame.specs.Lines.{line_text, fault_line}
 
+-- a refusal of words
+pub words-parts : (name place : List ℕ)
+    → codes "words " ++ (name ++ (codes " " ++ (place ++ (codes "\n" ++ []))))
+    ≡ line_text (codes "words" ∷ name ∷ place ∷ [])
+words-parts name place = simp append_assoc
+
 fault-parts : (file line field tens ones name earlier : List ℕ)
     → codes "fault " ++ (file ++ (codes " line " ++
     (line ++ (codes " field " ++ (field ++ (codes " F" ++ (tens ++ (ones
@@ -15,6 +21,7 @@ fault-parts : (file line field tens ones name earlier : List ℕ)
     ∷ codes "earlier" ∷ earlier ∷ [])
 fault-parts file line field tens ones name earlier = simp append_assoc
 
+-- a fault of a file
 pub fault-line : (found : FileFault) (file name : List ℕ) (line field tens ones earlier : ℕ)
     → file ≡ file_name found.file → name ≡ fault_name found.kind → line ≡ found.line
     → field ≡ found.field

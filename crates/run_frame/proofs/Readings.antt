@@ -1,15 +1,18 @@
 -- Files that are read and judged one after the other, where a run has stops of its own beside those
--- of files: a stop of a file is free exactly where it is free for files, and two stops of files are
--- one stop of the run only where they are the same.
-use Rattle.std.proofs.Common.{◌≡◌, ℕ, ◌≤◌, List, Option, Some, None, Result, Ok, Err, refl, sym, ap, subst, inl, inr, arith, ⊎_elim}
-use Rattle.std.specs.Prelude.{Bool, IsFalse, IsTrue, option_map}
+-- of files, come to what is said of all of them: what the files behind one come to is what they all
+-- come to.
+use Rattle.std.proofs.Common.{◌≡◌, ℕ, ◌≤◌, List, [], Option, Some, None, Result, Ok, Err, refl, sym, ap, subst, ◌∙◌, inl, inr, arith, ⊎_elim}
+use Rattle.std.specs.Prelude.{Bool, IsErrAnd, IsFalse, IsTrue, option_map}
+use Rattle.place_base.specs.declared.fault.FileKind.{FileKind}
+use Rattle.place_base.specs.declared.fault.FileKind.TheVariants as file
 use Rattle.place_edges.specs.Shelf.{Files, GaveMore, file_limit}
-use Rattle.run_frame.specs.Files.{AreTaken, HasBegun, HasCauses, IsJudged, IsTaken}
+use Rattle.run_frame.specs.Files.{AreHeld, AreRead, AreTaken, HasBegun, HasCauses, IsHeld, IsJudged, IsTaken, Reads}
 use Rattle.run_frame.specs.Meetings.{Meets}
-use Rattle.run_frame.specs.Says.{opened, read_from}
+use Rattle.run_frame.specs.Says.{and_then, opened, read_from}
 use Rattle.run_frame.specs.Stops.{is_free, too_long}
 use Rattle.run_frame.specs.declared.stop.FileStop.{FileStop}
 use Rattle.run_frame.specs.declared.stop.FileStop.TheVariants.{Fault, ReadFault}
+use Rattle.run_frame.proofs.Parts.{at-error}
 
 -- a file that says its table is there
 pub said-ok : {T : Type 0} (judge : List ℕ → Result T FileStop) (held : Option (List ℕ)) (table : T)
@@ -51,54 +54,239 @@ pub begun-later : (bytes : Option (List ℕ)) (before between now : ℕ) → bet
 begun-later bytes before between now later begun =
     ⊎_elim (λ none. inl none) (λ rose. inr (omega (arith, later, rose))) begun
 
-module _ {S : Type 0} (free : S → Bool) (stopped : FileStop → S)
-    (same_free : (stop : FileStop) → free (stopped stop) ≡ is_free stop)
-    (apart : (a b : FileStop) → stopped a ≡ stopped b → a ≡ b) where
-  -- a file that says its table leads on
-  pub opened-ok : {T U : Type 0} (judge : List ℕ → Result T FileStop)
-      (next : T → Option (Result U S)) (given held : Option (List ℕ)) (table : T) → given ≡ held
-      → Meets is_free (option_map judge held) (Ok table)
-      → opened stopped given judge next ≡ next table
-  opened-ok judge next given held table same meets =
-      let said = said-ok judge held table meets in rw same (rw said.1 (rw said.2 refl))
+-- The stops of files are among those of a run: one is free there exactly where it is free for files,
+-- and two are one stop of the run only where they are the same.
+pub record HoldsStops {S : Type 0} (free : S → Bool) (stopped : FileStop → S) : Type 0 where
+  pub same_free : (stop : FileStop) → free (stopped stop) ≡ is_free stop
+  pub apart : (a b : FileStop) → stopped a ≡ stopped b → a ≡ b
 
-  -- a file that has a stop ends it there
-  pub opened-stop : {T U : Type 0} (judge : List ℕ → Result T FileStop)
-      (next : T → Option (Result U S)) (given held : Option (List ℕ)) (stop : FileStop)
-      → given ≡ held
-      → Meets is_free (option_map judge held) (Err stop)
-      → Meets free (opened stopped given judge next) (Err (stopped stop))
-  opened-stop judge next given held stop same (inl allowed) =
-      inl (subst IsTrue (sym (same_free stop)) allowed)
-  opened-stop judge next given None stop same (inr e) = cc e
-  opened-stop judge next given (Some bytes) stop same (inr e) =
-      let says : judge bytes ≡ Err stop = cc e in inr (rw same (rw says refl))
+-- a file that says its table leads on
+pub opened-ok : {T U S : Type 0} (stopped : FileStop → S) (judge : List ℕ → Result T FileStop)
+    (next : T → Option (Result U S)) (given held : Option (List ℕ)) (table : T) → given ≡ held
+    → Meets is_free (option_map judge held) (Ok table)
+    → opened stopped given judge next ≡ next table
+opened-ok stopped judge next given held table same meets =
+    let said = said-ok judge held table meets in rw same (rw said.1 (rw said.2 refl))
 
-  -- the causes of a file's stop, counted from before the files before it
-  pub causes-behind : {T U : Type 0} (stop : FileStop)
-      (first before now tally_first tally_before tally_now : ℕ)
-      → first ≤ before → tally_first ≤ tally_before
-      → HasCauses {T = T} (λ v. v) (Err stop) before now tally_before tally_now
-      → HasCauses {T = U} stopped (Err (stopped stop)) first now tally_first tally_now
-  causes-behind stop first before now tally_first tally_before tally_now later tally causes =
+-- a file that has a stop ends it there
+pub opened-stop : {T U S : Type 0} {free : S → Bool} {stopped : FileStop → S}
+    (holds : HoldsStops free stopped) (judge : List ℕ → Result T FileStop)
+    (next : T → Option (Result U S)) (given held : Option (List ℕ)) (stop : FileStop)
+    → given ≡ held → Meets is_free (option_map judge held) (Err stop)
+    → Meets free (opened stopped given judge next) (Err (stopped stop))
+opened-stop holds judge next given held stop same (inl allowed) =
+    inl (subst IsTrue (sym (holds.same_free stop)) allowed)
+opened-stop holds judge next given None stop same (inr e) = cc e
+opened-stop holds judge next given (Some bytes) stop same (inr e) =
+    let says : judge bytes ≡ Err stop = cc e in inr (rw same (rw says refl))
+
+-- the causes of a file's stop are those of the run's
+stop-causes : {T U S : Type 0} {free : S → Bool} {stopped : FileStop → S}
+    (holds : HoldsStops free stopped) (stop : FileStop) (before now tally_before tally_now : ℕ)
+    → HasCauses {T = T} (λ v. v) (Err stop) before now tally_before tally_now
+    → HasCauses {T = U} stopped (Err (stopped stop)) before now tally_before tally_now
+stop-causes holds stop before now tally_before tally_now causes = record {
+  faults = causes.faults;
+  tally = causes.tally;
+  read = λ e.
+      let same : stop ≡ ReadFault = holds.apart stop ReadFault (cc e) in
+      causes.read (ap (λ v. Err v) same);
+  long = λ kind e.
+      let same : stop ≡ Fault (too_long kind) = holds.apart stop (Fault (too_long kind)) (cc e) in
+      causes.long kind (ap (λ v. Err v) same);
+}
+
+-- causes are counted from before the files before them
+pub causes-later : {T S : Type 0} (stopped : FileStop → S) (result : Result T S)
+    (first before now tally_first tally_before tally_now : ℕ)
+    → first ≤ before → tally_first ≤ tally_before
+    → HasCauses stopped result before now tally_before tally_now
+    → HasCauses stopped result first now tally_first tally_now
+causes-later stopped result first before now tally_first tally_before tally_now later tally causes =
+    record {
+      faults = omega (arith, later, causes.faults);
+      tally = omega (arith, tally, causes.tally);
+      read = λ e. omega (arith, later, causes.read e);
+      long = λ kind e. more-later tally_first tally_before tally_now tally (causes.long kind e);
+    }
+
+-- where there is no stop no cause is asked for
+pub causes-ok : {T S : Type 0} (stopped : FileStop → S) (end : T)
+    (before now tally_before tally_now : ℕ) → before ≤ now → tally_before ≤ tally_now
+    → HasCauses stopped (Ok end) before now tally_before tally_now
+causes-ok stopped end before now tally_before tally_now later tally =
+    record { faults = later; tally = tally; read = λ e. cc e; long = λ kind e. cc e }
+
+-- these bytes, with those of one kind of file
+abbrev pub with_file : FileKind → Option (List ℕ) → Reads → Reads
+with_file file.Programmes bytes reads file.Programmes = bytes
+with_file file.Candidates bytes reads file.Candidates = bytes
+with_file file.Ranks bytes reads file.Ranks = bytes
+with_file file.Placement bytes reads file.Placement = bytes
+with_file file.Registrations bytes reads file.Registrations = bytes
+with_file kind bytes reads other = reads other
+
+with-itself : (kind : FileKind) (bytes : Option (List ℕ)) (reads : Reads)
+    → with_file kind bytes reads kind ≡ bytes
+with-itself file.Programmes bytes reads = refl
+with-itself file.Candidates bytes reads = refl
+with-itself file.Ranks bytes reads = refl
+with-itself file.Placement bytes reads = refl
+with-itself file.Registrations bytes reads = refl
+
+-- the files that are held, where that is told, and else these and one more
+abbrev pub with_read : Option Files → FileKind → Option (List ℕ) → Reads → Reads
+with_read None kind bytes reads = with_file kind bytes reads
+with_read (Some files) kind bytes reads = reads
+
+-- the file that is one more
+pub at-read : (told : Option Files) (names : FileKind → List ℕ) (kind : FileKind)
+    (bytes : Option (List ℕ)) (reads : Reads) → AreHeld told names reads
+    → IsHeld told (names kind) bytes → with_read told kind bytes reads kind ≡ bytes
+at-read None names kind bytes reads held one = with-itself kind bytes reads
+at-read (Some files) names kind bytes reads held one = sym (held kind) ∙ one
+
+pub held-with : (told : Option Files) (names : FileKind → List ℕ) (kind : FileKind)
+    (bytes : Option (List ℕ)) (reads : Reads) → AreHeld told names reads
+    → AreHeld told names (with_read told kind bytes reads)
+held-with None names kind bytes reads held = tt
+held-with (Some files) names kind bytes reads held = held
+
+-- what does not speak of a file is the same with it
+pub same-with : {A : Type 0} (told : Option Files) (kind : FileKind) (bytes : Option (List ℕ))
+    (reads : Reads) (said : Reads → A)
+    → ((given : Option (List ℕ)) (others : Reads)
+    → said (with_file kind given others) ≡ said others)
+    → said (with_read told kind bytes reads) ≡ said reads
+same-with None kind bytes reads said same = same bytes reads
+same-with (Some files) kind bytes reads said same = refl
+
+-- the files that are held, where that is told, and else none
+abbrev held_files : Option Files → (FileKind → List ℕ) → Reads
+held_files None names = λ kind. None
+held_files (Some files) names = λ kind. files (names kind)
+
+are-held : (told : Option Files) (names : FileKind → List ℕ)
+    → AreHeld told names (held_files told names)
+are-held None names = tt
+are-held (Some files) names = λ kind. refl
+
+module _ {S : Type 0} {free : S → Bool} {stopped : FileStop → S} (holds : HoldsStops free stopped)
+    (told : Option Files) (names : FileKind → List ℕ) where
+  -- where nothing more is read, all is said
+  pub none-read : {U : Type 0} (result : Result U S) (now tally : ℕ)
+      → Meets free (Some result) result → ((stop : FileStop) → result ≡ Err (stopped stop) → ⊥)
+      → AreRead told names free stopped None (λ reads. Some result) (λ reads. []) result
+      now now tally tally
+  none-read result now tally meets never = record {
+    reads = held_files told names;
+    held = are-held told names;
+    meets = meets;
+    taken = λ _. refl;
+    begun = λ _. tt;
+    causes = record {
+      faults = omega arith;
+      tally = omega arith;
+      read = λ e. absurd (never ReadFault e);
+      long = λ kind e. absurd (never (Fault (too_long kind)) e);
+    };
+  }
+
+  -- a file that has a stop is the last that is read
+  pub file-stops : {T U : Type 0} (kind : FileKind) (judge : List ℕ → Result T FileStop)
+      (next : T → Reads → Option (Result U S)) (files : T → Reads → List (List ℕ))
+      (stop : FileStop) (before now tally_before tally_now : ℕ)
+      → IsJudged told (names kind) judge (Err stop) before now tally_before tally_now
+      → AreRead told names free stopped (Some kind)
+      (λ reads. opened stopped (reads kind) judge (λ table. next table reads))
+      (λ reads. read_from (reads kind) judge (λ table. files table reads)) (Err (stopped stop))
+      before now tally_before tally_now
+  file-stops kind judge next files stop before now tally_before tally_now one =
+      let others = held_files told names in
+      let held = are-held told names in
+      let all = with_read told kind one.bytes others in
+      let same = at-read told names kind one.bytes others held one.held in
       record {
-        faults = omega (arith, later, causes.faults);
-        tally = omega (arith, tally, causes.tally);
-        read = λ e.
-            let same : stop ≡ ReadFault = apart stop ReadFault (cc e) in
-            omega (arith, later, causes.read (ap (λ v. Err v) same));
-        long = λ kind e.
-            let same : stop ≡ Fault (too_long kind) = apart stop (Fault (too_long kind)) (cc e) in
-            more-later tally_first tally_before tally_now tally
-            (causes.long kind (ap (λ v. Err v) same));
+        reads = all;
+        held = held-with told names kind one.bytes others held;
+        meets = opened-stop holds judge (λ table. next table all) (all kind) one.bytes stop same
+            one.meets;
+        taken = λ decided. taken-stop judge (λ table. files table all) (all kind) one.bytes stop
+            tally_before tally_now same one.meets one.taken
+            (subst IsFalse (holds.same_free stop) decided);
+        begun = λ unread. subst (λ v. HasBegun v tally_before tally_now) (sym same)
+            (one.begun (λ e. let is : stop ≡ ReadFault = cc e in
+            unread (ap (λ v. Err (stopped v)) is)));
+        causes = stop-causes holds stop before now tally_before tally_now one.causes;
       }
 
-  -- where there is no stop no cause is asked for
-  pub causes-ok : {U : Type 0} (table : U) (before now tally_before tally_now : ℕ) → before ≤ now
-      → tally_before ≤ tally_now
-      → HasCauses stopped (Ok table) before now tally_before tally_now
-  causes-ok table before now tally_before tally_now later tally =
-      record { faults = later; tally = tally; read = λ e. cc e; long = λ kind e. cc e }
+  -- behind a file that says its table, what the other files come to is what all come to
+  pub file-reads : {T U : Type 0} (kind : FileKind) (judge : List ℕ → Result T FileStop)
+      (next : T → Reads → Option (Result U S)) (files : T → Reads → List (List ℕ)) (table : T)
+      (second : Option FileKind) (result : Result U S)
+      (first before now tally_first tally_before tally_now : ℕ)
+      → ((bytes : Option (List ℕ)) (reads : Reads)
+      → next table (with_file kind bytes reads) ≡ next table reads)
+      → ((bytes : Option (List ℕ)) (reads : Reads)
+      → files table (with_file kind bytes reads) ≡ files table reads)
+      → IsJudged told (names kind) judge (Ok table) first before tally_first tally_before
+      → AreRead told names free stopped second (next table) (files table) result before now
+      tally_before tally_now
+      → AreRead told names free stopped (Some kind)
+      (λ reads. opened stopped (reads kind) judge (λ table. next table reads))
+      (λ reads. read_from (reads kind) judge (λ table. files table reads)) result
+      first now tally_first tally_now
+  file-reads kind judge next files table second result first before now tally_first tally_before
+      tally_now same_next same_files one rest =
+      let all = with_read told kind one.bytes rest.reads in
+      let same = at-read told names kind one.bytes rest.reads rest.held one.held in
+      record {
+        reads = all;
+        held = held-with told names kind one.bytes rest.reads rest.held;
+        meets = subst (λ v. Meets free v result)
+            (sym (opened-ok stopped judge (λ table. next table all) (all kind) one.bytes table same
+            one.meets ∙ same-with told kind one.bytes rest.reads (next table) same_next)) rest.meets;
+        taken = λ decided. taken-ok judge (λ table. files table all) (all kind) one.bytes table
+            tally_first tally_before tally_now same one.meets one.taken
+            (subst (λ v. AreTaken v tally_before tally_now)
+            (sym (same-with told kind one.bytes rest.reads (files table) same_files))
+            (rest.taken decided));
+        begun = λ unread. subst (λ v. HasBegun v tally_first tally_now) (sym same)
+            (begun-later one.bytes tally_first tally_before tally_now rest.causes.tally
+            (one.begun (λ e. cc e)));
+        causes = causes-later stopped result first before now tally_first tally_before tally_now
+            one.causes.faults one.causes.tally rest.causes;
+      }
+
+-- what reading came to that ended in a stop, of a result that is this stop
+pub stopped-as : {T S : Type 0} {told : Option Files} {names : FileKind → List ℕ}
+    {free : S → Bool} {stopped : FileStop → S} {first : Option FileKind}
+    {said : Reads → Option (Result T S)} {files : Reads → List (List ℕ)}
+    {before now tally_before tally_now : ℕ} (stop : S) (result : Result T S)
+    → IsErrAnd result (λ found. found ≡ stop)
+    → AreRead told names free stopped first said files (Err stop) before now tally_before tally_now
+    → AreRead told names free stopped first said files result before now tally_before tally_now
+stopped-as {told} {names} {free} {stopped} {first} {said} {files} {before} {now} {tally_before}
+    {tally_now} stop result is reading =
+    at-error (λ r. AreRead told names free stopped first said files r before now tally_before
+    tally_now) result stop is reading
+
+said-behind : {T U S : Type 0} (stopped : FileStop → S) (said : Result T FileStop)
+    (next : T → Option (Result U S)) (end : U) → and_then stopped said next ≡ Some (Ok end)
+    → (table : T) × (said ≡ Ok table) × (next table ≡ Some (Ok end))
+said-behind stopped (Err stop) next end e = cc e
+said-behind stopped (Ok table) next end e = (table, refl, e)
+
+-- where all is said in the end, a file was there, and said its table
+pub said-from : {T U S : Type 0} (stopped : FileStop → S) (held : Option (List ℕ))
+    (judge : List ℕ → Result T FileStop) (next : T → Option (Result U S)) (end : U)
+    → opened stopped held judge next ≡ Some (Ok end)
+    → (bytes : List ℕ) × (held ≡ Some bytes)
+    × (table : T) × (judge bytes ≡ Ok table) × (next table ≡ Some (Ok end))
+said-from stopped None judge next end e = cc e
+said-from stopped (Some bytes) judge next end e =
+    let behind = said-behind stopped (judge bytes) next end e in
+    (bytes, refl, behind.0, behind.1, behind.2)
 
 -- a file is judged so under another name for the same things
 pub judged-as : {T : Type 0} (told known : Option Files) (name word : List ℕ)

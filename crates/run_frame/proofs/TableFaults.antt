@@ -53,7 +53,8 @@ other-number field low high =
     (λ _. tt) (λ _. λ e. cc e))
     (λ _. λ e. cc e)
 
-other-least : (fault : ℕ → Option FileFault) → ((k : ℕ) → IsOther (fault k)) → (n : ℕ)
+-- the first of the faults of several rows is one of them
+pub other-least : (fault : ℕ → Option FileFault) → ((k : ℕ) → IsOther (fault k)) → (n : ℕ)
     → IsOther (least_fault fault n)
 unfolding least_fault
 other-least fault each zero = tt

@@ -5,8 +5,8 @@ use Rattle.place_edges.specs.Shelf.{HasBytes, file_limit, tally_with}
 use Rattle.programme_table.specs.Table.{codes_of}
 use Rattle.candidate_table.specs.Table.{IsPreferenceList, candidates_table}
 use Rattle.run_frame.proofs.Judging.{judged-stop}
+use Rattle.run_frame.proofs.JudgedTables.{judged-long, judged-table, table-ok}
 use Rattle.place_run.specs.Tables.{candidates_said}
-use Rattle.place_run.proofs.Judging.{judged-long, judged-table, table-ok}
 use Rattle.place_run.proofs.TableFaults.{other-candidates}
 use Rattle.place_run.proofs.inputs.read_candidates.Goals as goal
 

@@ -3,8 +3,8 @@ use Rattle.place_base.specs.declared.fault.FileKind.TheVariants as file
 use Rattle.place_edges.specs.Shelf.{HasBytes, file_limit, tally_with}
 use Rattle.programme_table.specs.Table.{programmes_table}
 use Rattle.run_frame.proofs.Judging.{judged-stop}
+use Rattle.run_frame.proofs.JudgedTables.{judged-long, judged-table}
 use Rattle.place_run.specs.Tables.{programmes_said}
-use Rattle.place_run.proofs.Judging.{judged-long, judged-table}
 use Rattle.place_run.proofs.TableFaults.{other-programmes}
 use Rattle.place_run.proofs.inputs.read_programmes.Goals as goal
 

@@ -5,8 +5,8 @@ use Rattle.place_edges.specs.Shelf.{HasBytes, file_limit, tally_with}
 use Rattle.candidate_table.specs.Table.{numbers_of}
 use Rattle.rank_lists.specs.Table.{RankTable, ranks_table}
 use Rattle.run_frame.proofs.Judging.{judged-stop}
+use Rattle.run_frame.proofs.JudgedTables.{judged-long, judged-table, table-ok, table-read}
 use Rattle.place_run.specs.Tables.{ranks_said}
-use Rattle.place_run.proofs.Judging.{judged-long, judged-table, table-ok, table-read}
 use Rattle.place_run.proofs.Markets.{types-in-ranks}
 use Rattle.place_run.proofs.TableFaults.{other-ranks}
 use Rattle.place_run.proofs.inputs.read_ranks.Goals as goal

@@ -21,7 +21,8 @@ returns-clause-answers g c =
     let reading = c.in_ok-inputs.ensures.reading in
     let text = bases-made c.in_ok-inputs.inputs c.in_ok-placed.placed _ c.in_ok-placed.ensures
     c.in_ok-text.ensures in
-    let both = answer-made (λ tables. done (bases_of tables)) tables_said tables_read _ _ _ _ _ _ _
+    let both = answer-made (λ tables. done (bases_of tables)) tables_said tables_read _
+    (texts c.args.words.now) _ _ _ _ _
     (λ reads answer. IsBaseText reads answer.text) c.in_ok-inputs.inputs
     (done c.in_ok-text.text.items) reading (ap done text.made)
     (bases-text reading.reads c.in_ok-inputs.inputs _ reading.meets text) in
@@ -33,7 +34,7 @@ returns-clause-answers g c =
 
 pub returns-in_err-text-clause-answers : goal.returns-in_err-text-clause-answers
 returns-in_err-text-clause-answers g c =
-    let reading = answer-refused (λ tables. done (bases_of tables)) tables_said tables_read _ _ _ _ _ _
-    _ c.in_ok-inputs.inputs c.in_ok-inputs.ensures.reading in
+    let reading = answer-refused (λ tables. done (bases_of tables)) tables_said tables_read _
+    (texts c.args.words.now) _ _ _ _ _ c.in_ok-inputs.inputs c.in_ok-inputs.ensures.reading in
     answer-error _ (texts c.args.words.now) _ c.from_residual-in_err-text.result (File Memory) _ _ _ _
     c.from_residual-in_err-text.ensures.1 (record { reading = reading; promise = tt })

@@ -27,8 +27,8 @@ returns-clause-answers g c =
     c.new.ensures in
     let filled = filled-in c.in_ok-inputs.inputs c.in_ok-placed.placed c.in_ok-placed.ensures
     c.full_entries_are_filled.ensures in
-    let both = answer-made (λ tables. done (reasons_of tables)) tables_said tables_read _ _ _ _ _ _
-    _ (λ reads answer. IsReasonsText reads answer.text) c.in_ok-inputs.inputs (done c.new.result)
+    let both = answer-made (λ tables. done (reasons_of tables)) tables_said tables_read _
+    (texts c.args.words.now) _ _ _ _ _ (λ reads answer. IsReasonsText reads answer.text) c.in_ok-inputs.inputs (done c.new.result)
     reading (ap done text.made)
     (reasons-text reading.reads c.in_ok-inputs.inputs _ reading.meets text filled) in
     subst (λ (v : Answer). IsAnswering (g.H.Shelf.files c.args.shelf.now) (texts c.args.words.now)
@@ -39,7 +39,7 @@ returns-clause-answers g c =
 
 pub returns-in_err-bases-clause-answers : goal.returns-in_err-bases-clause-answers
 returns-in_err-bases-clause-answers g c =
-    let reading = answer-refused (λ tables. done (reasons_of tables)) tables_said tables_read _ _ _ _ _ _
-    _ c.in_ok-inputs.inputs c.in_ok-inputs.ensures.reading in
+    let reading = answer-refused (λ tables. done (reasons_of tables)) tables_said tables_read _
+    (texts c.args.words.now) _ _ _ _ _ c.in_ok-inputs.inputs c.in_ok-inputs.ensures.reading in
     answer-error _ (texts c.args.words.now) _ c.from_residual-in_err-bases.result (File Memory) _ _ _ _
     c.from_residual-in_err-bases.ensures.1 (record { reading = reading; promise = tt })

@@ -7,8 +7,8 @@ use Rattle.market.specs.Stability.{held_by}
 use Rattle.placement_file.specs.Table.{placement_in}
 use Rattle.run_frame.specs.Files.{IsJudged}
 use Rattle.run_frame.proofs.Judging.{judged-stop}
+use Rattle.run_frame.proofs.JudgedTables.{judged-long, judged-table, table-ok}
 use Rattle.place_run.specs.Tables.{Tables, placement_said}
-use Rattle.place_run.proofs.Judging.{judged-long, judged-table, table-ok}
 use Rattle.place_run.proofs.TableFaults.{other-placement}
 use Rattle.place_run.proofs.inputs.Inputs.read_placement.Goals as goal
 

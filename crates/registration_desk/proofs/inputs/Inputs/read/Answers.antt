@@ -1,8 +1,8 @@
 use Rattle.std.proofs.Common.{Ok, Err, refl}
 use Rattle.registration_desk.specs.Says.{requests_said, seats_said}
 use Rattle.registration_desk.specs.Words.{texts}
-use Rattle.run_frame.proofs.Readings.{granted-as, judged-as}
-use Rattle.registration_desk.proofs.BothFiles.{both-files, may-open-requests, placement-stops, requests-stop, stopped-as}
+use Rattle.run_frame.proofs.Readings.{granted-as, judged-as, stopped-as}
+use Rattle.registration_desk.proofs.BothFiles.{both-files, may-open-requests, placement-stops, requests-stop}
 use Rattle.registration_desk.proofs.inputs.Inputs.read.Goals as goal
 
 pub returns-in_err-seats-clause-reading : goal.returns-in_err-seats-clause-reading
@@ -10,7 +10,7 @@ returns-in_err-seats-clause-reading g c =
     let stop = c.in_err-seats.field-0.0 in
     let one = judged-as _ _ _ _ seats_said (Err stop) _ _ _ _ refl c.word.ensures
     c.in_err-seats.ensures.judged in
-    stopped-as _ (texts c.args.words.now) _ c.from_residual.result _ _ _ _ c.from_residual.ensures.1
+    stopped-as _ c.from_residual.result c.from_residual.ensures.1
     (placement-stops _ (texts c.args.words.now) stop _ _ _ _ one)
 
 pub read_request_list-requires : goal.read_request_list-requires
@@ -29,9 +29,8 @@ returns-in_err-requests-clause-reading g c =
     c.in_ok-seats.ensures.judged in
     let two = judged-as _ _ _ _ requests_said (Err stop) _ _ _ _
     c.in_ok-seats.ensures.files c.word-2.ensures c.in_err-requests.ensures.judged in
-    stopped-as _ (texts c.args.words.now) _ c.from_residual-in_err-requests.result _ _ _ _
-    c.from_residual-in_err-requests.ensures.1
-    (requests-stop _ (texts c.args.words.now) seats stop _ _ _ _ _ _ one two)
+    stopped-as _ c.from_residual-in_err-requests.result c.from_residual-in_err-requests.ensures.1
+    (requests-stop _ (texts c.args.words.now) seats _ _ _ _ one stop _ _ two)
 
 pub returns-clause-reading : goal.returns-clause-reading
 returns-clause-reading g c =
@@ -41,4 +40,4 @@ returns-clause-reading g c =
     c.in_ok-seats.ensures.judged in
     let two = judged-as _ _ _ _ requests_said (Ok requests) _ _ _ _
     c.in_ok-seats.ensures.files c.word-2.ensures c.in_ok-requests.ensures.judged in
-    both-files _ (texts c.args.words.now) seats requests _ _ _ _ _ _ one two
+    both-files _ (texts c.args.words.now) seats _ _ _ _ one requests _ _ two
