@@ -605,10 +605,11 @@ const LACKING: [(&[(&str, &[u8])], u8, &[u8], u64, u64); 4] = [
     ),
 ];
 
-// Each shelf ends `place` so.
+// Each shelf ends these words so.
 fn are_lacking(
     rt: &(impl Threads + Sync + Abort),
     alloc: Global,
+    texts: &[&str],
     shelves: &[(&[(&str, &[u8])], u8, &[u8], u64, u64)],
 ) -> Result<(), Fail> {
     for (files, code, note, faults, calls) in shelves {
@@ -616,7 +617,7 @@ fn are_lacking(
         ends(
             rt,
             alloc,
-            &PLACE,
+            texts,
             shelf,
             &OpenGate,
             (*code, b"", *note, *faults, *calls),
@@ -627,7 +628,10 @@ fn are_lacking(
 
 #[test]
 fn files_are_opened_in_order(rt: HostRuntime) -> Result<(), Fail> {
-    are_lacking(&rt, rt.alloc(), &LACKING)
+    for texts in PLACE_BY {
+        are_lacking(&rt, rt.alloc(), texts, &LACKING)?;
+    }
+    Ok(())
 }
 
 const FREED_SEAT: [(&str, &[u8]); 3] = [("p", PROGRAMMES), ("c", CANDIDATES), ("r", RANKS)];
