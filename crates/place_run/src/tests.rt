@@ -15,6 +15,8 @@ mod large_files;
 mod parts;
 // Each put fails once.
 mod refused_in_turn;
+// Runs that cannot fail.
+mod sure_runs;
 // Markets that are placed.
 mod worked_markets;
 
