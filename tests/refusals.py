@@ -4,7 +4,8 @@
 Build the program first, as with ./place. The parts, all of them where none is named:
 
     memory   each allocation of each command fails once, until a run asks for no more of them; needs a C compiler
-    limits   the address space is limited, from nothing up step by step, until the command is done
+    limits   the address space is limited, from nothing up step by step, until the command is done; on a market of
+             3,000 candidates, since a small one is placed wherever the program begins
     system   a full disk, a closed pipe, files that are missing, a directory or a pipe, words that are no text
 
 Each run has to end by its own status: done with the whole text, or the refusal with its line on standard error and
@@ -21,6 +22,7 @@ import threading
 HERE = os.path.dirname(os.path.abspath(__file__))
 ROOT = os.path.dirname(HERE)
 PROGRAM = os.path.join(ROOT, "crates", "place_program", "out", "place_program")
+WORKED = ("examples", os.path.join("examples", "three_rounds"))
 DONE, NO_WORDS, WORDS, FILE_FAULT, READ_FAULT, WRITE_FAULT, MEMORY, AUDIT_NO = range(8)
 WANT_OF_MEMORY = b"want of memory\n"
 LARGEST_LIMIT = 1 << 30
@@ -89,15 +91,35 @@ def files_in(folder, *names):
     return [os.path.join(ROOT, folder, name + ".csv") for name in names]
 
 
-def commands(workers):
-    """Each command that the program knows, on each of the two markets, with the status and the text of a free run."""
+def made_market(room):
+    """A folder with a market of 3,000 candidates, 60 programmes and 4 types, and its placement."""
+    folder = os.path.join(room, "made")
+    os.mkdir(folder)
+    programmes = ["programme,type,quota"] + ["%d,T%d,%d" % (code, code % 4, 30 + code % 7) for code in range(1, 61)]
+    lists = [[(number * 7 + 13 * place) % 60 + 1 for place in range(number % 9)] for number in range(1, 3_001)]
+    candidates = ["candidate,list"] + ["%d,%s" % (at, ";".join(map(str, codes))) for at, codes in enumerate(lists, 1)]
+    ranks = ["candidate,type,rank"]
+    for kind, factor in enumerate((7, 11, 13, 17)):
+        ranks += ["%d,T%d,%d" % (number, kind, number * factor % 3_001) for number in range(1, 3_001)]
+    names = ("programmes", "candidates", "ranks")
+    for name, lines in zip(names, (programmes, candidates, ranks)):
+        with open(os.path.join(folder, name + ".csv"), "w") as file:
+            file.write("\n".join(lines) + "\n")
+    with open(os.path.join(folder, "placement.csv"), "wb") as file:
+        file.write(run(["place", *files_in(folder, *names)])[1])
+    return folder
+
+
+def commands(workers, folders, numbers):
+    """Each command that the program knows, on each of the markets and with these numbers of one to make, with the
+    status and the text of a free run."""
     found = []
-    for folder in ("examples", os.path.join("examples", "three_rounds")):
+    for folder in folders:
         files = files_in(folder, "programmes", "candidates", "ranks")
         placement = files_in(folder, "placement")
         for words in (["place", *files], ["base", *files], ["reasons", *files], ["audit", *files, *placement]):
             found.append((words[0] + " " + os.path.basename(folder), words))
-    found.append(("make", ["make", "7", "300", "40", "5"]))
+    found.append(("make", ["make", *numbers]))
     for name, words in found:
         words = words + ["--workers", str(workers)]
         status, text, notes = run(words)
@@ -143,7 +165,7 @@ def memory(tally, room):
             return ended, int.from_bytes(file.read(), sys.byteorder)
 
     for workers in (1, 7):
-        for name, words, status, text in commands(workers):
+        for name, words, status, text in commands(workers, WORKED, ["7", "300", "40", "5"]):
             counts, wrong, number = {}, 0, 0
             while True:
                 number += 1
@@ -175,13 +197,14 @@ def limits(tally, room):
     def begins(limit):
         return limited(limit, []) == (WORDS, b"", b"words NoCommand 0\n")
 
+    made = made_market(room)
     # below this the system does not even begin the program
     low, high = 0, LARGEST_LIMIT
     while high - low > STEP:
         middle = (low + high) // 2
         low, high = (low, middle) if begins(middle) else (middle, high)
     for workers in (1, 7):
-        for name, words, status, text in commands(workers):
+        for name, words, status, text in commands(workers, [made], ["7", "3000", "60", "4"]):
             counts, wrong, limit, done_from = {}, 0, 0, 0
             while limit < LARGEST_LIMIT:
                 ended = limited(limit, words)
@@ -191,8 +214,8 @@ def limits(tally, room):
                     print("  limit %d KiB: %s" % (limit >> 10, ended))
                 counts[answer or "wrong"] = counts.get(answer or "wrong", 0) + 1
                 # where the command is done, only threads ask for more: their stacks are large, and so are the steps
-                step = STEP if limit < done_from + 8 * STEP else limit // 8
-                limit += step
+                step = max(STEP, limit // 256)
+                limit += step if limit < done_from + 8 * step else limit // 8
                 if answer != "done":
                     done_from = limit
             tally.refused += counts.get("want of memory", 0)

@@ -3,6 +3,8 @@ ghost use Rattle.std.specs.Prelude.{◌≡◌, ◌≤◌, ◌<◌, IfOk, length}
 
 // Placement files, and what an audit says of them.
 mod audits;
+// Each call of a shelf fails once.
+mod failed_reads;
 // Files with a fault.
 mod faulty_files;
 // Gates that count turns.
@@ -13,6 +15,8 @@ mod large_files;
 mod parts;
 // Each put fails once.
 mod refused_in_turn;
+// Runs that cannot fail.
+mod sure_runs;
 // Markets that are placed.
 mod worked_markets;
 

@@ -2,7 +2,7 @@
 use super::{BAD_CANDIDATES, BAD_RANKS, CANDIDATES, PROGRAMMES, TWENTY_FIVE_PROGRAMMES};
 
 // Programmes, candidates and ranks, and the note of their first fault.
-pub(super) const FAULTY: [(&[u8], &[u8], &[u8], &[u8]); 62] = [
+pub(super) const FAULTY: [(&[u8], &[u8], &[u8], &[u8]); 64] = [
     // The programmes come first, whatever is wrong with the other files.
     (
         b"",
@@ -377,5 +377,18 @@ pub(super) const FAULTY: [(&[u8], &[u8], &[u8], &[u8]); 62] = [
         CANDIDATES,
         b"candidate,type,rank\n99,TYT,7\n\n99,TYT,8\n",
         b"fault ranks line 4 field 2 F06 Duplicate earlier 2\n",
+    ),
+    // The ranks end within their last row.
+    (
+        PROGRAMMES,
+        CANDIDATES,
+        b"candidate,type,rank\n1,SAY,1\n2,SAY,2\n1,EA,1\n2,EA",
+        b"fault ranks line 5 field 0 F02 FieldCount earlier 0\n",
+    ),
+    (
+        PROGRAMMES,
+        CANDIDATES,
+        b"candidate,type,rank\n1,SAY,1\n2,SAY,2\n1,EA,1\n2,EA,",
+        b"fault ranks line 5 field 3 F03 NotNumber earlier 0\n",
     ),
 ];

@@ -1,7 +1,10 @@
-// Gates that count the turns which a run draws.
+// Gates that count the turns which a run draws, and one that slows a worker down.
+use super::worked_markets::{FIVE_TYPES, MARKETS};
+use super::{PLACE_BY, ends, files_of};
 use gate_workers::{Gate, GatePoint};
 use std::sync::atomic::Ordering::SeqCst;
 use std::sync::atomic::{AtomicBool, AtomicU64};
+use std::test::Fail;
 
 // Counts the turns that were drawn, and holds nobody.
 #[derive(Drop)]
@@ -91,4 +94,47 @@ fn waits_for(draws: &Draws, several: u64) -> bool {
         }
     }
     false
+}
+
+// Lets one worker look a thousand times, at each point, at a flag that nobody raises.
+#[derive(Drop)]
+struct Slow {
+    worker: u32,
+    flag: AtomicBool,
+}
+
+impl Gate for Slow {
+    fn at(&self, worker: u32, _point: GatePoint) {
+        if worker == self.worker {
+            let _ = is_raised(&self.flag);
+        }
+    }
+}
+
+// Looks a thousand times, at most, whether the flag is raised.
+fn is_raised(flag: &AtomicBool) -> bool {
+    for _ in 0..1_000u32 {
+        if flag.load(SeqCst) {
+            return true;
+        }
+    }
+    false
+}
+
+#[test]
+fn whichever_of_seven_workers_is_slow_the_placement_is_the_same(
+    rt: HostRuntime,
+) -> Result<(), Fail> {
+    let alloc = rt.alloc();
+    let market = &MARKETS[FIVE_TYPES];
+    for worker in 0..7 {
+        let gate = Slow {
+            worker,
+            flag: AtomicBool::new(false),
+        };
+        let files = files_of(alloc, market)?;
+        let placed = (0, market.placed, b"".as_slice(), 0, 9);
+        ends(&rt, alloc, PLACE_BY[3], files, &gate, placed)?;
+    }
+    Ok(())
 }

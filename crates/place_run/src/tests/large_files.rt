@@ -1,7 +1,8 @@
 // Files at their limits, and many candidates.
-use super::{FREED_SEAT, PLACE, ends, run, shelf};
+use super::{FREED_SEAT, PLACE, PLACED, counts_of, ends, run, shelf, words};
+use crate::run_words;
 use gate_workers::OpenGate;
-use place_edges::MemShelf;
+use place_edges::{MemShelf, MemSink, RepeatShelf};
 use record_files::{Field, put_row_2, put_row_3};
 use std::alloc::{AllocError, Global};
 use std::test::Fail;
@@ -50,6 +51,56 @@ fn a_line_may_have_1024_bytes_in_each_file(rt: HostRuntime) -> Result<(), Fail> 
         let ran = run(&rt, alloc, &PLACE, long_lines(alloc, sizes)?, &OpenGate)?;
         assert_eq!(rt; ran.notes.bytes(), note.as_bytes());
     }
+    Ok(())
+}
+
+// The candidates of the freed seat, the first with one code behind so many zeros.
+fn zeros_before_a_code(alloc: Global, zeros: usize) -> Result<Vec<u8>, AllocError> {
+    let mut bytes = b"candidate,list\n1,".to_vec(alloc)?;
+    for _ in 0..zeros {
+        bytes.push(b'0')?;
+    }
+    bytes.extend_from_slice(b"101\n2,201\n")?;
+    Ok(bytes)
+}
+
+// The files of the freed seat with these candidates.
+fn with_zeros(alloc: Global, zeros: usize) -> Result<MemShelf, AllocError> {
+    let mut files = shelf(alloc, &FREED_SEAT)?;
+    let candidates = zeros_before_a_code(alloc, zeros)?;
+    files.add(String::from_str(alloc, "c")?, candidates)?;
+    Ok(files)
+}
+
+#[test]
+fn a_code_may_have_as_many_zeros_as_fit_in_its_line(rt: HostRuntime) -> Result<(), Fail> {
+    let alloc = rt.alloc();
+    let placed = (0, PLACED, b"".as_slice(), 0, 9);
+    let files = with_zeros(alloc, 1_019)?;
+    ends(&rt, alloc, &PLACE, files, &OpenGate, placed)?;
+    let counted = counts_of(&rt, alloc, with_zeros(alloc, 1_019)?);
+    assert_eq!(rt; counted.ok(), Some((1, 0, 4)));
+    let note = b"fault candidates line 2 field 0 F10 LineTooLong earlier 0\n";
+    let faulty = (3, b"".as_slice(), note.as_slice(), 0, 6);
+    let files = with_zeros(alloc, 1_020)?;
+    ends(&rt, alloc, &PLACE, files, &OpenGate, faulty)?;
+    Ok(())
+}
+
+#[test]
+fn a_file_of_more_than_2_to_the_30_bytes_is_too_long(rt: HostRuntime) -> Result<(), Fail> {
+    let alloc = rt.alloc();
+    let words = words(alloc, &PLACE)?;
+    let mut shelf = RepeatShelf::new(b'x', (1 << 30) + 1);
+    let mut out = MemSink::new(alloc, 16, 65_536)?;
+    let mut notes = MemSink::new(alloc, 16, 65_536)?;
+    let status = run_words(
+        &rt, alloc, &words, &mut shelf, &mut out, &mut notes, &OpenGate,
+    );
+    assert_eq!(rt; status.code(), 3);
+    assert_eq!(rt; out.bytes(), b"".as_slice());
+    let note = b"fault programmes line 0 field 0 F11 FileTooLong earlier 0\n";
+    assert_eq!(rt; notes.bytes(), note.as_slice());
     Ok(())
 }
 

@@ -24,7 +24,10 @@ pub(super) struct Worked {
     pub(super) counts: (u32, u32, u64),
 }
 
-pub(super) const MARKETS: [Worked; 13] = [
+// The place of the market of five score types among them.
+pub(super) const FIVE_TYPES: usize = 11;
+
+pub(super) const MARKETS: [Worked; 14] = [
     // An exchange: both candidates want the other's programme, and hold the one in which their rank
     // is better.
     Worked {
@@ -179,5 +182,16 @@ pub(super) const MARKETS: [Worked; 13] = [
         reasons: b"candidate,programme,reason,base\n1,101,PLACED,-\n1,201,BELOW,-\n\
             2,201,PLACED,-\n",
         counts: (2, 1, 6),
+    },
+    // The ranks end before their last row.
+    Worked {
+        programmes: PROGRAMMES,
+        candidates: CANDIDATES,
+        ranks: b"candidate,type,rank\n1,SAY,1\n2,SAY,2\n1,EA,1\n",
+        placed: b"candidate,programme\n1,101\n2,-\n",
+        base: b"programme,quota,held,base\n101,1,1,1\n201,1,0,-\n",
+        reasons: b"candidate,programme,reason,base\n1,101,PLACED,-\n1,201,BELOW,-\n\
+            2,201,NORANK,-\n",
+        counts: (2, 1, 4),
     },
 ];
