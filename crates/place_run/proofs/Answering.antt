@@ -1,82 +1,17 @@
--- An answer that is made of what was read, and why there is none.
-use Rattle.std.proofs.Common.{◌≡◌, ℕ, List, Option, Some, Result, Ok, Err, refl, sym, subst, ap, ◌∙◌, inl, inr, ⊎_elim}
+-- An answer that is an error, and words that are no command.
+use Rattle.std.proofs.Common.{◌≡◌, ℕ, List, Option, Result, Err, refl, sym, subst, inr}
 use Rattle.std.specs.Prelude.{IsErrAnd}
-use Rattle.place_base.specs.declared.fault.FileKind.{FileKind}
 use Rattle.command_words.specs.declared.words.WordsFault.{WordsFault}
 use Rattle.command_words.specs.declared.words.Command.{Command}
 use Rattle.place_edges.specs.Shelf.{Files}
-use Rattle.run_frame.specs.Files.{Reads}
-use Rattle.run_frame.specs.declared.stop.FileStop.TheVariants as unread
 use Rattle.run_frame.proofs.Parts.{at-error}
-use Rattle.run_frame.proofs.Readings.{causes-ok, none-read}
+use Rattle.run_frame.proofs.Readings.{none-read}
 use Rattle.place_run.specs.Answers.{Answer}
-use Rattle.place_run.specs.Runs.{IsAnswering, IsReading}
-use Rattle.place_run.specs.Says.{answered, named}
+use Rattle.place_run.specs.Runs.{IsAnswering}
+use Rattle.place_run.specs.Says.{named}
 use Rattle.place_run.specs.declared.status.Stop.{Stop}
-use Rattle.place_run.specs.declared.status.Stop.TheVariants.{File, Words}
+use Rattle.place_run.specs.declared.status.Stop.TheVariants.{Words}
 use Rattle.place_run.proofs.Readings.{holds-stops}
-
-module _ {T : Type 0} (make : T → Answer) (said : Reads → Option (Result T Stop))
-    (files : Reads → List (List ℕ)) (told : Option Files) (words : List (List ℕ))
-    (first : Option FileKind) (before now tally_before tally_now : ℕ) where
-  -- an answer is made of what was read, and keeps what is promised of it
-  pub answer-made : (Keeps : Reads → Answer → Type 0) (read : T) (answer : Answer)
-      → (reading : IsReading told words first said files (Ok read) before now tally_before
-      tally_now)
-      → answer ≡ make read → Keeps reading.reads answer
-      → (all : IsReading told words first (λ reads. answered make (said reads)) files (Ok answer)
-      before now tally_before tally_now)
-      × Keeps all.reads answer
-  answer-made Keeps read answer reading same kept = (
-    record {
-      reads = reading.reads;
-      held = reading.held;
-      meets = ap (answered make) reading.meets ∙ ap (λ v. Some (Ok v)) (sym same);
-      taken = λ _. reading.taken tt;
-      begun = λ _. reading.begun (λ e. cc e);
-      causes = causes-ok File _ before now tally_before tally_now reading.causes.faults
-          reading.causes.tally;
-    },
-    kept,
-  )
-
-  -- where the reading stopped, there is none
-  pub answer-stopped : (stop : Stop)
-      → IsReading told words first said files (Err stop) before now tally_before tally_now
-      → IsReading told words first (λ reads. answered make (said reads)) files (Err stop) before now
-      tally_before tally_now
-  answer-stopped stop reading = record {
-    reads = reading.reads;
-    held = reading.held;
-    meets = ⊎_elim (λ free. inl free) (λ is. inr (ap (answered make) is)) reading.meets;
-    taken = reading.taken;
-    begun = λ never. reading.begun (λ e. never (ap (λ v. Err v) (cc e)));
-    causes = record {
-      faults = reading.causes.faults;
-      tally = reading.causes.tally;
-      read = λ e. reading.causes.read (ap (λ v. Err v) (cc e));
-      long = λ kind e. reading.causes.long kind (ap (λ v. Err v) (cc e));
-    };
-  }
-
-  -- memory may be refused once the files are read
-  pub answer-refused : (read : T)
-      → IsReading told words first said files (Ok read) before now tally_before tally_now
-      → IsReading told words first (λ reads. answered make (said reads)) files
-      (Err (File unread.Memory)) before now tally_before tally_now
-  answer-refused read reading = record {
-    reads = reading.reads;
-    held = reading.held;
-    meets = inl refl;
-    taken = λ decided. cc decided;
-    begun = λ _. reading.begun (λ e. cc e);
-    causes = record {
-      faults = reading.causes.faults;
-      tally = reading.causes.tally;
-      read = λ e. cc e;
-      long = λ kind e. cc e;
-    };
-  }
 
 -- an answer that is an error
 pub answer-error : (told : Option Files) (words : List (List ℕ))
@@ -85,8 +20,8 @@ pub answer-error : (told : Option Files) (words : List (List ℕ))
     → IsAnswering told words command (Err stop) before now tally_before tally_now
     → IsAnswering told words command answer before now tally_before tally_now
 answer-error told words command answer stop before now tally_before tally_now is answers =
-    at-error (λ v. IsAnswering told words command v before now tally_before tally_now) answer stop is
-    answers
+    at-error (λ v. IsAnswering told words command v before now tally_before tally_now) answer stop
+    is answers
 
 -- words that are no command are answered with their refusal, before a file is read
 pub words-refused : (told : Option Files) (words : List (List ℕ))

@@ -1,5 +1,6 @@
 -- What a run leaves of a sink, and what follows where no read and no write failed.
-use Rattle.std.proofs.Common.{◌≡◌, ◌⊎◌, ◌∙◌, ◌≤◌, ℕ, List, [], refl, sym, ap, subst, take, inl, inr, arith, Option, Some, None, Result, Ok, Err, IfOk, ⊎_elim}
+use Rattle.std.proofs.Common.{◌≡◌, ◌⊎◌, ◌∙◌, ◌≤◌, ℕ, List, refl, sym, ap, subst, inl, inr, Option, Some, None, Result, Ok, Err, IfOk, ⊎_elim}
+use Rattle.std.specs.Prelude.{IsTrue}
 use Rattle.place_base.specs.declared.fault.FileKind.TheVariants as file
 use Rattle.command_words.specs.Words.{command_of}
 use Rattle.command_words.specs.declared.words.Command.{Command}
@@ -15,13 +16,15 @@ use Rattle.run_frame.specs.Meetings.{Meets}
 use Rattle.run_frame.specs.Stops.{too_long}
 use Rattle.run_frame.specs.declared.stop.FileStop.{FileStop}
 use Rattle.run_frame.specs.declared.stop.FileStop.TheVariants.{Fault, ReadFault, Memory}
-use Rattle.run_frame.specs.Runs.{IsConstant, StaysInFront}
-use Rattle.run_frame.specs.Says.{and_then, opened}
+use Rattle.run_frame.specs.Runs.{IsDone, IsWhole}
+use Rattle.run_frame.specs.Says.{answered}
+use Rattle.run_frame.proofs.Answering.{answered-stop, opened-no-stop}
+use Rattle.run_frame.proofs.Endings as frame
+use Rattle.run_frame.proofs.Endings.{AreApart, answered-finished, stopped, whole-run, words-cause, write-cause}
 use Rattle.run_frame.proofs.JudgedTables.{judged-ok}
-use Rattle.run_frame.proofs.Parts.{appended-nothing}
-use Rattle.place_run.specs.Runs.{HasCause, IsAnswering, IsComplete, IsFinished, IsWhole, LeavesSink, PlacesWhole, PrintsReports, PrintsVerdict, PrintsWorstStable, status_said, text_said}
+use Rattle.place_run.specs.Runs.{HasCause, IsAnswering, IsComplete, IsFinished, LeavesSink, PlacesWhole, PrintsReports, PrintsVerdict, PrintsWorstStable, endings}
 use Rattle.place_run.specs.Answers.{Answer, done}
-use Rattle.place_run.specs.Says.{KeepsPromise, answered, audited_said, behind_tables, says, tables_said}
+use Rattle.place_run.specs.Says.{KeepsPromise, audited_said, behind_tables, named, says, tables_said}
 use Rattle.place_run.specs.Statuses.{ended, status_of}
 use Rattle.place_run.specs.Stops.{is_free}
 use Rattle.place_run.specs.Tables.{HasNoFault, Tables, ThreeFiles, candidates_said, codes_in, numbers_in, programmes_said, ranks_said, tables_in}
@@ -62,73 +65,47 @@ ended-same ending.Done ending.AuditNo e = cc e
 ended-same ending.AuditNo ending.Done e = cc e
 ended-same ending.AuditNo ending.AuditNo e = refl
 
-no-stop : (status : Status) (stop : Stop) → stop_in status ≡ None → status ≡ status_of stop → ⊥
-no-stop status stop none same =
-    let e : None ≡ Some stop = sym none ∙ ap stop_in same ∙ stop-in stop in cc e
+-- so it is no stop's
+unstopped : (end : Ending) (stop : Stop) → ended end ≡ status_of stop → ⊥
+unstopped end stop e =
+    let never : None ≡ Some stop = sym (ended-well end).0 ∙ ap stop_in e ∙ stop-in stop in cc never
 
--- a status that is a stop's is that of the answer
-stopped : {K : Type 0} (written : K → Option (List ℕ)) (faults : K → ℕ)
-    (answer : Result Answer Stop) (status : Status) (old new : K) (stop : Stop)
-    → IsFinished written faults answer status old new → status ≡ status_of stop
-    → (answer ≡ Err stop) × (new ≡ old)
-stopped written faults (Ok answer) status old new stop (inl (well, wrote)) same =
-    absurd (no-stop status stop (ap stop_in well ∙ (ended-well answer.ending).0) same)
-stopped written faults (Ok answer) status old new stop (inr (fault, wrote, rose)) same =
-    absurd (no-stop status stop (ap stop_in fault) same)
-stopped written faults (Err other) status old new stop (is, same_sink) same =
-    let e : Some other ≡ Some stop = sym (stop-in other) ∙ ap stop_in (sym is ∙ same)
-    ∙ stop-in stop in
-    (ap (λ v. Err v) (cc e), same_sink)
+-- the statuses of the ends are apart
+are-apart : AreApart endings
+are-apart = record {
+  stops = λ one other e.
+      let same : Some one ≡ Some other = sym (stop-in one) ∙ ap stop_in e ∙ stop-in other in
+      cc same;
+  done = λ answer stop e. unstopped answer.ending stop e;
+  fault = λ stop e. let never : None ≡ Some stop = ap stop_in e ∙ stop-in stop in cc never;
+  whole = λ answer e. (ended-well answer.ending).1 e;
+}
 
-front-finished : {K : Type 0} (written : K → Option (List ℕ)) (faults : K → ℕ)
-    (answer : Result Answer Stop) (status : Status) (old new : K)
-    → IsFinished written faults answer status old new → StaysInFront (written old) (written new)
-front-finished written faults (Ok answer) status old new (inl (well, wrote)) = (answer.text, wrote)
-front-finished written faults (Ok answer) status old new (inr (fault, (k, few, wrote), rose)) =
-    (take k answer.text, wrote)
-front-finished written faults (Err stop) status old new (is, same) =
-    ([], appended-nothing (written old) (written new) (ap written same))
-
-write-cause : {K : Type 0} (written : K → Option (List ℕ)) (faults : K → ℕ)
-    (answer : Result Answer Stop) (status : Status) (old new : K)
-    → IsFinished written faults answer status old new → status ≡ ends.WriteFault
-    → Rose (faults old) (faults new)
-write-cause written faults (Ok answer) status old new (inl (well, wrote)) same =
-    absurd ((ended-well answer.ending).1 (sym well ∙ same))
-write-cause written faults (Ok answer) status old new (inr (fault, wrote, rose)) same = rose
-write-cause written faults (Err stop) status old new (is, same_sink) same =
-    absurd (no-stop status stop (ap stop_in same) is)
+-- a stop that is free is a read fault or want of memory
+frees : (stop : Stop) → IsTrue (is_free stop)
+    → (stop ≡ File ReadFault) ⊎ (status_of stop ≡ ends.Memory)
+frees (Words refused) free = cc free
+frees (File (Fault found)) free = cc free
+frees (File ReadFault) free = inl refl
+frees (File Memory) free = inr refl
 
 -- files say no refusal of words
-behind-no-words : {T U : Type 0} (said : Result T FileStop) (next : T → Option (Result U Stop))
-    (refused : WordsFault) → ((table : T) → next table ≡ Some (Err (Words refused)) → ⊥)
-    → and_then File said next ≡ Some (Err (Words refused)) → ⊥
-behind-no-words (Err stop) next refused never e = cc e
-behind-no-words (Ok table) next refused never e = never table e
-
-opened-no-words : {T U : Type 0} (held : Option (List ℕ)) (judge : List ℕ → Result T FileStop)
-    (next : T → Option (Result U Stop)) (refused : WordsFault)
-    → ((table : T) → next table ≡ Some (Err (Words refused)) → ⊥)
-    → opened File held judge next ≡ Some (Err (Words refused)) → ⊥
-opened-no-words None judge next refused never e = cc e
-opened-no-words (Some bytes) judge next refused never e =
-    behind-no-words (judge bytes) next refused never e
+no-words : (refused : WordsFault) (stop : FileStop) → File stop ≡ Words refused → ⊥
+no-words refused stop e = cc e
 
 answered-no-words : {T : Type 0} (make : T → Answer) (said : Option (Result T Stop))
     (refused : WordsFault) → answered make said ≡ Some (Err (Words refused))
     → said ≡ Some (Err (Words refused))
-answered-no-words make None refused e = cc e
-answered-no-words make (Some (Err stop)) refused e =
-    let same : stop ≡ Words refused = cc e in ap (λ v. Some (Err v)) same
-answered-no-words make (Some (Ok table)) refused e = cc e
+answered-no-words make said refused e = answered-stop make said (Words refused) e
 
 tables-no-words : (reads : Reads) (refused : WordsFault)
     → tables_said reads ≡ Some (Err (Words refused)) → ⊥
 tables-no-words reads refused e =
-    opened-no-words (reads file.Programmes) _ _ refused
-    (λ programmes. opened-no-words (reads file.Candidates) _ _ refused
-    (λ candidates. opened-no-words (reads file.Ranks) _ _ refused (λ ranks never. cc never)))
-    e
+    opened-no-stop File (reads file.Programmes) _ _ (Words refused) (no-words refused)
+    (λ programmes. opened-no-stop File (reads file.Candidates) _ _ (Words refused)
+    (no-words refused)
+    (λ candidates. opened-no-stop File (reads file.Ranks) _ _ (Words refused) (no-words refused)
+    (λ ranks never. cc never))) e
 
 behind-tables-no-words : {T : Type 0} (said : Option (Result Tables Stop))
     (next : Tables → Option (Result T Stop)) (refused : WordsFault)
@@ -144,7 +121,8 @@ audited-no-words : (reads : Reads) (refused : WordsFault)
     → audited_said reads ≡ Some (Err (Words refused)) → ⊥
 audited-no-words reads refused e =
     behind-tables-no-words (tables_said reads) _ refused (tables-no-words reads refused)
-    (λ tables. opened-no-words (reads file.Placement) _ _ refused (λ held never. cc never)) e
+    (λ tables. opened-no-stop File (reads file.Placement) _ _ (Words refused) (no-words refused)
+    (λ held never. cc never)) e
 
 says-refused : (command : Result Command WordsFault) (reads : Reads) (refused : WordsFault)
     → says command reads ≡ Some (Err (Words refused)) → command ≡ Err refused
@@ -179,12 +157,6 @@ says-unstable (Ok (Reasons workers)) reads ready e is =
     cc (sym (answered-done _ (tables_said reads) ready e) ∙ is)
 says-unstable (Ok (Audit workers)) reads ready e is = (workers, refl)
 
--- a decided stop is said
-said-words : (said : Option (Result Answer Stop)) (refused : WordsFault)
-    → Meets is_free said (Err (Words refused)) → said ≡ Some (Err (Words refused))
-said-words said refused (inl free) = cc free
-said-words said refused (inr e) = e
-
 -- where a run ends with its text, an answer with this end was appended whole
 record HasEnded {K : Type 0} (written : K → Option (List ℕ)) (answer : Result Answer Stop)
     (end : Ending) (old new : K) : Type 0 where
@@ -197,47 +169,15 @@ ended-finished : {K : Type 0} (written : K → Option (List ℕ)) (faults : K �
     (answer : Result Answer Stop) (status : Status) (old new : K) (end : Ending)
     → IsFinished written faults answer status old new → status ≡ ended end
     → HasEnded written answer end old new
-ended-finished written faults (Ok answer) status old new end (inl (is, wrote)) same =
+ended-finished written faults answer status old new end finished same =
+    let whole = answered-finished are-apart written faults answer status old new finished
+    (λ stop is. unstopped end stop (sym same ∙ is)) (λ is. (ended-well end).1 (sym same ∙ is)) in
     record {
-      ready = answer;
-      is = refl;
-      ends_so = ended-same answer.ending end (sym is ∙ same);
-      wrote = wrote;
+      ready = whole.0;
+      is = whole.1;
+      ends_so = ended-same whole.0.ending end (sym whole.2 ∙ same);
+      wrote = whole.3;
     }
-ended-finished written faults (Ok answer) status old new end (inr (fault, wrote, rose)) same =
-    absurd ((ended-well end).1 (sym same ∙ fault))
-ended-finished written faults (Err stop) status old new end (is, same_sink) same =
-    absurd (no-stop status stop (ap stop_in same ∙ (ended-well end).0) is)
-
--- where no write failed, what is said was done, or memory was refused
-said-finished : {K : Type 0} (written : K → Option (List ℕ)) (faults : K → ℕ)
-    (said : Option (Result Answer Stop)) (answer : Result Answer Stop) (status : Status) (old new :
-    K)
-    → Meets is_free said answer → IsFinished written faults answer status old new
-    → (answer ≡ Err (File ReadFault) → ⊥) → (Rose (faults old) (faults new) → ⊥)
-    → (status ≡ ends.Memory)
-    ⊎ ((all : Result Answer Stop) × (said ≡ Some all)
-    × (status ≡ status_said all) × Appended (written old) (written new) (text_said all))
-said-finished written faults said (Ok answer) status old new meets (inl (well, wrote)) read write =
-    inr (Ok answer, meets, well, wrote)
-said-finished written faults said (Ok answer) status old new meets (inr (fault, wrote, rose)) read
-    write = absurd (write rose)
-said-finished written faults said (Err stop) status old new (inr e) (is, same) read write =
-    inr (Err stop, e, is, appended-nothing (written old) (written new) (ap written same))
-said-finished written faults said (Err (Words refused)) status old new (inl free) finished read
-    write = cc free
-said-finished written faults said (Err (File (Fault found))) status old new (inl free) finished read
-    write = cc free
-said-finished written faults said (Err (File ReadFault)) status old new (inl free) finished read
-    write = absurd (read refl)
-said-finished written faults said (Err (File Memory)) status old new (inl free) (is, same) read
-    write = inl is
-
--- a count that is constant does not rise
-pub constant-count : {S : Type 0} (count : S → ℕ) (old new : S) → IsConstant count
-    → Rose (count old) (count new) → ⊥
-constant-count count old new (n, few, same) rose =
-    omega (arith, few, same old, same new, rose)
 
 says-programmes : (three : ThreeFiles) → HasNoFault three
     → programmes_said three.programmes ≡ Ok (tables_in three).programmes
@@ -269,7 +209,8 @@ three-said reads three read faultless =
 
 places-whole : (told : Option Files) (words : List (List ℕ)) (status : Status)
     (old new : Option (List ℕ))
-    → IsWhole told words status old new → PlacesWhole told words status old new
+    → IsWhole endings told (named words) (says (command_of words)) status old new
+    → PlacesWhole told words status old new
 places-whole None words status old new whole = tt
 places-whole (Some files) words status old new (reads, held, whole) =
     λ three workers accepted read faultless.
@@ -285,10 +226,8 @@ places-whole (Some files) words status old new (reads, held, whole) =
     ⊎_elim (λ refused. inl refused)
     (λ other. let same : other.0 ≡ Ok (done (placement_of (tables_in three))) = cc (other.1, said)
     in
-    inr (
-      other.2 ∙ ap status_said same,
-      subst (λ v. Appended old new v) (ap text_said same ∙ printed-in three) other.3,
-    ))
+    let all = subst (λ v. IsDone endings v status old new) same other.2 in
+    inr (all.0, subst (λ v. Appended old new v) (printed-in three) all.1))
     whole
 
 -- the clauses of a run, from its answer and how it was written
@@ -350,49 +289,37 @@ module _ {K : Type 0} (written : K → Option (List ℕ)) (faults : K → ℕ) (
   pub complete-run : (Rose before now → ⊥) → (Rose (faults old) (faults new) → ⊥)
       → IsComplete told words status (written old) (written new)
   complete-run no_read no_write =
-      let whole : IsWhole told words status (written old) (written new) = (
-        answers.reading.reads,
-        answers.reading.held,
-        said-finished written faults _ answer status old new answers.reading.meets finished
-            (λ unread. no_read (answers.reading.causes.read unread)) no_write,
-      ) in
+      let whole = whole-run are-apart written faults status old new answers.reading frees finished
+      no_read no_write in
       record {
         whole = whole;
         places = places-whole told words status (written old) (written new) whole;
       }
 
+  -- a status that is a stop's is that of the answer
+  at-stop : (stop : Stop) → status ≡ status_of stop → answer ≡ Err stop
+  at-stop stop same = (stopped are-apart written faults answer status old new stop finished same).0
+
   pub causes-run : ((refused : WordsFault) → command_of words ≡ Err refused
       → answer ≡ Err (Words refused))
       → HasCause (command_of words) status before now tally_before tally_now (faults old) (faults
       new)
-  causes-run exact =
-      let at = stopped written faults answer status old new in
-      record {
-        words = record {
-          only = λ refused same. says-refused (command_of words) answers.reading.reads refused
-              (said-words _ refused (subst (λ v. Meets is_free
-              (says (command_of words) answers.reading.reads) v) (at (Words refused) finished
-              same).0
-              answers.reading.meets));
-          always = λ refused none.
-              (subst (λ v. IsFinished written faults v status old new) (exact refused none)
-              finished).0;
-        };
-        read = λ same. answers.reading.causes.read (at (File ReadFault) finished same).0;
-        long = λ kind same. answers.reading.causes.long kind
-            (at (File (Fault (too_long kind))) finished same).0;
-        write = write-cause written faults answer status old new finished;
-        unstable = λ same.
-            let end = ended-finished written faults answer status old new ending.AuditNo finished
-            same in
-            says-unstable (command_of words) answers.reading.reads end.ready
-            (subst (λ v. Meets is_free (says (command_of words) answers.reading.reads) v) end.is
-            answers.reading.meets) end.ends_so;
-      }
+  causes-run exact = record {
+    words = words-cause are-apart written faults is_free Words (command_of words)
+        (says (command_of words) answers.reading.reads) answer status old new answers.reading.meets
+        finished (λ refused. refl) (says-refused (command_of words) answers.reading.reads) exact;
+    read = λ same. answers.reading.causes.read (at-stop (File ReadFault) same);
+    long = λ kind same. answers.reading.causes.long kind
+        (at-stop (File (Fault (too_long kind))) same);
+    write = write-cause are-apart written faults answer status old new finished;
+    unstable = λ same.
+        let end = ended-finished written faults answer status old new ending.AuditNo finished same
+        in
+        says-unstable (command_of words) answers.reading.reads end.ready
+        (subst (λ v. Meets is_free (says (command_of words) answers.reading.reads) v) end.is
+        answers.reading.meets) end.ends_so;
+  }
 
   pub leaves-sink : faults old ≤ faults new → LeavesSink written faults status old new
-  leaves-sink later = record {
-    kept = front-finished written faults answer status old new finished;
-    untouched = λ stop same. (stopped written faults answer status old new stop finished same).1;
-    later = later;
-  }
+  leaves-sink later =
+      frame.leaves-sink are-apart written faults answer status old new finished later

@@ -114,8 +114,9 @@ module _ (told : Option Files) (words : List (List ℕ)) (programmes : Programme
       stop _ _ _ _ two)
 
   module _ (candidates : Candidates) (third tally_third : ℕ)
-      (two : IsJudged told (named words file.Candidates) (candidates_said (codes_of programmes.rows))
-      (Ok candidates) second third tally_second tally_third) where
+      (two : IsJudged told (named words file.Candidates)
+      (candidates_said (codes_of programmes.rows)) (Ok candidates) second third tally_second
+      tally_third) where
     -- behind the second file, what the third comes to is what all three come to
     behind-second : (result : Result Tables Stop) (now tally_now : ℕ)
         → AreRead told (named words) is_free File (Some file.Ranks)

@@ -1,5 +1,5 @@
 -- What may be said of a run: the promise of the top call.
-use Rattle.std.specs.Prelude.{◌≡◌, ◌≤◌, ◌⊎◌, ℕ, List, [], IfOk, IfSome, IsErrOf, Option, Some, Result, Ok, Err}
+use Rattle.std.specs.Prelude.{◌≡◌, ◌⊎◌, ℕ, List, IfOk, IfSome, IsErrOf, Option, Result, Ok}
 use Rattle.place_base.specs.declared.fault.FileKind.{FileKind}
 use Rattle.command_words.specs.Words.{command_of}
 use Rattle.command_words.specs.declared.words.Command.{Command}
@@ -8,9 +8,10 @@ use Rattle.command_words.specs.declared.words.WordsFault.{WordsFault}
 use Rattle.market.specs.Mechanism.{mechanism_placement}
 use Rattle.place_edges.specs.Causes.{Rose}
 use Rattle.place_edges.specs.Shelf.{Files, GaveMore, file_limit}
-use Rattle.place_edges.specs.Sink.{Appended, AppendedPrefix}
+use Rattle.place_edges.specs.Sink.{Appended}
 use Rattle.run_frame.specs.Files.{AreHeld, AreRead, Reads}
-use Rattle.run_frame.specs.Runs.{StaysInFront}
+use Rattle.run_frame.specs.Runs as frame
+use Rattle.run_frame.specs.Runs.{Endings, IsWhole, WordsCause}
 use Rattle.run_frame.specs.Stops.{too_long}
 use Rattle.place_run.specs.Answers.{Answer}
 use Rattle.place_run.specs.Says.{KeepsPromise, files_read, first_file, named, says}
@@ -36,18 +37,21 @@ IsReading told words first said files result before now tally_before tally_now =
     AreRead told (named words) is_free File first said files result before now tally_before
     tally_now
 
--- an answer was written: whole, with its status, or a write failed, and a prefix of its text was
-abbrev pub IsEnded : Answer → Status → Option (List ℕ) → Option (List ℕ) → ℕ → ℕ → Type 0
-IsEnded answer status old new before now =
-    ((status ≡ ended answer.ending) × Appended old new answer.text)
-    ⊎ ((status ≡ ends.WriteFault) × AppendedPrefix old new answer.text × Rose before now)
+-- the text of an answer, and the status of each end
+abbrev pub endings : Endings Answer Stop Status
+endings = record {
+  text = λ answer. answer.text;
+  done = λ answer. ended answer.ending;
+  stopped = status_of;
+  write_fault = ends.WriteFault;
+  memory = ends.Memory;
+}
 
 -- an answer was written, or the sink is as it was where there is none
 abbrev pub IsFinished : {K : Type 0} → (K → Option (List ℕ)) → (K → ℕ)
     → Result Answer Stop → Status → K → K → Type 0
-IsFinished written faults (Ok answer) status old new =
-    IsEnded answer status (written old) (written new) (faults old) (faults new)
-IsFinished written faults (Err stop) status old new = (status ≡ status_of stop) × (new ≡ old)
+IsFinished written faults answer status old new =
+    frame.IsFinished endings written faults answer status old new
 
 -- The answer to a command meets what is said over the bytes that were read, and keeps the command's
 -- promise.
@@ -68,7 +72,7 @@ pub record IsAnsweredRun {K : Type 0} (written : K → Option (List ℕ)) (fault
     (before now tally_before tally_now : ℕ) : Type 0 where
   pub answer : Result Answer Stop
   pub answers : IsAnswering told words (command_of words) answer before now tally_before tally_now
-  pub finished : IsFinished written faults answer status old new
+  pub finished : frame.IsFinished endings written faults answer status old new
 
 -- where the words are `place` and the run is done, such a text was appended, and nothing else
 abbrev pub PrintsWorstStable : Option Files → List (List ℕ) → Status
@@ -111,26 +115,6 @@ PrintsVerdict told words status old new =
     × (answer : Answer) × (answer.ending ≡ ending) × IsAudit reads answer
     × Appended old new answer.text
 
--- the status where this is said
-abbrev pub status_said : Result Answer Stop → Status
-status_said (Ok answer) = ended answer.ending
-status_said (Err stop) = status_of stop
-
--- the text where this is said
-abbrev pub text_said : Result Answer Stop → List ℕ
-text_said (Ok answer) = answer.text
-text_said (Err stop) = []
-
--- The status and what was appended are those that are said over the bytes held, or memory was
--- refused.
-abbrev pub IsWhole : Option Files → List (List ℕ) → Status → Option (List ℕ) → Option (List ℕ)
-    → Type 0
-IsWhole told words status old new =
-    (reads : Reads) × AreHeld told (named words) reads
-    × ((status ≡ ends.Memory)
-    ⊎ ((said : Result Answer Stop) × (says (command_of words) reads ≡ Some said)
-    × (status ≡ status_said said) × Appended old new (text_said said)))
-
 -- where the words ask for the placement of three held files without a fault, its text was appended
 -- whole, or memory was refused
 abbrev pub PlacesWhole : Option Files → List (List ℕ) → Status
@@ -143,15 +127,11 @@ PlacesWhole told words status old new = IfSome told (λ files.
     × Appended old new (placement_text (codes_in three) (numbers_in three)
     (mechanism_placement (problem_of (tables_in three))))))
 
--- both: all that is said is done, and files without a fault are placed
+-- all that is said over the bytes held is done, and files without a fault are placed
 pub record IsComplete (told : Option Files) (words : List (List ℕ)) (status : Status)
     (old new : Option (List ℕ)) : Type 0 where
-  pub whole : IsWhole told words status old new
+  pub whole : IsWhole endings told (named words) (says (command_of words)) status old new
   pub places : PlacesWhole told words status old new
-
--- where something was refused before the first byte of a text, this is as it was
-abbrev pub Untouched : {A : Type 0} → Status → A → A → Type 0
-Untouched status old new = (stop : Stop) → status ≡ status_of stop → new ≡ old
 
 -- a run that ends with its text has no line
 abbrev pub HasNoLine : Status → Type 0
@@ -161,26 +141,18 @@ HasNoLine status = (status ≡ ends.Done) ⊎ (status ≡ ends.AuditNo)
 abbrev pub IsWordsRefusal : Status → Type 0
 IsWordsRefusal status = (refused : WordsFault) × (status ≡ ends.Words refused)
 
--- words are refused exactly where they give no command, and with that refusal
-pub record WordsCause (command : Result Command WordsFault) (status : Status) : Type 0 where
-  pub only : (refused : WordsFault) → status ≡ ends.Words refused → command ≡ Err refused
-  pub always : (refused : WordsFault) → command ≡ Err refused → status ≡ ends.Words refused
-
 -- Each refusal has its cause: words by the grammar, a read fault and a write fault by the counts, a
 -- file that is too long by the tally. Only an audit says that a placement is not stable.
 pub record HasCause (command : Result Command WordsFault) (status : Status)
     (before now tally_before tally_now out_before out_now : ℕ) : Type 0 where
-  pub words : WordsCause command status
+  pub words : WordsCause ends.Words command status
   pub read : status ≡ ends.ReadFault → Rose before now
   pub long : (kind : FileKind) → status ≡ ends.FileFault (too_long kind)
       → GaveMore tally_before tally_now file_limit
   pub write : status ≡ ends.WriteFault → Rose out_before out_now
   pub unstable : status ≡ ends.AuditNo → (workers : ℕ) × (command ≡ Ok (Audit workers))
 
--- What was written before stays in front, and after a refusal the sink is as it was. No count
--- falls.
-pub record LeavesSink {K : Type 0} (written : K → Option (List ℕ)) (faults : K → ℕ)
-    (status : Status) (old new : K) : Type 0 where
-  pub kept : StaysInFront (written old) (written new)
-  pub untouched : Untouched status old new
-  pub later : faults old ≤ faults new
+-- after a refusal the sink is as it was
+abbrev pub LeavesSink : {K : Type 0} → (K → Option (List ℕ)) → (K → ℕ) → Status → K → K → Type 0
+LeavesSink written faults status old new =
+    frame.LeavesSink status_of written faults status old new

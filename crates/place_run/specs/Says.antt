@@ -11,7 +11,7 @@ use Rattle.programme_table.specs.Table as programme
 use Rattle.candidate_table.specs.Table.{numbers_of}
 use Rattle.candidate_table.specs.Table as candidate
 use Rattle.run_frame.specs.Files.{AreHeld, IsHeld, Reads}
-use Rattle.run_frame.specs.Says.{opened, read_from}
+use Rattle.run_frame.specs.Says.{answered, opened, read_from}
 use Rattle.place_run.specs.Answers.{Answer, done}
 use Rattle.place_run.specs.Tables.{Tables, candidates_said, placement_said, programmes_said, ranks_said}
 use Rattle.place_run.specs.commands.Audit.{Audited, IsAudit, audit_of}
@@ -38,7 +38,8 @@ abbrev pub tables_said : Reads → Option (Result Tables Stop)
 tables_said reads =
     opened File (reads Programmes) programmes_said (λ programmes.
     opened File (reads Candidates) (candidates_said (codes_of programmes.rows)) (λ candidates.
-    opened File (reads Ranks) (ranks_said programmes.names (numbers_of candidates.numbers)) (λ ranks.
+    opened File (reads Ranks) (ranks_said programmes.names (numbers_of candidates.numbers))
+    (λ ranks.
     Some (Ok (record { programmes = programmes; candidates = candidates; ranks = ranks })))))
 
 -- the files that are read for it
@@ -75,13 +76,6 @@ placement_read (Some (Ok tables)) bytes =
 -- the files that are read for it: the three, then the placement file
 abbrev pub audited_read : Reads → List (List ℕ)
 audited_read reads = tables_read reads ++ placement_read (tables_said reads) (reads Placement)
-
--- an answer that is made of what was read
-abbrev pub answered : {T : Type 0} → (T → Answer) → Option (Result T Stop)
-    → Option (Result Answer Stop)
-answered make None = None
-answered make (Some (Err stop)) = Some (Err stop)
-answered make (Some (Ok said)) = Some (Ok (make said))
 
 -- what the words come to over the bytes of the files, none where a file is missed before anything
 -- is refused

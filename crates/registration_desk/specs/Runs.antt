@@ -1,15 +1,16 @@
 -- What may be said of a run of the desk: the promise of the top call.
-use Rattle.std.specs.Prelude.{◌≡◌, ◌≤◌, ◌⊎◌, ℕ, List, [], length, IfSome, IsErrOf, Option, Some, None, Result, Ok, Err}
+use Rattle.std.specs.Prelude.{◌≡◌, ◌≤◌, ◌⊎◌, ℕ, List, length, IfSome, IsErrOf, Option, Some, None, Result, Ok}
 use Rattle.place_base.specs.declared.fault.FileKind.{FileKind}
 use Rattle.place_base.specs.declared.fault.FileKind.TheVariants as file
 use Rattle.place_edges.specs.Causes.{Rose}
 use Rattle.place_edges.specs.Shelf.{Files, GaveMore, file_limit}
-use Rattle.place_edges.specs.Sink.{Appended, AppendedPrefix}
+use Rattle.place_edges.specs.Sink.{Appended}
 use Rattle.placement_file.specs.Requests.{requests_fault, requests_in}
 use Rattle.placement_file.specs.SeatLists.{seats_fault, seats_in}
 use Rattle.run_frame.specs.Files.{AreHeld, AreRead, Reads}
 use Rattle.run_frame.specs.Lines.{IsNoted}
-use Rattle.run_frame.specs.Runs.{StaysInFront}
+use Rattle.run_frame.specs.Runs as frame
+use Rattle.run_frame.specs.Runs.{Endings, IsWhole, WordsCause}
 use Rattle.run_frame.specs.Stops.{too_long}
 use Rattle.registration_desk.specs.Reports.{DeskReport, numbers_of, registered_text}
 use Rattle.registration_desk.specs.Says.{files_read, first_file, named, numbers_said, says}
@@ -36,18 +37,21 @@ IsAnswering told words clerks answer before now tally_before tally_now =
     IsReading told words (first_file clerks) (says clerks) (files_read clerks) answer before now
     tally_before tally_now
 
--- a text was written: whole, or a write failed, and a prefix of it was
-abbrev pub IsEnded : List ℕ → DeskStatus → Option (List ℕ) → Option (List ℕ) → ℕ → ℕ → Type 0
-IsEnded text status old new before now =
-    ((status ≡ ends.Done) × Appended old new text)
-    ⊎ ((status ≡ ends.WriteFault) × AppendedPrefix old new text × Rose before now)
+-- the text of a report, and the status of each end
+abbrev pub endings : Endings DeskReport Stop DeskStatus
+endings = record {
+  text = λ report. report.text;
+  done = λ report. ends.Done;
+  stopped = status_of;
+  write_fault = ends.WriteFault;
+  memory = ends.Memory;
+}
 
 -- the text was written, or the sink is as it was where there is none
 abbrev pub IsFinished : {K : Type 0} → (K → Option (List ℕ)) → (K → ℕ)
     → Result DeskReport Stop → DeskStatus → K → K → Type 0
-IsFinished written faults (Ok report) status old new =
-    IsEnded report.text status (written old) (written new) (faults old) (faults new)
-IsFinished written faults (Err stop) status old new = (status ≡ status_of stop) × (new ≡ old)
+IsFinished written faults answer status old new =
+    frame.IsFinished endings written faults answer status old new
 
 -- the words were refused
 abbrev pub IsWordsStop : {T : Type 0} → Result T Stop → Type 0
@@ -61,7 +65,7 @@ pub record IsDeskRun {K N : Type 0} (written : K → Option (List ℕ)) (faults 
     (notes_old notes_new : N) (before now tally_before tally_now : ℕ) : Type 0 where
   pub answer : Result DeskReport Stop
   pub answers : IsAnswering told words (clerks_of words) answer before now tally_before tally_now
-  pub finished : IsFinished written faults answer status old new
+  pub finished : frame.IsFinished endings written faults answer status old new
   pub line : IsNoted (status_line (numbers_said answer) status) (noted notes_old)
       (noted notes_new) (note_faults notes_old) (note_faults notes_new)
 
@@ -107,26 +111,6 @@ abbrev pub PrintsRegistered : Option Files → List (List ℕ) → DeskStatus
 PrintsRegistered told words status old new notes_old notes_new before now =
     status ≡ ends.Done → IsRegistered told words old new notes_old notes_new before now
 
--- the status where this is said
-abbrev pub status_said : Result DeskReport Stop → DeskStatus
-status_said (Ok report) = ends.Done
-status_said (Err stop) = status_of stop
-
--- the text where this is said
-abbrev pub text_said : Result DeskReport Stop → List ℕ
-text_said (Ok report) = report.text
-text_said (Err stop) = []
-
--- The status and what was appended are those that are said over the bytes held, or memory was
--- refused.
-abbrev pub IsWhole : Option Files → List (List ℕ) → DeskStatus → Option (List ℕ)
-    → Option (List ℕ) → Type 0
-IsWhole told words status old new =
-    (reads : Reads) × AreHeld told (named words) reads
-    × ((status ≡ ends.Memory)
-    ⊎ ((said : Result DeskReport Stop) × (says (clerks_of words) reads ≡ Some said)
-    × (status ≡ status_said said) × Appended old new (text_said said)))
-
 -- where the words are accepted and two held files have no fault, their text was appended whole, or
 -- memory was refused
 abbrev pub ServesWhole : Option Files → List (List ℕ) → DeskStatus
@@ -136,39 +120,28 @@ ServesWhole told words status old new = IfSome told (λ files.
     → AreTwo (λ kind. files (named words kind)) two → HasNoFault two
     → (status ≡ ends.Memory) ⊎ ((status ≡ ends.Done) × Appended old new (text_in two)))
 
--- both: all that is said is done, and files without a fault are served
+-- all that is said over the bytes held is done, and files without a fault are served
 pub record IsComplete (told : Option Files) (words : List (List ℕ)) (status : DeskStatus)
     (old new : Option (List ℕ)) : Type 0 where
-  pub whole : IsWhole told words status old new
+  pub whole : IsWhole endings told (named words) (says (clerks_of words)) status old new
   pub serves : ServesWhole told words status old new
-
--- where something was refused before the first byte of a text, this is as it was
-abbrev pub Untouched : {A : Type 0} → DeskStatus → A → A → Type 0
-Untouched status old new = (stop : Stop) → status ≡ status_of stop → new ≡ old
 
 -- the words were refused
 abbrev pub IsWordsRefusal : DeskStatus → Type 0
 IsWordsRefusal status = (refused : DeskWords) × (status ≡ ends.Words refused)
 
--- words are refused exactly where they give no number of clerks, and with that refusal
-pub record WordsCause (clerks : Result ℕ DeskWords) (status : DeskStatus) : Type 0 where
-  pub only : (refused : DeskWords) → status ≡ ends.Words refused → clerks ≡ Err refused
-  pub always : (refused : DeskWords) → clerks ≡ Err refused → status ≡ ends.Words refused
-
 -- Each refusal has its cause: words by their rules, a read fault and a write fault by the counts, a
 -- file that is too long by the tally.
 pub record HasCause (clerks : Result ℕ DeskWords) (status : DeskStatus)
     (before now tally_before tally_now out_before out_now : ℕ) : Type 0 where
-  pub words : WordsCause clerks status
+  pub words : WordsCause ends.Words clerks status
   pub read : status ≡ ends.ReadFault → Rose before now
   pub long : (kind : FileKind) → status ≡ ends.FileFault (too_long kind)
       → GaveMore tally_before tally_now file_limit
   pub write : status ≡ ends.WriteFault → Rose out_before out_now
 
--- What was written before stays in front, and after a refusal the sink is as it was. No count
--- falls.
-pub record LeavesSink {K : Type 0} (written : K → Option (List ℕ)) (faults : K → ℕ)
-    (status : DeskStatus) (old new : K) : Type 0 where
-  pub kept : StaysInFront (written old) (written new)
-  pub untouched : Untouched status old new
-  pub later : faults old ≤ faults new
+-- after a refusal the sink is as it was
+abbrev pub LeavesSink : {K : Type 0} → (K → Option (List ℕ)) → (K → ℕ) → DeskStatus → K → K
+    → Type 0
+LeavesSink written faults status old new =
+    frame.LeavesSink status_of written faults status old new

@@ -6,7 +6,7 @@ use Rattle.place_edges.specs.Shelf.{Files}
 use Rattle.placement_file.specs.Requests.{requests_fault, requests_in}
 use Rattle.placement_file.specs.SeatLists.{SeatRows, seats_fault, seats_in}
 use Rattle.run_frame.specs.Files.{IsHeld, Reads}
-use Rattle.run_frame.specs.Says.{judged, opened, read_from}
+use Rattle.run_frame.specs.Says.{answered, judged, opened, read_from}
 use Rattle.run_frame.specs.declared.stop.FileStop.{FileStop}
 use Rattle.registration_desk.specs.Reports.{DeskReport, no_numbers, report_on}
 use Rattle.registration_desk.specs.Words.{word_at}
@@ -51,9 +51,7 @@ both_read reads =
 
 -- the report on what was read
 abbrev pub reported : Option (Result DeskFiles Stop) → Option (Result DeskReport Stop)
-reported None = None
-reported (Some (Err stop)) = Some (Err stop)
-reported (Some (Ok files)) = Some (Ok (report_on files.seats files.requests))
+reported said = answered (λ (files : DeskFiles). report_on files.seats files.requests) said
 
 -- what the words come to over the bytes of the files, none where a file is missed before anything
 -- is refused; it does not depend on the number of clerks

@@ -1,3 +1,5 @@
+pub mod Answering
+pub mod Endings
 pub mod Judging
 pub mod JudgedTables
 pub mod LineTexts

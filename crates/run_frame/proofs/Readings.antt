@@ -54,8 +54,8 @@ pub begun-later : (bytes : Option (List ℕ)) (before between now : ℕ) → bet
 begun-later bytes before between now later begun =
     ⊎_elim (λ none. inl none) (λ rose. inr (omega (arith, later, rose))) begun
 
--- The stops of files are among those of a run: one is free there exactly where it is free for files,
--- and two are one stop of the run only where they are the same.
+-- The stops of files are among those of a run: one is free there exactly where it is free for
+-- files, and two are one stop of the run only where they are the same.
 pub record HoldsStops {S : Type 0} (free : S → Bool) (stopped : FileStop → S) : Type 0 where
   pub same_free : (stop : FileStop) → free (stopped stop) ≡ is_free stop
   pub apart : (a b : FileStop) → stopped a ≡ stopped b → a ≡ b
@@ -245,7 +245,8 @@ module _ {S : Type 0} {free : S → Bool} {stopped : FileStop → S} (holds : Ho
         held = held-with told names kind one.bytes rest.reads rest.held;
         meets = subst (λ v. Meets free v result)
             (sym (opened-ok stopped judge (λ table. next table all) (all kind) one.bytes table same
-            one.meets ∙ same-with told kind one.bytes rest.reads (next table) same_next)) rest.meets;
+            one.meets ∙ same-with told kind one.bytes rest.reads (next table) same_next))
+            rest.meets;
         taken = λ decided. taken-ok judge (λ table. files table all) (all kind) one.bytes table
             tally_first tally_before tally_now same one.meets one.taken
             (subst (λ v. AreTaken v tally_before tally_now)

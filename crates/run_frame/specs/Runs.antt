@@ -1,10 +1,63 @@
--- What a run leaves of a sink, and counts that never rise.
-use Rattle.std.specs.Prelude.{◌≡◌, ◌<◌, ℕ, ◌-◌, ◌^◌, List, Option}
-use Rattle.place_edges.specs.Sink.{Appended}
+-- How a run ends, and what it leaves of a sink.
+use Rattle.std.specs.Prelude.{◌≡◌, ◌≤◌, ◌<◌, ◌⊎◌, ℕ, ◌-◌, ◌^◌, List, [], Option, Some, Result, Ok, Err}
+use Rattle.place_base.specs.declared.fault.FileKind.{FileKind}
+use Rattle.place_edges.specs.Causes.{Rose}
+use Rattle.place_edges.specs.Shelf.{Files}
+use Rattle.place_edges.specs.Sink.{Appended, AppendedPrefix}
+use Rattle.run_frame.specs.Files.{AreHeld, Reads}
+
+-- The text of a program's answer, and the status of each end: where the text was written whole,
+-- where there is a stop in place of an answer, where a write failed, and where memory was refused.
+pub record Endings (A S E : Type 0) : Type 0 where
+  pub text : A → List ℕ
+  pub done : A → E
+  pub stopped : S → E
+  pub write_fault : E
+  pub memory : E
+
+-- An answer was written: whole, with its status, or a write failed, and a prefix of its text was.
+-- Where there is a stop in its place, the sink is as it was.
+abbrev pub IsFinished : {A S E K : Type 0} → Endings A S E → (K → Option (List ℕ)) → (K → ℕ)
+    → Result A S → E → K → K → Type 0
+IsFinished ends written faults (Ok answer) status old new =
+    ((status ≡ ends.done answer) × Appended (written old) (written new) (ends.text answer))
+    ⊎ ((status ≡ ends.write_fault) × AppendedPrefix (written old) (written new) (ends.text answer)
+    × Rose (faults old) (faults new))
+IsFinished ends written faults (Err stop) status old new =
+    (status ≡ ends.stopped stop) × (new ≡ old)
+
+-- the status and what was appended are those of what is said
+abbrev pub IsDone : {A S E : Type 0} → Endings A S E → Result A S → E → Option (List ℕ)
+    → Option (List ℕ) → Type 0
+IsDone ends (Ok answer) status old new =
+    (status ≡ ends.done answer) × Appended old new (ends.text answer)
+IsDone ends (Err stop) status old new = (status ≡ ends.stopped stop) × Appended old new []
+
+-- all that is said over the bytes held is done, or memory was refused
+abbrev pub IsWhole : {A S E : Type 0} → Endings A S E → Option Files → (FileKind → List ℕ)
+    → (Reads → Option (Result A S)) → E → Option (List ℕ) → Option (List ℕ) → Type 0
+IsWhole {A} {S} ends told names says status old new =
+    (reads : Reads) × AreHeld told names reads
+    × ((status ≡ ends.memory)
+    ⊎ ((said : Result A S) × (says reads ≡ Some said) × IsDone ends said status old new))
+
+-- words are refused exactly where they give no command, and with that refusal
+pub record WordsCause {C W E : Type 0} (refusal : W → E) (command : Result C W) (status : E)
+    : Type 0 where
+  pub only : (refused : W) → status ≡ refusal refused → command ≡ Err refused
+  pub always : (refused : W) → command ≡ Err refused → status ≡ refusal refused
 
 -- what was written before stays in front
 abbrev pub StaysInFront : Option (List ℕ) → Option (List ℕ) → Type 0
 StaysInFront old new = (bytes : List ℕ) × Appended old new bytes
+
+-- What was written before stays in front, and where something was refused before the first byte of
+-- a text the sink is as it was. No count falls.
+pub record LeavesSink {S E K : Type 0} (stopped : S → E) (written : K → Option (List ℕ))
+    (faults : K → ℕ) (status : E) (old new : K) : Type 0 where
+  pub kept : StaysInFront (written old) (written new)
+  pub untouched : (stop : S) → status ≡ stopped stop → new ≡ old
+  pub later : faults old ≤ faults new
 
 -- a count is the same at every moment, and can still rise
 abbrev pub IsConstant : {S : Type 0} → (S → ℕ) → Type 0

@@ -40,3 +40,9 @@ abbrev pub read_from : {T : Type 0} → Option (List ℕ) → (List ℕ → Resu
     → (T → List (List ℕ)) → List (List ℕ)
 read_from None judge next = []
 read_from (Some bytes) judge next = bytes ∷ read_behind (judge bytes) next
+
+-- an answer that is made of what is said
+abbrev pub answered : {T U S : Type 0} → (T → U) → Option (Result T S) → Option (Result U S)
+answered make None = None
+answered make (Some (Err stop)) = Some (Err stop)
+answered make (Some (Ok said)) = Some (Ok (make said))

@@ -1,11 +1,10 @@
-use Rattle.std.proofs.Common.{◌≡◌, ◌≤◌, length, refl, sym, ap, subst, ◌∙◌, arith}
+use Rattle.std.proofs.Common.{◌≡◌, length, refl}
 use Rattle.std.proofs.lemmas.List.{length-map}
 use Rattle.place_base.specs.declared.fault.FileKind.TheVariants as file
-use Rattle.place_edges.specs.Shelf.{HasBytes, file_limit, tally_with}
 use Rattle.candidate_table.specs.Table.{numbers_of}
 use Rattle.rank_lists.specs.Table.{RankTable, ranks_table}
 use Rattle.run_frame.proofs.Judging.{judged-stop}
-use Rattle.run_frame.proofs.JudgedTables.{judged-long, judged-table, table-ok, table-read}
+use Rattle.run_frame.proofs.JudgedTables.{judged-lent, judged-long, table-ok, table-read}
 use Rattle.place_run.specs.Tables.{ranks_said}
 use Rattle.place_run.proofs.Markets.{types-in-ranks}
 use Rattle.place_run.proofs.TableFaults.{other-ranks}
@@ -22,17 +21,12 @@ pub returns-clause-judged : goal.returns-clause-judged
 unfolding ranks_said
 returns-clause-judged g c =
     let bytes = c.deref.result.now in
-    let held = subst (HasBytes (g.H.Shelf.files c.args.shelf.now) c.args.name.now)
-    (sym c.deref.ensures.value) c.in_ok-bytes.ensures.told in
-    let few : length bytes ≤ file_limit = omega
-    (arith, c.in_ok-bytes.ensures.few, c.deref.ensures.len) in
-    let given = c.in_ok-bytes.ensures.given
-    ∙ ap (λ n. tally_with (g.H.Shelf.tally c.args.shelf.now) n) (sym c.deref.ensures.len) in
-    judged-table _ _ bytes file.Ranks _ (ranks_table c.args.programmes.now.names (numbers_of
+    judged-lent _ _ bytes _ _ file.Ranks _ (ranks_table c.args.programmes.now.names (numbers_of
     c.args.candidates.now.numbers) bytes)
     (ranks_said c.args.programmes.now.names (numbers_of c.args.candidates.now.numbers))
-    c.read.result c.table_or_stop.result _ _ _ _ refl held few given
-    c.in_ok-bytes.ensures.causes.faults c.in_ok-bytes.ensures.causes.tally
+    _ c.read.result c.table_or_stop.result _ _ _ _ refl
+    c.deref.ensures.value c.deref.ensures.len c.in_ok-bytes.ensures.told c.in_ok-bytes.ensures.few
+    c.in_ok-bytes.ensures.given c.in_ok-bytes.ensures.causes
     (other-ranks bytes) c.read.ensures c.table_or_stop.ensures
 
 pub returns-clause-types : goal.returns-clause-types

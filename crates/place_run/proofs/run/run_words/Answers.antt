@@ -1,5 +1,6 @@
 use Rattle.command_words.specs.Words.{texts}
-use Rattle.place_run.proofs.Finishing.{causes-run, complete-run, constant-count, leaves-sink, reports-done, verdict-done, worst-done}
+use Rattle.run_frame.proofs.Endings.{constant-count}
+use Rattle.place_run.proofs.Finishing.{causes-run, complete-run, leaves-sink, reports-done, verdict-done, worst-done}
 use Rattle.place_run.proofs.run.run_words.Goals as goal
 
 pub returns-clause-worst : goal.returns-clause-worst

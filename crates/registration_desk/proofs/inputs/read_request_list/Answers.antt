@@ -1,9 +1,8 @@
-use Rattle.std.proofs.Common.{◌≤◌, length, refl, sym, ap, subst, ◌∙◌, arith}
+use Rattle.std.proofs.Common.{refl}
 use Rattle.place_base.specs.declared.fault.FileKind.TheVariants as file
-use Rattle.place_edges.specs.Shelf.{HasBytes, file_limit, tally_with}
 use Rattle.placement_file.specs.Requests.{requests_in}
 use Rattle.run_frame.proofs.Judging.{judged-stop}
-use Rattle.run_frame.proofs.JudgedTables.{judged-long, judged-table}
+use Rattle.run_frame.proofs.JudgedTables.{judged-lent, judged-long}
 use Rattle.registration_desk.specs.Says.{requests_said}
 use Rattle.registration_desk.proofs.DeskFaults.{other-requests}
 use Rattle.registration_desk.proofs.inputs.read_request_list.Goals as goal
@@ -19,13 +18,8 @@ pub returns-clause-judged : goal.returns-clause-judged
 unfolding requests_said
 returns-clause-judged g c =
     let bytes = c.deref.result.now in
-    let held = subst (HasBytes (g.H.Shelf.files c.args.shelf.now) c.args.name.now)
-    (sym c.deref.ensures.value) c.in_ok-bytes.ensures.told in
-    let few : length bytes ≤ file_limit = omega
-    (arith, c.in_ok-bytes.ensures.few, c.deref.ensures.len) in
-    let given = c.in_ok-bytes.ensures.given
-    ∙ ap (λ n. tally_with (g.H.Shelf.tally c.args.shelf.now) n) (sym c.deref.ensures.len) in
-    judged-table _ _ bytes file.Registrations _ (requests_in bytes) requests_said
-    c.request_list.result c.table_or_stop.result _ _ _ _ refl held few given
-    c.in_ok-bytes.ensures.causes.faults c.in_ok-bytes.ensures.causes.tally
+    judged-lent _ _ bytes _ _ file.Registrations _ (requests_in bytes) requests_said
+    _ c.request_list.result c.table_or_stop.result _ _ _ _ refl
+    c.deref.ensures.value c.deref.ensures.len c.in_ok-bytes.ensures.told c.in_ok-bytes.ensures.few
+    c.in_ok-bytes.ensures.given c.in_ok-bytes.ensures.causes
     (other-requests bytes) c.request_list.ensures c.table_or_stop.ensures

@@ -1,9 +1,10 @@
 use Rattle.std.proofs.Common.{subst}
 use Rattle.run_frame.specs.Lines.{IsNoted}
+use Rattle.run_frame.proofs.Endings.{constant-count}
 use Rattle.registration_desk.specs.Statuses.{status_line}
 use Rattle.registration_desk.specs.Words.{texts}
 use Rattle.registration_desk.specs.declared.report.DeskNumbers.{DeskNumbers}
-use Rattle.registration_desk.proofs.Finishing.{causes-run, complete-run, constant-count, leaves-sink, registered-run}
+use Rattle.registration_desk.proofs.Finishing.{causes-run, complete-run, leaves-sink, registered-run}
 use Rattle.registration_desk.proofs.run.run_desk.Goals as goal
 
 pub returns-clause-registered : goal.returns-clause-registered

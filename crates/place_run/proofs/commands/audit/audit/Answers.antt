@@ -1,10 +1,10 @@
 use Rattle.std.proofs.Common.{Ok, Err}
 use Rattle.command_words.specs.Words.{texts}
+use Rattle.run_frame.proofs.Answering.{answer-made, answer-stopped}
 use Rattle.run_frame.proofs.Readings.{granted-as, judged-as}
-use Rattle.place_run.specs.Says.{audited_read, audited_said}
 use Rattle.place_run.specs.commands.Audit.{IsAudit, audit_of}
 use Rattle.place_run.specs.declared.status.Stop.TheVariants.{File}
-use Rattle.place_run.proofs.Answering.{answer-error, answer-made, answer-stopped}
+use Rattle.place_run.proofs.Answering.{answer-error}
 use Rattle.place_run.proofs.FourFiles.{four-read, held_beside, may-open-placement, placement-stops}
 use Rattle.place_run.proofs.Headline.{audit-answer}
 use Rattle.place_run.proofs.commands.audit.audit.Goals as goal
@@ -23,9 +23,8 @@ returns-clause-answers g c =
     c.in_ok-inputs.ensures.files c.word.ensures c.in_ok-placement.ensures.judged in
     let reading = four-read _ (texts c.args.words.now) inputs _ _ _ _ _ _
     c.in_ok-inputs.ensures.reading placement last in
-    let both = answer-made audit_of audited_said audited_read _
-    (texts c.args.words.now) _ _ _ _ _ IsAudit _
-    c.in_ok-answer.answer reading c.in_ok-answer.ensures.said
+    let both = answer-made audit_of IsAudit c.in_ok-answer.answer reading
+    c.in_ok-answer.ensures.said
     (audit-answer reading.reads _ c.in_ok-answer.answer reading.meets c.in_ok-answer.ensures) in
     record { reading = both.0; promise = both.1 }
 
@@ -35,8 +34,7 @@ returns-in_err-placement-clause-answers g c =
     let stop = c.in_err-placement.field-0.0 in
     let last = judged-as _ _ _ _ (held_beside inputs) (Err stop) _ _ _ _
     c.in_ok-inputs.ensures.files c.word.ensures c.in_err-placement.ensures.judged in
-    let reading = answer-stopped audit_of audited_said audited_read _
-    (texts c.args.words.now) _ _ _ _ _ (File stop)
+    let reading = answer-stopped audit_of
     (placement-stops _ (texts c.args.words.now) inputs _ _ _ _ _ _ c.in_ok-inputs.ensures.reading
     stop last) in
     answer-error _ (texts c.args.words.now) _ c.from_residual-in_err-placement.result (File stop)

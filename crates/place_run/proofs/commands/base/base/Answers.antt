@@ -2,13 +2,14 @@ use Rattle.std.proofs.Common.{Ok, ap, subst, sym}
 use Rattle.command_words.specs.Words.{texts}
 use Rattle.command_words.specs.declared.words.Command.TheVariants.{Base}
 use Rattle.run_frame.specs.declared.stop.FileStop.TheVariants.{Memory}
+use Rattle.run_frame.proofs.Answering.{answer-made, answer-refused}
 use Rattle.place_run.specs.Answers.{Answer, done}
 use Rattle.place_run.specs.Runs.{IsAnswering}
-use Rattle.place_run.specs.Says.{tables_read, tables_said}
 use Rattle.place_run.specs.commands.Base.{IsBaseText, bases_of}
 use Rattle.place_run.specs.declared.status.Stop.TheVariants.{File}
-use Rattle.place_run.proofs.Answering.{answer-error, answer-made, answer-refused}
+use Rattle.place_run.proofs.Answering.{answer-error}
 use Rattle.place_run.proofs.Headline.{bases-text}
+use Rattle.place_run.proofs.Readings.{holds-stops}
 use Rattle.place_run.proofs.Markets.{named-placement, bases-made}
 use Rattle.place_run.proofs.commands.base.base.Goals as goal
 
@@ -21,10 +22,9 @@ returns-clause-answers g c =
     let reading = c.in_ok-inputs.ensures.reading in
     let text = bases-made c.in_ok-inputs.inputs c.in_ok-placed.placed _ c.in_ok-placed.ensures
     c.in_ok-text.ensures in
-    let both = answer-made (λ tables. done (bases_of tables)) tables_said tables_read _
-    (texts c.args.words.now) _ _ _ _ _
-    (λ reads answer. IsBaseText reads answer.text) c.in_ok-inputs.inputs
-    (done c.in_ok-text.text.items) reading (ap done text.made)
+    let both = answer-made (λ tables. done (bases_of tables))
+    (λ reads answer. IsBaseText reads answer.text) (done c.in_ok-text.text.items) reading
+    (ap done text.made)
     (bases-text reading.reads c.in_ok-inputs.inputs _ reading.meets text) in
     subst (λ (v : Answer). IsAnswering (g.H.Shelf.files c.args.shelf.now) (texts c.args.words.now)
     (Ok (Base c.args.workers)) (Ok v)
@@ -34,7 +34,7 @@ returns-clause-answers g c =
 
 pub returns-in_err-text-clause-answers : goal.returns-in_err-text-clause-answers
 returns-in_err-text-clause-answers g c =
-    let reading = answer-refused (λ tables. done (bases_of tables)) tables_said tables_read _
-    (texts c.args.words.now) _ _ _ _ _ c.in_ok-inputs.inputs c.in_ok-inputs.ensures.reading in
-    answer-error _ (texts c.args.words.now) _ c.from_residual-in_err-text.result (File Memory) _ _ _ _
-    c.from_residual-in_err-text.ensures.1 (record { reading = reading; promise = tt })
+    let reading = answer-refused holds-stops (λ tables. done (bases_of tables))
+    c.in_ok-inputs.ensures.reading in
+    answer-error _ (texts c.args.words.now) _ c.from_residual-in_err-text.result (File Memory)
+    _ _ _ _ c.from_residual-in_err-text.ensures.1 (record { reading = reading; promise = tt })

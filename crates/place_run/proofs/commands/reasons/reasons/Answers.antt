@@ -2,13 +2,14 @@ use Rattle.std.proofs.Common.{Ok, ap, subst, sym}
 use Rattle.command_words.specs.Words.{texts}
 use Rattle.command_words.specs.declared.words.Command.TheVariants.{Reasons}
 use Rattle.run_frame.specs.declared.stop.FileStop.TheVariants.{Memory}
+use Rattle.run_frame.proofs.Answering.{answer-made, answer-refused}
 use Rattle.place_run.specs.Answers.{Answer, done}
 use Rattle.place_run.specs.Runs.{IsAnswering}
-use Rattle.place_run.specs.Says.{tables_read, tables_said}
 use Rattle.place_run.specs.commands.Reasons.{IsReasonsText, reasons_of}
 use Rattle.place_run.specs.declared.status.Stop.TheVariants.{File}
-use Rattle.place_run.proofs.Answering.{answer-error, answer-made, answer-refused}
+use Rattle.place_run.proofs.Answering.{answer-error}
 use Rattle.place_run.proofs.Headline.{reasons-text}
+use Rattle.place_run.proofs.Readings.{holds-stops}
 use Rattle.place_run.proofs.Markets.{filled-in, named-placement, reasons-made}
 use Rattle.place_run.proofs.commands.reasons.reasons.Goals as goal
 
@@ -27,9 +28,9 @@ returns-clause-answers g c =
     c.new.ensures in
     let filled = filled-in c.in_ok-inputs.inputs c.in_ok-placed.placed c.in_ok-placed.ensures
     c.full_entries_are_filled.ensures in
-    let both = answer-made (λ tables. done (reasons_of tables)) tables_said tables_read _
-    (texts c.args.words.now) _ _ _ _ _ (λ reads answer. IsReasonsText reads answer.text) c.in_ok-inputs.inputs (done c.new.result)
-    reading (ap done text.made)
+    let both = answer-made (λ tables. done (reasons_of tables))
+    (λ reads answer. IsReasonsText reads answer.text) (done c.new.result) reading
+    (ap done text.made)
     (reasons-text reading.reads c.in_ok-inputs.inputs _ reading.meets text filled) in
     subst (λ (v : Answer). IsAnswering (g.H.Shelf.files c.args.shelf.now) (texts c.args.words.now)
     (Ok (Reasons c.args.workers)) (Ok v)
@@ -39,7 +40,7 @@ returns-clause-answers g c =
 
 pub returns-in_err-bases-clause-answers : goal.returns-in_err-bases-clause-answers
 returns-in_err-bases-clause-answers g c =
-    let reading = answer-refused (λ tables. done (reasons_of tables)) tables_said tables_read _
-    (texts c.args.words.now) _ _ _ _ _ c.in_ok-inputs.inputs c.in_ok-inputs.ensures.reading in
-    answer-error _ (texts c.args.words.now) _ c.from_residual-in_err-bases.result (File Memory) _ _ _ _
-    c.from_residual-in_err-bases.ensures.1 (record { reading = reading; promise = tt })
+    let reading = answer-refused holds-stops (λ tables. done (reasons_of tables))
+    c.in_ok-inputs.ensures.reading in
+    answer-error _ (texts c.args.words.now) _ c.from_residual-in_err-bases.result (File Memory)
+    _ _ _ _ c.from_residual-in_err-bases.ensures.1 (record { reading = reading; promise = tt })
