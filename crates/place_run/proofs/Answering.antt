@@ -1,16 +1,19 @@
 -- An answer that is made of what was read, and why there is none.
-use Rattle.std.proofs.Common.{◌≡◌, ℕ, List, Option, Some, None, Result, Ok, Err, refl, sym, subst, ap, ◌∙◌, inl, inr, arith, ⊎_elim}
-use Rattle.std.specs.Prelude.{IsErrAnd}
+use Rattle.std.proofs.Common.{◌≡◌, ℕ, List, [], Option, Some, None, Result, Ok, Err, refl, sym, subst, ap, ◌∙◌, inl, inr, arith, ⊎_elim}
+use Rattle.std.specs.Prelude.{IsErrAnd, IsErrOf}
 use Rattle.place_base.specs.declared.fault.FileKind.{FileKind}
 use Rattle.command_words.specs.declared.words.WordsFault.{WordsFault}
 use Rattle.command_words.specs.declared.words.Command.{Command}
 use Rattle.place_edges.specs.Shelf.{Files}
 use Rattle.run_frame.specs.Files.{Reads}
+use Rattle.run_frame.specs.Meetings.{Meets}
+use Rattle.run_frame.specs.Stops.{too_long}
 use Rattle.run_frame.specs.declared.stop.FileStop.TheVariants as unread
 use Rattle.run_frame.proofs.Parts.{at-error}
 use Rattle.place_run.specs.Answers.{Answer}
 use Rattle.place_run.specs.Runs.{IsAnswering, IsReading}
 use Rattle.place_run.specs.Says.{answered}
+use Rattle.place_run.specs.Stops.{is_free}
 use Rattle.place_run.specs.declared.status.Stop.{Stop}
 use Rattle.place_run.specs.declared.status.Stop.TheVariants.{File, Words}
 use Rattle.place_run.proofs.Readings.{are-held, causes-ok, reads_of}
@@ -87,6 +90,27 @@ answer-error told words command answer stop before now tally_before tally_now is
     at-error (λ v. IsAnswering told words command v before now tally_before tally_now) answer stop is
     answers
 
+-- an answer for which no file was read
+pub nothing-read : {T : Type 0} (told : Option Files) (words : List (List ℕ))
+    (said : Reads → Option (Result T Stop)) (answer : Result T Stop) (before tally_before : ℕ)
+    → ((reads : Reads) → Meets is_free (said reads) answer)
+    → (IsErrOf answer (File unread.ReadFault) → ⊥)
+    → ((kind : FileKind) → IsErrOf answer (File (unread.Fault (too_long kind))) → ⊥)
+    → IsReading told words None said (λ reads. []) answer before before tally_before tally_before
+nothing-read told words said answer before tally_before meets no_fault short = record {
+  reads = reads_of told words None None None;
+  held = are-held told words None None None;
+  meets = meets (reads_of told words None None None);
+  taken = λ _. refl;
+  begun = λ _. tt;
+  causes = record {
+    faults = omega arith;
+    tally = omega arith;
+    read = λ e. absurd (no_fault e);
+    long = λ kind e. absurd (short kind e);
+  };
+}
+
 -- words that are no command are answered with their refusal, before a file is read
 pub words-refused : (told : Option Files) (words : List (List ℕ))
     (command : Result Command WordsFault) (refused : WordsFault) (before tally_before : ℕ)
@@ -95,18 +119,7 @@ pub words-refused : (told : Option Files) (words : List (List ℕ))
 words-refused told words command refused before tally_before none =
     subst (λ v. IsAnswering told words v (Err (Words refused)) before before tally_before
     tally_before) (sym none) (record {
-      reading = record {
-        reads = reads_of told words None None None;
-        held = are-held told words None None None;
-        meets = inr refl;
-        taken = λ _. refl;
-        begun = λ _. tt;
-        causes = record {
-          faults = omega arith;
-          tally = omega arith;
-          read = λ e. cc e;
-          long = λ kind e. cc e;
-        };
-      };
+      reading = nothing-read told words _ _ before tally_before (λ reads. inr refl) (λ e. cc e)
+          (λ kind e. cc e);
       promise = tt;
     })
