@@ -1,14 +1,59 @@
 -- The grammar of the command line.
-use Rattle.std.specs.Prelude.{ℕ, ◌+◌, List, [], ◌∷◌, map, drop, find, length, codes, nat_lt, if◌then◌else◌, Option, Some, None, Result, Ok, Err, String, string_bytes}
+use Rattle.std.specs.Prelude.{ℕ, ◌+◌, ◌-◌, ◌*◌, ◌^◌, List, [], ◌∷◌, map, drop, find, length, codes, nat_lt, slice_index_or, if◌then◌else◌, Option, Some, None, Result, Ok, Err, String, string_bytes}
 use Rattle.std.specs.Global.{Global}
 use Rattle.std.specs.Str.{bytes_eq}
 use Rattle.place_base.specs.declared.fault.FaultKind.{FaultKind}
+use Rattle.place_base.specs.declared.limits.TheConstants.{MOST_CANDIDATES, MOST_PROGRAMMES, MOST_RANKS, MOST_TYPES}
 use Rattle.record_files.specs.Numbers.{number_of}
 use Rattle.command_words.specs.declared.words.Command.{Command}
-use Rattle.command_words.specs.declared.words.Command.TheVariants.{Place, Base, Reasons, Audit}
+use Rattle.command_words.specs.declared.words.Command.TheVariants.{Place, Base, Reasons, Audit, Make}
 use Rattle.command_words.specs.declared.words.WordsFault.{WordsFault}
 use Rattle.command_words.specs.declared.words.WordsFault.TheVariants.{NoCommand, UnknownCommand, WordCount, BadNumber}
 use Rattle.command_words.specs.declared.words.TheConstants.{WORKERS, MAX_WORKERS}
+
+-- ---- numbers: each is read where the counts of words are right
+
+-- the number that a word gives, or that the word at this place is no such number
+abbrev pub number_at : Result ℕ FaultKind → ℕ → Result ℕ WordsFault
+number_at (Ok number) place = Ok number
+number_at (Err kind) place = Err (BadNumber place)
+
+-- go on with a number, where it is not refused
+abbrev pub with_number : {T : Type 0} → Result ℕ WordsFault → (ℕ → Result T WordsFault)
+    → Result T WordsFault
+with_number (Ok number) next = next number
+with_number (Err refused) next = Err refused
+
+-- the number of workers that the option's word gives, which stands at this place; without the
+-- option it is the usual one
+abbrev pub workers_of : Option (List ℕ) → ℕ → Result ℕ WordsFault
+workers_of None place = Ok WORKERS
+workers_of (Some word) place = number_at (number_of word 1 MAX_WORKERS) place
+
+-- the words after the command mean names of files, any of them: then only the number of workers can
+-- be bad
+abbrev pub of_names : (ℕ → Command) → List (List ℕ) → Result ℕ WordsFault
+    → Result Command WordsFault
+of_names command further workers = with_number workers (λ number. Ok (command number))
+
+-- how many types there are, beside so many candidates: with too many ranks it is this number that is
+-- bad
+abbrev pub types_beside : ℕ → ℕ → Result ℕ WordsFault
+types_beside candidates types =
+    if nat_lt MOST_RANKS (candidates * types) then Err (BadNumber 5) else Ok types
+
+-- they mean numbers: a seed, and the sizes of a market. The first that is bad is refused, and the
+-- number of workers comes last.
+abbrev pub of_numbers : List (List ℕ) → Result ℕ WordsFault → Result Command WordsFault
+of_numbers further workers =
+    with_number (number_at (number_of (slice_index_or further 0 []) 0 (2 ^ 64 - 1)) 2) (λ seed.
+    with_number (number_at (number_of (slice_index_or further 1 []) 0 MOST_CANDIDATES) 3) (λ candidates.
+    with_number (number_at (number_of (slice_index_or further 2 []) 0 MOST_PROGRAMMES) 4) (λ programmes.
+    with_number (number_at (number_of (slice_index_or further 3 []) 1 MOST_TYPES) 5) (λ types.
+    with_number (types_beside candidates types) (λ types.
+    with_number workers (λ number. Ok (Make seed candidates programmes types number)))))))
+
+-- ---- the grammar
 
 -- a line of the grammar
 pub record CommandForm : Type 0 where
@@ -16,52 +61,49 @@ pub record CommandForm : Type 0 where
   pub word : List ℕ
   -- how many words follow it, without the option
   pub further : ℕ
-  -- what they ask for, by the number of workers
-  pub command : ℕ → Command
+  -- what they ask for, by these words and the number of workers
+  pub command : List (List ℕ) → Result ℕ WordsFault → Result Command WordsFault
 
--- the grammar: three commands take the names of three files, and the audit takes that of a
--- placement file behind them
+-- the grammar: three commands take the names of three files, the audit takes that of a placement
+-- file behind them, and the maker of markets takes four numbers
 abbrev pub grammar : List CommandForm
 grammar =
-    record { word = codes "place"; further = 3; command = λ workers. Place workers }
-    ∷ record { word = codes "base"; further = 3; command = λ workers. Base workers }
-    ∷ record { word = codes "reasons"; further = 3; command = λ workers. Reasons workers }
-    ∷ record { word = codes "audit"; further = 4; command = λ workers. Audit workers } ∷ []
+    record { word = codes "place"; further = 3; command = of_names (λ workers. Place workers) }
+    ∷ record { word = codes "base"; further = 3; command = of_names (λ workers. Base workers) }
+    ∷ record { word = codes "reasons"; further = 3; command = of_names (λ workers. Reasons workers) }
+    ∷ record { word = codes "audit"; further = 4; command = of_names (λ workers. Audit workers) }
+    ∷ record { word = codes "make"; further = 4; command = of_numbers } ∷ []
 
 -- the line of the grammar with this word
 abbrev pub form_of : List ℕ → Option CommandForm
 form_of word = find (λ form. bytes_eq form.word word) grammar
 
--- the number that a word gives, or that the word at this place is no such number
-abbrev pub number_at : Result ℕ FaultKind → ℕ → Result ℕ WordsFault
-number_at (Ok number) place = Ok number
-number_at (Err kind) place = Err (BadNumber place)
+-- the one word that stands behind the option's, from this place on
+abbrev pub word_behind : List (List ℕ) → ℕ → Result (Option (List ℕ)) WordsFault
+word_behind [] place = Err (WordCount place)
+word_behind (word ∷ []) place = Ok (Some word)
+word_behind (word ∷ other ∷ more) place = Err (WordCount (place + 1))
 
--- what stands behind the option's word, from this place on: one number
-abbrev pub number_behind : List (List ℕ) → ℕ → Result ℕ WordsFault
-number_behind [] place = Err (WordCount place)
-number_behind (word ∷ []) place = number_at (number_of word 1 MAX_WORKERS) place
-number_behind (word ∷ other ∷ more) place = Err (WordCount (place + 1))
-
--- the number of workers that the words behind a command's own give, from this place on: none,
--- or the option and a number
-abbrev pub workers_of : List (List ℕ) → ℕ → Result ℕ WordsFault
-workers_of [] place = Ok WORKERS
-workers_of (word ∷ more) place =
-    if bytes_eq word (codes "--workers") then number_behind more (place + 1)
+-- what stands behind a command's own words, from this place on: nothing, or the option and a word
+abbrev pub option_of : List (List ℕ) → ℕ → Result (Option (List ℕ)) WordsFault
+option_of [] place = Ok None
+option_of (word ∷ more) place =
+    if bytes_eq word (codes "--workers") then word_behind more (place + 1)
     else Err (WordCount place)
 
--- a command by so many workers
-abbrev pub command_by : CommandForm → Result ℕ WordsFault → Result Command WordsFault
-command_by form (Ok workers) = Ok (form.command workers)
-command_by form (Err refused) = Err refused
+-- what a command asks for, where its words are as many as it takes
+abbrev pub command_by : CommandForm → List (List ℕ) → Result (Option (List ℕ)) WordsFault
+    → Result Command WordsFault
+command_by form further (Ok option) =
+    form.command further (workers_of option (form.further + 3))
+command_by form further (Err refused) = Err refused
 
 -- what the words behind a command's own mean, or the first refusal
 abbrev pub command_with : List (List ℕ) → Option CommandForm → Result Command WordsFault
 command_with further None = Err (UnknownCommand 1)
 command_with further (Some form) =
     if nat_lt (length further) form.further then Err (WordCount (length further + 2))
-    else command_by form (workers_of (drop form.further further) (form.further + 2))
+    else command_by form further (option_of (drop form.further further) (form.further + 2))
 
 -- the command of a list of words, or its first refusal
 abbrev pub command_of : List (List ℕ) → Result Command WordsFault

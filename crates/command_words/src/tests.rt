@@ -112,6 +112,127 @@ const ROWS: [(&[&str], Result<Command, WordsFault>); 32] = [
     ),
 ];
 
+// Numbers in their ranges: seed, candidates, programmes, types, workers. Any number of leading zeros
+// is allowed.
+const MADE: [(&[&str], (u64, u32, u32, u32, u32)); 6] = [
+    (&["make", "1", "0", "0", "1"], (1, 0, 0, 1, 4)),
+    (
+        &["make", "007", "0300", "40", "05", "--workers", "64"],
+        (7, 300, 40, 5, 64),
+    ),
+    (
+        &["make", "18446744073709551615", "1250000", "60000", "16"],
+        (u64::MAX, 1_250_000, 60_000, 16, 4),
+    ),
+    (
+        &["make", "000000000000000000000000000001", "0", "0", "1"],
+        (1, 0, 0, 1, 4),
+    ),
+    (&["make", "1", "3500000", "0", "5"], (1, 3_500_000, 0, 5, 4)),
+    (&["make", "1", "3333333", "4", "6"], (1, 3_333_333, 4, 6, 4)),
+];
+
+const REFUSED: [(&[&str], Result<Command, WordsFault>); 27] = [
+    // Behind the end of each range, and numbers that no word of the machine has.
+    (
+        &["make", "18446744073709551616", "0", "0", "1"],
+        Err(WordsFault::BadNumber(2)),
+    ),
+    (
+        &["make", "36893488147419103233", "0", "0", "1"],
+        Err(WordsFault::BadNumber(2)),
+    ),
+    (
+        &["make", "1", "3500001", "0", "5"],
+        Err(WordsFault::BadNumber(3)),
+    ),
+    (
+        &["make", "1", "4294967296", "0", "1"],
+        Err(WordsFault::BadNumber(3)),
+    ),
+    (
+        &["make", "1", "0", "60001", "1"],
+        Err(WordsFault::BadNumber(4)),
+    ),
+    (&["make", "1", "0", "0", "0"], Err(WordsFault::BadNumber(5))),
+    (
+        &["make", "1", "0", "0", "17"],
+        Err(WordsFault::BadNumber(5)),
+    ),
+    // Candidates times types are at most 20,000,000, and else the types are bad.
+    (
+        &["make", "1", "3500000", "4", "6"],
+        Err(WordsFault::BadNumber(5)),
+    ),
+    (
+        &["make", "1", "1250001", "4", "16"],
+        Err(WordsFault::BadNumber(5)),
+    ),
+    (
+        &["make", "1", "3333334", "4", "6"],
+        Err(WordsFault::BadNumber(5)),
+    ),
+    // The first bad number is told, and that of the workers is the last.
+    (&["make", "1", "x", "4", "2"], Err(WordsFault::BadNumber(3))),
+    (&["make", "", "x", "4", "2"], Err(WordsFault::BadNumber(2))),
+    (
+        &["make", "-1", "3", "4", "2"],
+        Err(WordsFault::BadNumber(2)),
+    ),
+    (
+        &["make", "1", "3", "4 ", "99"],
+        Err(WordsFault::BadNumber(4)),
+    ),
+    (
+        &["make", "1", "3500000", "x", "6"],
+        Err(WordsFault::BadNumber(4)),
+    ),
+    (
+        &["make", "1", "3500000", "4", "6", "--workers", "0"],
+        Err(WordsFault::BadNumber(5)),
+    ),
+    (
+        &["make", "1", "3", "4", "2", "--workers", "0"],
+        Err(WordsFault::BadNumber(7)),
+    ),
+    (
+        &["make", "1", "3", "4", "2", "--workers", "65"],
+        Err(WordsFault::BadNumber(7)),
+    ),
+    (
+        &["make", "1", "3", "4", "2", "--workers", "two"],
+        Err(WordsFault::BadNumber(7)),
+    ),
+    // A word that is missing or too many comes before any number.
+    (&["make"], Err(WordsFault::WordCount(2))),
+    (&["make", "x", "x", "x"], Err(WordsFault::WordCount(5))),
+    (
+        &["make", "x", "3", "4", "2", "5"],
+        Err(WordsFault::WordCount(6)),
+    ),
+    (
+        &["make", "1", "3", "4", "2", "--clerks", "0"],
+        Err(WordsFault::WordCount(6)),
+    ),
+    (
+        &["make", "x", "3", "4", "2", "--workers"],
+        Err(WordsFault::WordCount(7)),
+    ),
+    (
+        &["make", "1", "3", "4", "2", "--workers", "0", "x"],
+        Err(WordsFault::WordCount(8)),
+    ),
+    // The option's word is no number where a number stands.
+    (
+        &["make", "1", "3", "4", "--workers"],
+        Err(WordsFault::BadNumber(5)),
+    ),
+    (
+        &["Make", "1", "3", "4", "2"],
+        Err(WordsFault::UnknownCommand(1)),
+    ),
+];
+
 // Compares what each list of words means.
 fn each_means(
     rt: &impl Abort,
@@ -128,4 +249,25 @@ fn each_means(
 #[test]
 fn a_command_is_its_word_and_as_many_words_as_it_wants(rt: HostRuntime) -> Result<(), Fail> {
     each_means(&rt, rt.alloc(), &ROWS)
+}
+
+#[test]
+fn a_market_is_made_from_numbers_in_their_ranges(rt: HostRuntime) -> Result<(), Fail> {
+    for (texts, (seed, candidates, programmes, types, workers)) in MADE {
+        let read = read_words(&words(rt.alloc(), texts)?);
+        let made = Command::Make {
+            seed,
+            candidates,
+            programmes,
+            types,
+            workers,
+        };
+        assert_eq!(rt; read, Ok(made), "{texts:?}");
+    }
+    Ok(())
+}
+
+#[test]
+fn a_bad_number_is_told_where_the_words_are_as_many_as_wanted(rt: HostRuntime) -> Result<(), Fail> {
+    each_means(&rt, rt.alloc(), &REFUSED)
 }

@@ -1,10 +1,12 @@
 // The table of commands, and the reading of a list of words against it.
 
-ghost use Rattle.std.specs.Prelude.{◌≡◌, ◌≤◌};
+ghost use Rattle.std.specs.Prelude.{◌≡◌, ◌+◌, ◌≤◌, [], slice_index_or, option_copied, IfOk};
 ghost use Rattle.std.specs.Option.{option_map};
-ghost use Rattle.command_words.specs.Forms.{asked as command_asked, grammar_line};
-ghost use Rattle.command_words.specs.Words.{command_of, form_of, number_behind, texts, workers_of};
+ghost use Rattle.command_words.specs.Forms.{asked as command_asked, bytes_in, grammar_line};
+ghost use Rattle.command_words.specs.Words.{command_of, form_of, number_at, of_numbers, option_of, texts, word_behind, workers_of};
+ghost use Rattle.record_files.specs.Numbers.{number_of};
 
+use place_base::limits::{MOST_CANDIDATES, MOST_PROGRAMMES, MOST_RANKS, MOST_TYPES};
 use record_files::number;
 
 /// The number of workers where the words give none.
@@ -27,6 +29,19 @@ pub enum Command {
     Reasons(u32),
     /// The audit of the placement in a fourth file, by this number of workers.
     Audit(u32),
+    /// The summary of a market that is made from numbers, and of its placement.
+    Make {
+        /// The seed of the words that are drawn.
+        seed: u64,
+        /// How many candidates the market has, at most 3,500,000.
+        candidates: u32,
+        /// How many programmes, at most 60,000.
+        programmes: u32,
+        /// How many score types, 1 to 16; with the candidates they give at most 20,000,000 ranks.
+        types: u32,
+        /// The number of workers, 1 to 64.
+        workers: u32,
+    },
 }
 
 /// Why a list of words is no command. A place of a word is counted from 1.
@@ -57,9 +72,10 @@ enum Kind {
     Base,
     Reasons,
     Audit,
+    Make,
 }
 
-const FORMS: [Form; 4] = [
+const FORMS: [Form; 5] = [
     Form {
         word: b"place",
         further: 3,
@@ -80,6 +96,11 @@ const FORMS: [Form; 4] = [
         further: 4,
         kind: Kind::Audit,
     },
+    Form {
+        word: b"make",
+        further: 4,
+        kind: Kind::Make,
+    },
 ];
 
 /// The command that these words give, or the first refusal by the order of the grammar's rules.
@@ -98,8 +119,11 @@ pub fn read_words(words: &[String]) -> Result<Command, WordsFault>
     if further.len() < wanted {
         return Err(WordsFault::WordCount(words.len() as u32 + 1));
     }
-    match read_workers(&further[wanted..], form.further + 2) {
-        Ok(workers) => Ok(asked(form.kind, workers)),
+    match read_option(&further[wanted..], form.further + 2) {
+        Ok(option) => {
+            let workers = read_workers(option, form.further + 3);
+            asked(form.kind, further, workers)
+        }
         Err(refused) => Err(refused),
     }
 }
@@ -111,24 +135,25 @@ fn find_form(word: &[u8]) -> Option<Form>
     FORMS.iter().copied().find(|form| form.word == word)
 }
 
-// The number of workers that the words behind a command's own give; the first stands at this place.
-fn read_workers(words: &[String], place: u32) -> Result<u32, WordsFault>
+// The word of the option, if the words behind a command's own are the option and a word; the first
+// stands at this place. None where there are none.
+fn read_option(words: &[String], place: u32) -> Result<Option<&[u8]>, WordsFault>
     requires { place ≤ 1000 }
-    ensures { result ≡ workers_of (texts words.now) place }
+    ensures { bytes_in result ≡ option_of (texts words.now) place }
 {
     let Some((option, behind)) = words.split_first() else {
-        return Ok(WORKERS);
+        return Ok(None);
     };
     if option.as_str() != "--workers" {
         return Err(WordsFault::WordCount(place));
     }
-    read_number(behind, place + 1)
+    read_behind(behind, place + 1)
 }
 
-// The one number that stands behind the option's word; it stands at this place.
-fn read_number(words: &[String], place: u32) -> Result<u32, WordsFault>
+// The one word that stands behind the option's; it stands at this place.
+fn read_behind(words: &[String], place: u32) -> Result<Option<&[u8]>, WordsFault>
     requires { place ≤ 1001 }
-    ensures { result ≡ number_behind (texts words.now) place }
+    ensures { bytes_in result ≡ word_behind (texts words.now) place }
 {
     let Some((word, behind)) = words.split_first() else {
         return Err(WordsFault::WordCount(place));
@@ -136,20 +161,75 @@ fn read_number(words: &[String], place: u32) -> Result<u32, WordsFault>
     if !behind.is_empty() {
         return Err(WordsFault::WordCount(place + 1));
     }
-    match number(word.as_bytes(), 1, u64::from(MAX_WORKERS)) {
-        Ok(workers) => Ok(workers as u32),
+    Ok(Some(word.as_bytes()))
+}
+
+// The number of workers that the option's word gives, which stands at this place.
+fn read_workers(option: Option<&[u8]>, place: u32) -> Result<u32, WordsFault>
+    ensures { result ≡ workers_of (option_copied option.entry) place }
+{
+    let Some(word) = option else {
+        return Ok(WORKERS);
+    };
+    let workers = read_number(word, place, 1, u64::from(MAX_WORKERS))?;
+    Ok(workers as u32)
+}
+
+// The number of a range that the word at a place gives.
+fn read_number(word: &[u8], place: u32, low: u64, high: u64) -> Result<u64, WordsFault>
+    ensures number { result ≡ number_at (number_of word.now low high) place }
+    ensures range { IfOk result (λ n. (low ≤ n) × (n ≤ high)) }
+{
+    match number(word, low, high) {
+        Ok(value) => Ok(value),
         Err(_) => Err(WordsFault::BadNumber(place)),
     }
 }
 
-// What a command asks for.
-fn asked(kind: Kind, workers: u32) -> Command
-    ensures { result ≡ command_asked kind workers }
+// What a command asks for. Where its words are names only the number of workers can be bad.
+fn asked(
+    kind: Kind,
+    further: &[String],
+    workers: Result<u32, WordsFault>,
+) -> Result<Command, WordsFault>
+    ensures { result ≡ command_asked kind (texts further.now) workers }
 {
     match kind {
-        Kind::Place => Command::Place(workers),
-        Kind::Base => Command::Base(workers),
-        Kind::Reasons => Command::Reasons(workers),
-        Kind::Audit => Command::Audit(workers),
+        Kind::Place => Ok(Command::Place(workers?)),
+        Kind::Base => Ok(Command::Base(workers?)),
+        Kind::Reasons => Ok(Command::Reasons(workers?)),
+        Kind::Audit => Ok(Command::Audit(workers?)),
+        Kind::Make => read_sizes(further, workers),
+    }
+}
+
+// The market that four words ask for, of which the first stands at place 2, or the first number
+// that is bad. That of the workers is behind them.
+fn read_sizes(words: &[String], workers: Result<u32, WordsFault>) -> Result<Command, WordsFault>
+    ensures { result ≡ of_numbers (texts words.now) workers }
+{
+    let seed = read_number(word_at(words, 0), 2, 0, u64::MAX)?;
+    let candidates = read_number(word_at(words, 1), 3, 0, u64::from(MOST_CANDIDATES))? as u32;
+    let programmes = read_number(word_at(words, 2), 4, 0, u64::from(MOST_PROGRAMMES))? as u32;
+    let types = read_number(word_at(words, 3), 5, 1, MOST_TYPES as u64)? as u32;
+    if u64::from(candidates) * u64::from(types) > u64::from(MOST_RANKS) {
+        return Err(WordsFault::BadNumber(5));
+    }
+    Ok(Command::Make {
+        seed,
+        candidates,
+        programmes,
+        types,
+        workers: workers?,
+    })
+}
+
+// The bytes of the word at an index, none behind the last word.
+fn word_at(words: &[String], index: usize) -> &[u8]
+    ensures { result.now ≡ slice_index_or (texts words.now) index [] }
+{
+    match words.get(index) {
+        Some(word) => word.as_bytes(),
+        None => b"",
     }
 }

@@ -31,7 +31,7 @@ pub words-refused : (told : Option Files) (words : List (List ℕ))
 words-refused told words command refused before tally_before none =
     subst (λ v. IsAnswering told words v (Err (Words refused)) before before tally_before
     tally_before) (sym none) (record {
-      reading = none-read holds-stops told (named words) (Err (Words refused)) before tally_before
-          (inr refl) (λ stop e. cc e);
+      reading = none-read holds-stops told (named words) _ (Err (Words refused)) before
+          tally_before (λ reads. inr refl) (λ e. cc e) (λ kind e. cc e);
       promise = tt;
     })

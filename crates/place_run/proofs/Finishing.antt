@@ -4,7 +4,7 @@ use Rattle.std.specs.Prelude.{IsTrue}
 use Rattle.place_base.specs.declared.fault.FileKind.TheVariants as file
 use Rattle.command_words.specs.Words.{command_of}
 use Rattle.command_words.specs.declared.words.Command.{Command}
-use Rattle.command_words.specs.declared.words.Command.TheVariants.{Place, Base, Reasons, Audit}
+use Rattle.command_words.specs.declared.words.Command.TheVariants.{Place, Base, Reasons, Audit, Make}
 use Rattle.command_words.specs.declared.words.WordsFault.{WordsFault}
 use Rattle.place_edges.specs.Causes.{Rose}
 use Rattle.place_edges.specs.Shelf.{Files}
@@ -22,12 +22,13 @@ use Rattle.run_frame.proofs.Answering.{answered-stop, opened-no-stop}
 use Rattle.run_frame.proofs.Endings as frame
 use Rattle.run_frame.proofs.Endings.{AreApart, answered-finished, stopped, whole-run, words-cause, write-cause}
 use Rattle.run_frame.proofs.JudgedTables.{judged-ok}
-use Rattle.place_run.specs.Runs.{HasCause, IsAnswering, IsComplete, IsFinished, LeavesSink, PlacesWhole, PrintsReports, PrintsVerdict, PrintsWorstStable, endings}
+use Rattle.place_run.specs.Runs.{HasCause, IsAnswering, IsComplete, IsFinished, LeavesSink, PlacesWhole, PrintsReports, PrintsSummary, PrintsVerdict, PrintsWorstStable, ReadsNothing, RunsWithoutFile, endings}
 use Rattle.place_run.specs.Answers.{Answer, done}
 use Rattle.place_run.specs.Says.{KeepsPromise, audited_said, behind_tables, named, says, tables_said}
 use Rattle.place_run.specs.Statuses.{ended, status_of}
 use Rattle.place_run.specs.Stops.{is_free}
 use Rattle.place_run.specs.Tables.{HasNoFault, Tables, ThreeFiles, candidates_said, codes_in, numbers_in, programmes_said, ranks_said, tables_in}
+use Rattle.place_run.specs.commands.Make.{summary_of}
 use Rattle.place_run.specs.commands.Place.{AreThree, placement_of}
 use Rattle.place_run.specs.declared.status.Ending.{Ending}
 use Rattle.place_run.specs.declared.status.Ending.TheVariants as ending
@@ -135,6 +136,7 @@ says-refused (Ok (Reasons workers)) reads refused e = absurd
     (tables-no-words reads refused (answered-no-words _ (tables_said reads) refused e))
 says-refused (Ok (Audit workers)) reads refused e = absurd
     (audited-no-words reads refused (answered-no-words _ (audited_said reads) refused e))
+says-refused (Ok (Make seed candidates programmes types workers)) reads refused e = cc e
 
 -- an answer of three files ends well
 answered-done : (text : Tables → List ℕ) (said : Option (Result Tables Stop)) (ready : Answer)
@@ -156,6 +158,9 @@ says-unstable (Ok (Base workers)) reads ready e is =
 says-unstable (Ok (Reasons workers)) reads ready e is =
     cc (sym (answered-done _ (tables_said reads) ready e) ∙ is)
 says-unstable (Ok (Audit workers)) reads ready e is = (workers, refl)
+says-unstable (Ok (Make seed candidates programmes types workers)) reads ready e is =
+    let same : done (summary_of seed candidates programmes types) ≡ ready = cc e in
+    let never : ending.Done ≡ ending.AuditNo = ap (λ (v : Answer). v.ending) same ∙ is in cc never
 
 -- where a run ends with its text, an answer with this end was appended whole
 record HasEnded {K : Type 0} (written : K → Option (List ℕ)) (answer : Result Answer Stop)
@@ -284,6 +289,25 @@ module _ {K : Type 0} (written : K → Option (List ℕ)) (faults : K → ℕ) (
         end.ends_so,
         kept (Ok (Audit workers)) accepted end.ready end.is,
         end.wrote,
+      )
+
+  pub summary-done : PrintsSummary words status (written old) (written new)
+  summary-done = λ seed candidates programmes types workers accepted well.
+      let end = ended-finished written faults answer status old new ending.Done finished well in (
+        end.ready.text,
+        kept (Ok (Make seed candidates programmes types workers)) accepted end.ready end.is,
+        end.wrote,
+      )
+
+  pub unread-run : {H : Type 0} (shelf_old shelf_new : H)
+      → ReadsNothing (command_of words) answer shelf_old shelf_new
+      → RunsWithoutFile (command_of words) status shelf_old shelf_new
+  unread-run shelf_old shelf_new nothing = λ none.
+      let both = nothing none in (
+        both.0,
+        λ same. both.1
+            (stopped are-apart written faults answer status old new (File ReadFault) finished
+            same).0,
       )
 
   pub complete-run : (Rose before now → ⊥) → (Rose (faults old) (faults new) → ⊥)

@@ -2,7 +2,7 @@
 use Rattle.std.proofs.Common.{ℕ, List, Option, Result, Ok, Err}
 use Rattle.std.specs.Prelude.{Bool, IsTrue}
 use Rattle.command_words.specs.declared.words.Command.{Command}
-use Rattle.command_words.specs.declared.words.Command.TheVariants.{Place, Base, Reasons, Audit}
+use Rattle.command_words.specs.declared.words.Command.TheVariants.{Place, Base, Reasons, Audit, Make}
 use Rattle.command_words.specs.declared.words.WordsFault.{WordsFault}
 use Rattle.place_edges.specs.Shelf.{Files}
 use Rattle.place_run.specs.Says.{MayOpen, MayOpenAudit, MayOpenTables}
@@ -26,3 +26,4 @@ all-granted told grants (Ok (Audit workers)) words all = record {
   tables = three-granted told grants words all;
   placement = λ reads said held tables. all _;
 }
+all-granted told grants (Ok (Make seed candidates programmes types workers)) words all = tt

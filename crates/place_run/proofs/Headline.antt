@@ -1,5 +1,5 @@
--- What files say that were read: they have no fault, and their tables are those of the files. So what
--- is known of the market of the tables is known of the market of the files.
+-- What files say that were read: they have no fault, and their tables are those of the files. So
+-- what is known of the market of the tables is known of the market of the files.
 use Rattle.std.proofs.Common.{◌≡◌, ℕ, ◌≤◌, List, refl, sym, subst, ap, ◌∙◌, Option, Some, None, Result, Ok, Err}
 use Rattle.std.specs.Prelude.{length, ◌↔◌}
 use Rattle.place_base.specs.declared.fault.FileKind.TheVariants as file
@@ -72,9 +72,10 @@ are-read : (reads : Reads) (tables : Tables) → tables_said reads ≡ Some (Ok 
 unfolding tables_in codes_in numbers_in
 are-read reads tables e =
     let p = said-from File (reads file.Programmes) programmes_said _ tables e in
-    let c = said-from File (reads file.Candidates) (candidates_said (codes_of p.2.rows)) _ tables p.4 in
-    let r = said-from File (reads file.Ranks) (ranks_said p.2.names (numbers_of c.2.numbers)) _ tables
-    c.4 in
+    let c = said-from File (reads file.Candidates) (candidates_said (codes_of p.2.rows)) _ tables
+    p.4 in
+    let r = said-from File (reads file.Ranks) (ranks_said p.2.names (numbers_of c.2.numbers)) _
+    tables c.4 in
     let one = says-programmes p.0 p.2 p.3 in
     let two = says-candidates (codes_of p.2.rows) c.0 c.2 c.3 in
     let three = says-ranks p.2.names (numbers_of c.2.numbers) r.0 r.2 r.3 in
@@ -224,8 +225,9 @@ audit-answer reads audited answer said is =
     let behind = behind-said (tables_said reads) _ audited said in
     let tables = behind.0 in
     let files = are-read reads tables behind.1 in
-    let last = said-from File (reads file.Placement) (placement_said (codes_of tables.programmes.rows)
-    (numbers_of tables.candidates.numbers)) _ audited behind.2 in
+    let last = said-from File (reads file.Placement)
+    (placement_said (codes_of tables.programmes.rows) (numbers_of tables.candidates.numbers)) _
+    audited behind.2 in
     let one = says-placement (codes_of tables.programmes.rows)
     (numbers_of tables.candidates.numbers) last.0 last.2 last.3 in
     let made : audited ≡ audited_with tables last.2 = cc last.4 in

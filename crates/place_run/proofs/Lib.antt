@@ -6,6 +6,8 @@ pub mod Readings
 pub mod FourFiles
 -- an answer that is made of what was read
 pub mod Answering
+-- the summary of a made market
+pub mod Summaries
 -- what files say that were read
 pub mod Headline
 -- the market of three tables, and what is printed of it

@@ -171,4 +171,5 @@ module _ (told : Option Files) (words : List (List ℕ)) (programmes : Programme
           ranks = given;
         }))) (λ given reads. []) ranks None end _ _ _ _ _ _ (λ bytes reads. refl)
         (λ bytes reads. refl) three
-        (none-read holds-stops told (named words) end now tally_now refl (λ stop e. cc e)))
+        (none-read holds-stops told (named words) _ end now tally_now (λ reads. refl) (λ e. cc e)
+        (λ kind e. cc e)))

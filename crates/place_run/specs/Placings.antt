@@ -1,8 +1,10 @@
 -- The mechanism's placement in a market, and what is reported of it.
 use Rattle.std.specs.Prelude.{◌≡◌, ℕ, List, Option, length}
 use Rattle.market.specs.Comparisons.{IsWorstStable}
-use Rattle.market.specs.Mechanism.{mechanism_placement}
-use Rattle.market.specs.Problems.{IsValid}
+use Rattle.market.specs.Mechanism.{mechanism_cuts, mechanism_placement, mechanism_rounds}
+use Rattle.market.specs.Problems.{IsValid, Problem as Market}
+use Rattle.market.specs.Reruns.{placement_turns}
+use Rattle.market.specs.declared.placement.Outcome.{Outcome}
 use Rattle.programme_table.specs.Table.{codes_of}
 use Rattle.candidate_table.specs.Table.{numbers_of}
 use Rattle.reports.specs.BaseTables.{BaseTable, HoldsProgrammes, IsBaseTable}
@@ -15,6 +17,13 @@ use Rattle.place_run.specs.declared.problem.Problem.{Problem}
 pub record IsNamed (problem : Problem) : Type 0 where
   pub programmes : length (codes_of problem.programmes.rows) ≡ length problem.market.programmes
   pub candidates : length (numbers_of problem.numbers) ≡ length problem.market.lists
+
+-- what the mechanism gives in a market, with the turns of rounds that run again only what changed
+pub record IsOutcomeOf (m : Market) (outcome : Outcome) : Type 0 where
+  pub placement : outcome.placement ≡ mechanism_placement m
+  pub rounds : outcome.rounds ≡ mechanism_rounds m
+  pub cuts : outcome.cuts ≡ mechanism_cuts m
+  pub turns : outcome.turns ≡ placement_turns m
 
 -- the mechanism's placement in the market of three tables, which is the worst of the stable ones
 pub record IsPlacedOf (tables : Tables) (placed : Placed) : Type 0 where

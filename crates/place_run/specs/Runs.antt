@@ -1,9 +1,9 @@
 -- What may be said of a run: the promise of the top call.
-use Rattle.std.specs.Prelude.{◌≡◌, ◌⊎◌, ℕ, List, IfOk, IfSome, IsErrOf, Option, Result, Ok}
+use Rattle.std.specs.Prelude.{◌≡◌, ◌⊎◌, ℕ, List, IfOk, IfSome, IsErrOf, Option, None, Result, Ok}
 use Rattle.place_base.specs.declared.fault.FileKind.{FileKind}
 use Rattle.command_words.specs.Words.{command_of}
 use Rattle.command_words.specs.declared.words.Command.{Command}
-use Rattle.command_words.specs.declared.words.Command.TheVariants.{Place, Base, Reasons, Audit}
+use Rattle.command_words.specs.declared.words.Command.TheVariants.{Place, Base, Reasons, Audit, Make}
 use Rattle.command_words.specs.declared.words.WordsFault.{WordsFault}
 use Rattle.market.specs.Mechanism.{mechanism_placement}
 use Rattle.place_edges.specs.Causes.{Rose}
@@ -13,6 +13,7 @@ use Rattle.run_frame.specs.Files.{AreHeld, AreRead, Reads}
 use Rattle.run_frame.specs.Runs as frame
 use Rattle.run_frame.specs.Runs.{Endings, IsWhole, WordsCause}
 use Rattle.run_frame.specs.Stops.{too_long}
+use Rattle.run_frame.specs.declared.stop.FileStop.TheVariants as file
 use Rattle.place_run.specs.Answers.{Answer}
 use Rattle.place_run.specs.Says.{KeepsPromise, files_read, first_file, named, says}
 use Rattle.place_run.specs.Statuses.{ended, status_of}
@@ -21,6 +22,7 @@ use Rattle.place_run.specs.Tables.{HasNoFault, ThreeFiles, codes_in, numbers_in,
 use Rattle.placement_file.specs.Texts.{placement_text}
 use Rattle.place_run.specs.commands.Audit.{IsAudit}
 use Rattle.place_run.specs.commands.Base.{IsBaseText}
+use Rattle.place_run.specs.commands.Make.{IsSummaryOf}
 use Rattle.place_run.specs.commands.Place.{AreThree, IsWorstStableText}
 use Rattle.place_run.specs.commands.Reasons.{IsReasonsText}
 use Rattle.place_run.specs.declared.status.Ending.{Ending}
@@ -65,6 +67,12 @@ pub record IsAnswering (told : Option Files) (words : List (List ℕ))
 -- the words were refused
 abbrev pub IsWordsStop : {T : Type 0} → Result T Stop → Type 0
 IsWordsStop result = (refused : WordsFault) × IsErrOf result (Words refused)
+
+-- where the words ask for no file the shelf is as it was, and there is no read fault
+abbrev pub ReadsNothing : {H T : Type 0} → Result Command WordsFault → Result T Stop → H → H
+    → Type 0
+ReadsNothing command result old new =
+    first_file command ≡ None → (new ≡ old) × (IsErrOf result (File file.ReadFault) → ⊥)
 
 -- The run: there is an answer to the words, and it was written.
 pub record IsAnsweredRun {K : Type 0} (written : K → Option (List ℕ)) (faults : K → ℕ)
@@ -115,6 +123,14 @@ PrintsVerdict told words status old new =
     × (answer : Answer) × (answer.ending ≡ ending) × IsAudit reads answer
     × Appended old new answer.text
 
+-- where the words are `make` and the run is done, the summary of the market of these numbers was
+-- appended, and nothing else
+abbrev pub PrintsSummary : List (List ℕ) → Status → Option (List ℕ) → Option (List ℕ) → Type 0
+PrintsSummary words status old new =
+    (seed candidates programmes types workers : ℕ)
+    → command_of words ≡ Ok (Make seed candidates programmes types workers) → status ≡ ends.Done
+    → (text : List ℕ) × IsSummaryOf seed candidates programmes types text × Appended old new text
+
 -- where the words ask for the placement of three held files without a fault, its text was appended
 -- whole, or memory was refused
 abbrev pub PlacesWhole : Option Files → List (List ℕ) → Status
@@ -140,6 +156,11 @@ HasNoLine status = (status ≡ ends.Done) ⊎ (status ≡ ends.AuditNo)
 -- the words were refused
 abbrev pub IsWordsRefusal : Status → Type 0
 IsWordsRefusal status = (refused : WordsFault) × (status ≡ ends.Words refused)
+
+-- the same of a run, by its status
+abbrev pub RunsWithoutFile : {H : Type 0} → Result Command WordsFault → Status → H → H → Type 0
+RunsWithoutFile command status old new =
+    first_file command ≡ None → (new ≡ old) × (status ≡ ends.ReadFault → ⊥)
 
 -- Each refusal has its cause: words by the grammar, a read fault and a write fault by the counts, a
 -- file that is too long by the tally. Only an audit says that a placement is not stable.

@@ -3,7 +3,7 @@ use Rattle.std.specs.Prelude.{◌≡◌, ℕ, List, [], ◌++◌, Bool, IsTrue, 
 use Rattle.place_base.specs.declared.fault.FileKind.{FileKind}
 use Rattle.place_base.specs.declared.fault.FileKind.TheVariants.{Programmes, Candidates, Ranks, Placement, Registrations}
 use Rattle.command_words.specs.declared.words.Command.{Command}
-use Rattle.command_words.specs.declared.words.Command.TheVariants.{Place, Base, Reasons, Audit}
+use Rattle.command_words.specs.declared.words.Command.TheVariants.{Place, Base, Reasons, Audit, Make}
 use Rattle.command_words.specs.declared.words.WordsFault.{WordsFault}
 use Rattle.place_edges.specs.Shelf.{Files}
 use Rattle.programme_table.specs.Table.{codes_of}
@@ -16,6 +16,7 @@ use Rattle.place_run.specs.Answers.{Answer, done}
 use Rattle.place_run.specs.Tables.{Tables, candidates_said, placement_said, programmes_said, ranks_said}
 use Rattle.place_run.specs.commands.Audit.{Audited, IsAudit, audit_of}
 use Rattle.place_run.specs.commands.Base.{IsBaseText, bases_of}
+use Rattle.place_run.specs.commands.Make.{IsSummaryOf, summary_of}
 use Rattle.place_run.specs.commands.Place.{IsWorstStableText, placement_of}
 use Rattle.place_run.specs.commands.Reasons.{IsReasonsText, reasons_of}
 use Rattle.place_run.specs.declared.status.Stop.{Stop}
@@ -88,6 +89,8 @@ says (Ok (Base workers)) reads =
 says (Ok (Reasons workers)) reads =
     answered (λ tables. done (reasons_of tables)) (tables_said reads)
 says (Ok (Audit workers)) reads = answered audit_of (audited_said reads)
+says (Ok (Make seed candidates programmes types workers)) reads =
+    Some (Ok (done (summary_of seed candidates programmes types)))
 
 -- the files that are read for it
 abbrev pub files_read : Result Command WordsFault → Reads → List (List ℕ)
@@ -96,14 +99,16 @@ files_read (Ok (Place workers)) reads = tables_read reads
 files_read (Ok (Base workers)) reads = tables_read reads
 files_read (Ok (Reasons workers)) reads = tables_read reads
 files_read (Ok (Audit workers)) reads = audited_read reads
+files_read (Ok (Make seed candidates programmes types workers)) reads = []
 
--- the kind of the file that is opened first
+-- the kind of the file that is opened first, none where no file is asked for
 abbrev pub first_file : Result Command WordsFault → Option FileKind
 first_file (Err refused) = None
 first_file (Ok (Place workers)) = Some Programmes
 first_file (Ok (Base workers)) = Some Programmes
 first_file (Ok (Reasons workers)) = Some Programmes
 first_file (Ok (Audit workers)) = Some Programmes
+first_file (Ok (Make seed candidates programmes types workers)) = None
 
 -- what each command promises of its answer, in the subject's own words
 abbrev pub KeepsPromise : Result Command WordsFault → Reads → Answer → Type 0
@@ -112,6 +117,8 @@ KeepsPromise (Ok (Place workers)) reads answer = IsWorstStableText reads answer.
 KeepsPromise (Ok (Base workers)) reads answer = IsBaseText reads answer.text
 KeepsPromise (Ok (Reasons workers)) reads answer = IsReasonsText reads answer.text
 KeepsPromise (Ok (Audit workers)) reads answer = IsAudit reads answer
+KeepsPromise (Ok (Make seed candidates programmes types workers)) reads answer =
+    IsSummaryOf seed candidates programmes types answer.text
 
 -- The name of each of the three files is granted where the files before it may have no fault. Where
 -- the shelf tells no bytes these are all three names.
@@ -142,3 +149,4 @@ MayOpen told grants (Ok (Place workers)) words = MayOpenTables told grants words
 MayOpen told grants (Ok (Base workers)) words = MayOpenTables told grants words
 MayOpen told grants (Ok (Reasons workers)) words = MayOpenTables told grants words
 MayOpen told grants (Ok (Audit workers)) words = MayOpenAudit told grants words
+MayOpen told grants (Ok (Make seed candidates programmes types workers)) words = ⊤

@@ -7,3 +7,5 @@ pub mod Base
 pub mod Reasons
 -- the audit of a placement file beside three files
 pub mod Audit
+-- the summary of a market that is made from numbers
+pub mod Make

@@ -2,7 +2,7 @@
 ghost use Rattle.std.specs.Prelude.{◌≡◌, Err, IsErrOf};
 ghost use Rattle.command_words.specs.declared.words.WordsFault.{WordsFault};
 ghost use Rattle.command_words.specs.Words.{command_of, texts};
-ghost use Rattle.place_run.specs.Runs.{IsAnswering, IsWordsStop};
+ghost use Rattle.place_run.specs.Runs.{IsAnswering, IsWordsStop, ReadsNothing};
 ghost use Rattle.place_run.specs.Says.{MayOpen};
 ghost use Rattle.place_run.specs.declared.status.Stop.TheVariants.{Words};
 
@@ -10,6 +10,8 @@ ghost use Rattle.place_run.specs.declared.status.Stop.TheVariants.{Words};
 mod audit;
 // The base ranks of the placement of three files.
 mod base;
+// The summary of a market that is made from numbers.
+mod make;
 // The placement of three files.
 mod place;
 // The reasons in the placement of three files.
@@ -17,6 +19,7 @@ mod reasons;
 
 use self::audit::audit;
 use self::base::base;
+use self::make::make;
 use self::place::place;
 use self::reasons::reasons;
 use crate::answer::Answer;
@@ -43,6 +46,7 @@ pub(crate) fn answer_words<R: Threads + Sync, H: Shelf, G: Gate>(
     ensures refused { (refused : WordsFault) → command_of (texts words.now) ≡ Err refused
         → IsErrOf result (Words refused) }
     ensures unopened { IsWordsStop result → shelf.new ≡ shelf.old }
+    ensures unread { ReadsNothing (command_of (texts words.now)) result shelf.old shelf.new }
     ensures files { H.files shelf.new ≡ H.files shelf.old }
     ensures grants { H.grants shelf.new ≡ H.grants shelf.old }
 {
@@ -51,6 +55,17 @@ pub(crate) fn answer_words<R: Threads + Sync, H: Shelf, G: Gate>(
         Ok(Command::Base(workers)) => base(rt, alloc, words, shelf, workers, gate),
         Ok(Command::Reasons(workers)) => reasons(rt, alloc, words, shelf, workers, gate),
         Ok(Command::Audit(workers)) => audit(rt, alloc, words, shelf, workers),
+        Ok(
+            Command::Make {
+                seed,
+                candidates,
+                programmes,
+                types,
+                workers,
+            },
+        ) => make(
+            rt, alloc, seed, candidates, programmes, types, workers, gate,
+        ),
         Err(refused) => Err(Stop::Words(refused)),
     }
 }

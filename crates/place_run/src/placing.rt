@@ -1,13 +1,12 @@
-// The mechanism's placement in a market, by rounds over teams of workers.
+// What the mechanism gives in a market, by rounds over teams of workers.
 
 ghost use Rattle.std.specs.Prelude.{◌≡◌, ◌<◌, ◌≤◌, IfOk};
-ghost use Rattle.market.specs.Mechanism.{mechanism_placement};
-ghost use Rattle.place_run.specs.Placings.{IsPlacedOf};
+ghost use Rattle.place_run.specs.Placings.{IsOutcomeOf, IsPlacedOf};
 
 use crate::inputs::Inputs;
 use crate::problem::Problem;
 use gate_workers::Gate;
-use market::{Market, Placement, Steps};
+use market::{Market, Outcome, Placement, Steps};
 use round_rerun::Rounds;
 use stable_laws::worst_stable;
 use std::alloc::{AllocError, Global};
@@ -36,21 +35,24 @@ impl Placed {
     {
         let problem = Problem::build(rt, alloc, inputs, workers)?;
         worst_stable(&problem.market);
-        let placement = placement_by(rt, alloc, &problem.market, workers, gate)?;
-        Ok(Placed { problem, placement })
+        let outcome = outcome_by(rt, alloc, &problem.market, workers, gate)?;
+        Ok(Placed {
+            problem,
+            placement: outcome.placement,
+        })
     }
 }
 
-// The placement, by teams of so many workers who pass this gate.
-fn placement_by<R: Threads + Sync, G: Gate>(
+// What the mechanism gives in a market, by teams of so many workers who pass this gate.
+pub(crate) fn outcome_by<R: Threads + Sync, G: Gate>(
     rt: &R,
     alloc: Global,
     market: &Market,
     workers: u32,
     gate: &G,
-) -> Result<Placement, AllocError>
+) -> Result<Outcome, AllocError>
     requires { (1 ≤ workers) × (workers ≤ 64) }
-    ensures { IfOk result (λ placement. placement ≡ mechanism_placement market.now) }
+    ensures { IfOk result (IsOutcomeOf market.now) }
 {
     uncounted::<R, G, Brand>(rt, alloc, market, workers, gate, Blank::new(1))
 }
@@ -63,12 +65,12 @@ fn uncounted<R: Threads + Sync, G: Gate, L: Ledger>(
     workers: u32,
     gate: &G,
     blank: Blank,
-) -> Result<Placement, AllocError>
+) -> Result<Outcome, AllocError>
     requires workers { (1 ≤ workers) × (workers ≤ 64) }
     requires ledger { (blank.name ≡ L.name) × (blank.parts ≡ L.parts) × (0 < blank.parts) }
-    ensures { IfOk result (λ placement. placement ≡ mechanism_placement market.now) }
+    ensures { IfOk result (IsOutcomeOf market.now) }
 {
     let mut turns = Steps::<L>::new(blank);
     let outcome = Rounds::new(workers, gate).run(rt, alloc, market, &mut turns)?;
-    Ok(outcome.placement)
+    Ok(outcome)
 }

@@ -4,7 +4,7 @@ ghost use Rattle.command_words.specs.Words.{command_of, texts};
 ghost use Rattle.place_edges.specs.Causes.{Rose};
 ghost use Rattle.run_frame.specs.Lines.{IsNoted};
 ghost use Rattle.run_frame.specs.Runs.{IsConstant};
-ghost use Rattle.place_run.specs.Runs.{HasCause, IsComplete, IsFinished, IsAnsweredRun, IsWordsRefusal, LeavesSink, HasNoLine, PrintsReports, PrintsVerdict, PrintsWorstStable};
+ghost use Rattle.place_run.specs.Runs.{HasCause, IsComplete, IsFinished, IsAnsweredRun, IsWordsRefusal, LeavesSink, HasNoLine, PrintsReports, PrintsSummary, PrintsVerdict, PrintsWorstStable, RunsWithoutFile};
 ghost use Rattle.place_run.specs.Says.{MayOpen};
 ghost use Rattle.place_run.specs.Statuses.{status_line};
 
@@ -65,6 +65,12 @@ pub fn run_words<R: Threads + Sync, H: Shelf, K: Sink, N: Sink, G: Gate>(
     ensures verdict { PrintsVerdict (H.files shelf.old) (texts words.now) result
         (K.written out.old) (K.written out.new) }
 
+    // Where the words are `make` and the run is done, the text is the summary of the market of these
+    // numbers and of the mechanism's placement in it. That is stable there, and in every stable
+    // placement there each candidate holds the same programme or one listed higher.
+    ensures summary { PrintsSummary (texts words.now) result
+        (K.written out.old) (K.written out.new) }
+
     // After a refusal `out` is as it was. The line is the status's; Done and AuditNo have none.
     ensures sink { LeavesSink K.written K.faults result out.old out.new }
     ensures line { IsNoted (status_line result) (N.written notes.old) (N.written notes.new)
@@ -84,10 +90,12 @@ pub fn run_words<R: Threads + Sync, H: Shelf, K: Sink, N: Sink, G: Gate>(
     ensures sure { IsConstant H.faults → IsConstant K.faults → IsComplete (H.files shelf.old)
         (texts words.now) result (K.written out.old) (K.written out.new) }
 
-    // What is held and granted stays. Where the words are refused, no file is opened.
+    // What is held and granted stays. Where the words are refused, or ask for a made market, no file
+    // is opened and no read fails: only memory and a failed write can keep a summary from being done.
     ensures files { H.files shelf.new ≡ H.files shelf.old }
     ensures grants { H.grants shelf.new ≡ H.grants shelf.old }
     ensures unopened { IsWordsRefusal result → shelf.new ≡ shelf.old }
+    ensures unread { RunsWithoutFile (command_of (texts words.now)) result shelf.old shelf.new }
 {
     let answer = answer_words(rt, alloc, words, shelf, gate);
     let status = finish(answer, out);

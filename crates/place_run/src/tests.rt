@@ -11,6 +11,8 @@ mod faulty_files;
 mod gates;
 // Files at their limits.
 mod large_files;
+// Markets that are made from numbers.
+mod made_markets;
 // Files in each number of parts.
 mod parts;
 // Each put fails once.

@@ -29,5 +29,5 @@ pub words-refused : (told : Option Files) (words : List (List ℕ)) (clerks : Re
 words-refused told words clerks refused before tally_before none =
     subst (λ v. IsAnswering told words v (Err (Words refused)) before before tally_before
     tally_before) (sym none)
-    (none-read holds-stops told (named words) (Err (Words refused)) before tally_before (inr refl)
-    (λ stop e. cc e))
+    (none-read holds-stops told (named words) _ (Err (Words refused)) before tally_before
+    (λ reads. inr refl) (λ e. cc e) (λ kind e. cc e))

@@ -91,7 +91,8 @@ module _ (told : Option Files) (words : List (List ℕ)) (seats : SeatRows)
       (file-reads holds-stops told (named words) file.Registrations requests_said
       (λ given reads. Some (Ok (record { seats = seats; requests = given }))) (λ given reads. [])
       requests None end _ _ _ _ _ _ (λ bytes reads. refl) (λ bytes reads. refl) two
-      (none-read holds-stops told (named words) end now tally_now refl (λ stop e. cc e)))
+      (none-read holds-stops told (named words) _ end now tally_now (λ reads. refl) (λ e. cc e)
+      (λ kind e. cc e)))
 
 says-seats : (bytes : List ℕ) (said : SeatRows) → seats_said bytes ≡ Ok said
     → SaysTable (seats_fault bytes) (seats_in bytes) said bytes

@@ -2,7 +2,7 @@
 
 ghost use Rattle.std.specs.Prelude.{◌≡◌, ◌+◌, ◌<◌, ◌≤◌, IfOk, ℕ, length, slice_index_or};
 ghost use Rattle.registration_desk.specs.Crew.{HasCome, HasWorked};
-ghost use Rattle.registration_desk.specs.Desks.{AllNew, IsClerkOf, IsNew, Stays, knows};
+ghost use Rattle.registration_desk.specs.Desks.{AllNew, IsNew};
 ghost use Rattle.registration_desk.specs.Replies.{IsHistory};
 ghost use Rattle.registration_desk.specs.declared.desk.Clerk.{Clerk};
 

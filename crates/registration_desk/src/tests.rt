@@ -335,6 +335,15 @@ fn any_number_of_clerks_answers_four_thousand_requests(rt: HostRuntime) -> Resul
     Ok(())
 }
 
+// What several clerks may share, and one may hand to another.
+fn crosses_threads<T: Send + Sync>(_value: &T) {}
+
+// A desk is shared by its clerks, and a clerk moves to a thread.
+fn moves_to_threads(desk: &Desk, clerk: &Clerk) {
+    crosses_threads(desk);
+    crosses_threads(clerk);
+}
+
 // Serves until the one clerk of a desk has no request left, and closes the desk.
 fn one_clerk<R: Wait>(
     rt: &R,
@@ -361,7 +370,11 @@ fn each_request_has_its_own_reply(rt: HostRuntime) -> Result<(), Fail> {
     let seats = read_alone(alloc, PLACEMENT)?;
     let requests = read_requests(alloc, REQUESTS)?;
     let (desk, crew) = Desk::open(alloc, seats, requests, 1)?;
+    for clerk in crew.iter() {
+        moves_to_threads(&desk, clerk);
+    }
     let (closed, served) = one_clerk(&rt, alloc, desk, crew).ok_or("memory")?;
+    crosses_threads(&closed);
     assert!(rt; served == 5 && closed.total() == 2);
     let wanted = [
         Reply::Registered(1),

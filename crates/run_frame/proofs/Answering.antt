@@ -8,7 +8,7 @@ use Rattle.run_frame.specs.Says.{and_then, answered, opened}
 use Rattle.run_frame.specs.Stops.{too_long}
 use Rattle.run_frame.specs.declared.stop.FileStop.{FileStop}
 use Rattle.run_frame.specs.declared.stop.FileStop.TheVariants.{Fault, Memory, ReadFault}
-use Rattle.run_frame.proofs.Readings.{HoldsStops, causes-ok}
+use Rattle.run_frame.proofs.Readings.{HoldsStops, causes-ok, causes-same}
 
 -- an answer is made of what was read, and keeps what is promised of it
 pub answer-made : {T U S : Type 0} {told : Option Files} {names : FileKind → List ℕ}
@@ -29,6 +29,7 @@ answer-made {stopped = stopped} {before = before} {now = now} {tally_before = ta
         held = reading.held;
         meets = ap (answered make) reading.meets ∙ ap (λ v. Some (Ok v)) (sym same);
         taken = λ _. reading.taken tt;
+        once = reading.once;
         begun = λ _. reading.begun (λ e. cc e);
         causes = causes-ok stopped answer before now tally_before tally_now reading.causes.faults
             reading.causes.tally;
@@ -44,19 +45,16 @@ pub answer-stopped : {T U S : Type 0} {told : Option Files} {names : FileKind �
     → AreRead told names free stopped first said files (Err stop) before now tally_before tally_now
     → AreRead told names free stopped first (λ reads. answered make (said reads)) files (Err stop)
     before now tally_before tally_now
-answer-stopped make reading = record {
-  reads = reading.reads;
-  held = reading.held;
-  meets = ⊎_elim (λ free. inl free) (λ is. inr (ap (answered make) is)) reading.meets;
-  taken = reading.taken;
-  begun = λ never. reading.begun (λ e. never (ap (λ v. Err v) (cc e)));
-  causes = record {
-    faults = reading.causes.faults;
-    tally = reading.causes.tally;
-    read = λ e. reading.causes.read (ap (λ v. Err v) (cc e));
-    long = λ kind e. reading.causes.long kind (ap (λ v. Err v) (cc e));
-  };
-}
+answer-stopped {stopped = stopped} {stop = stop} {before = before} {now = now}
+    {tally_before = tally_before} {tally_now = tally_now} make reading = record {
+      reads = reading.reads;
+      held = reading.held;
+      meets = ⊎_elim (λ free. inl free) (λ is. inr (ap (answered make) is)) reading.meets;
+      taken = reading.taken;
+      once = reading.once;
+      begun = λ never. reading.begun (λ e. never (ap (λ v. Err v) (cc e)));
+      causes = causes-same stopped stop before now tally_before tally_now reading.causes;
+    }
 
 -- want of memory is no other stop of files
 memory-alone : {T S : Type 0} {free : S → Bool} {stopped : FileStop → S}
@@ -77,6 +75,7 @@ answer-refused holds make reading = record {
   held = reading.held;
   meets = inl (subst IsTrue (sym (holds.same_free Memory)) refl);
   taken = λ decided. cc (decided, holds.same_free Memory);
+  once = reading.once;
   begun = λ _. reading.begun (λ e. cc e);
   causes = record {
     faults = reading.causes.faults;

@@ -1,12 +1,12 @@
 -- Files that are read and judged one after the other, where a run has stops of its own beside those
 -- of files, come to what is said of all of them: what the files behind one come to is what they all
 -- come to.
-use Rattle.std.proofs.Common.{◌≡◌, ℕ, ◌≤◌, List, [], Option, Some, None, Result, Ok, Err, refl, sym, ap, subst, ◌∙◌, inl, inr, arith, ⊎_elim}
-use Rattle.std.specs.Prelude.{Bool, IsErrAnd, IsFalse, IsTrue, option_map}
+use Rattle.std.proofs.Common.{◌≡◌, ℕ, ◌+◌, ◌≤◌, List, [], ◌∷◌, Option, Some, None, Result, Ok, Err, refl, sym, ap, subst, ◌∙◌, inl, inr, arith, ⊎_elim}
+use Rattle.std.specs.Prelude.{Bool, IsErrAnd, IsErrOf, IsFalse, IsTrue, option_map}
 use Rattle.place_base.specs.declared.fault.FileKind.{FileKind}
 use Rattle.place_base.specs.declared.fault.FileKind.TheVariants as file
-use Rattle.place_edges.specs.Shelf.{Files, GaveMore, file_limit}
-use Rattle.run_frame.specs.Files.{AreHeld, AreRead, AreTaken, HasBegun, HasCauses, IsHeld, IsJudged, IsTaken, Reads}
+use Rattle.place_edges.specs.Shelf.{Files, GaveMore, file_limit, piece_size}
+use Rattle.run_frame.specs.Files.{AreHeld, AreRead, AreTaken, AreTakenUpTo, HasBegun, HasCauses, IsHeld, IsJudged, IsTaken, Reads}
 use Rattle.run_frame.specs.Meetings.{Meets}
 use Rattle.run_frame.specs.Says.{and_then, opened, read_from}
 use Rattle.run_frame.specs.Stops.{is_free, too_long}
@@ -30,6 +30,35 @@ pub taken-ok : {T : Type 0} (judge : List ℕ → Result T FileStop) (next : T �
 taken-ok judge next given held table before between now same meets taken rest =
     let said = said-ok judge held table meets in
     rw same (rw said.1 (rw said.2 (between, taken said.0 said.1 tt, rest)))
+
+-- and so are the first of them
+up-to-ok : {T : Type 0} (judge : List ℕ → Result T FileStop) (next : T → List (List ℕ))
+    (given held : Option (List ℕ)) (table : T) (before between now : ℕ) → given ≡ held
+    → Meets is_free (option_map judge held) (Ok table)
+    → ((bytes : List ℕ) → held ≡ Some bytes → Unit {0} → IsTaken bytes before between)
+    → AreTakenUpTo (next table) between now → AreTakenUpTo (read_from given judge next) before now
+up-to-ok judge next given held table before between now same meets taken rest =
+    let said = said-ok judge held table meets in
+    rw same (rw said.1 (rw said.2 (record {
+      front = said.0 ∷ rest.front;
+      behind = rest.behind;
+      all = ap (λ v. said.0 ∷ v) rest.all;
+      between = rest.between;
+      taken = (between, taken said.0 said.1 tt, rest.taken);
+      more = rest.more;
+    })))
+
+-- of the first file so many bytes may be taken
+none-taken : (files : List (List ℕ)) (before now : ℕ) → now ≤ before + file_limit + piece_size
+    → AreTakenUpTo files before now
+none-taken files before now few = record {
+  front = [];
+  behind = files;
+  all = refl;
+  between = before;
+  taken = refl;
+  more = few;
+}
 
 -- no file is taken behind one that has a stop
 pub taken-stop : {T : Type 0} (judge : List ℕ → Result T FileStop) (next : T → List (List ℕ))
@@ -94,6 +123,18 @@ stop-causes holds stop before now tally_before tally_now causes = record {
   long = λ kind e.
       let same : stop ≡ Fault (too_long kind) = holds.apart stop (Fault (too_long kind)) (cc e) in
       causes.long kind (ap (λ v. Err v) same);
+}
+
+-- the causes of a stop are the same whatever there would be without it
+pub causes-same : {T U S : Type 0} (stopped : FileStop → S) (stop : S)
+    (before now tally_before tally_now : ℕ)
+    → HasCauses {T = T} stopped (Err stop) before now tally_before tally_now
+    → HasCauses {T = U} stopped (Err stop) before now tally_before tally_now
+causes-same stopped stop before now tally_before tally_now causes = record {
+  faults = causes.faults;
+  tally = causes.tally;
+  read = λ e. causes.read (ap (λ v. Err v) (cc e));
+  long = λ kind e. causes.long kind (ap (λ v. Err v) (cc e));
 }
 
 -- causes are counted from before the files before them
@@ -173,22 +214,24 @@ are-held (Some files) names = λ kind. refl
 
 module _ {S : Type 0} {free : S → Bool} {stopped : FileStop → S} (holds : HoldsStops free stopped)
     (told : Option Files) (names : FileKind → List ℕ) where
-  -- where nothing more is read, all is said
-  pub none-read : {U : Type 0} (result : Result U S) (now tally : ℕ)
-      → Meets free (Some result) result → ((stop : FileStop) → result ≡ Err (stopped stop) → ⊥)
-      → AreRead told names free stopped None (λ reads. Some result) (λ reads. []) result
-      now now tally tally
-  none-read result now tally meets never = record {
+  -- where nothing more is read, what is met needs no file
+  pub none-read : {U : Type 0} (said : Reads → Option (Result U S)) (result : Result U S)
+      (now tally : ℕ) → ((reads : Reads) → Meets free (said reads) result)
+      → (IsErrOf result (stopped ReadFault) → ⊥)
+      → ((kind : FileKind) → IsErrOf result (stopped (Fault (too_long kind))) → ⊥)
+      → AreRead told names free stopped None said (λ reads. []) result now now tally tally
+  none-read said result now tally meets no_fault short = record {
     reads = held_files told names;
     held = are-held told names;
-    meets = meets;
+    meets = meets (held_files told names);
     taken = λ _. refl;
+    once = none-taken [] tally tally (omega arith);
     begun = λ _. tt;
     causes = record {
       faults = omega arith;
       tally = omega arith;
-      read = λ e. absurd (never ReadFault e);
-      long = λ kind e. absurd (never (Fault (too_long kind)) e);
+      read = λ e. absurd (no_fault e);
+      long = λ kind e. absurd (short kind e);
     };
   }
 
@@ -214,6 +257,7 @@ module _ {S : Type 0} {free : S → Bool} {stopped : FileStop → S} (holds : Ho
         taken = λ decided. taken-stop judge (λ table. files table all) (all kind) one.bytes stop
             tally_before tally_now same one.meets one.taken
             (subst IsFalse (holds.same_free stop) decided);
+        once = none-taken _ tally_before tally_now one.once;
         begun = λ unread. subst (λ v. HasBegun v tally_before tally_now) (sym same)
             (one.begun (λ e. let is : stop ≡ ReadFault = cc e in
             unread (ap (λ v. Err (stopped v)) is)));
@@ -252,6 +296,10 @@ module _ {S : Type 0} {free : S → Bool} {stopped : FileStop → S} (holds : Ho
             (subst (λ v. AreTaken v tally_before tally_now)
             (sym (same-with told kind one.bytes rest.reads (files table) same_files))
             (rest.taken decided));
+        once = up-to-ok judge (λ table. files table all) (all kind) one.bytes table
+            tally_first tally_before tally_now same one.meets one.taken
+            (subst (λ v. AreTakenUpTo v tally_before tally_now)
+            (sym (same-with told kind one.bytes rest.reads (files table) same_files)) rest.once);
         begun = λ unread. subst (λ v. HasBegun v tally_first tally_now) (sym same)
             (begun-later one.bytes tally_first tally_before tally_now rest.causes.tally
             (one.begun (λ e. cc e)));

@@ -1,5 +1,5 @@
 -- What reading files came to.
-use Rattle.std.specs.Prelude.{◌≡◌, ◌≤◌, ◌<◌, ◌⊎◌, ℕ, ◌+◌, Bool, List, [], ◌∷◌, length, Option, Some, None, Result, IsErrOf, IfSome, option_map, ⊤}
+use Rattle.std.specs.Prelude.{◌≡◌, ◌≤◌, ◌<◌, ◌⊎◌, ℕ, ◌+◌, Bool, List, [], ◌∷◌, ◌++◌, length, Option, Some, None, Result, IsErrOf, IfSome, option_map, ⊤}
 use Rattle.place_base.specs.declared.fault.FileKind.{FileKind}
 use Rattle.place_edges.specs.Causes.{Rose}
 use Rattle.place_edges.specs.Shelf.{Files, GaveMore, HasMore, file_limit, piece_size, tally_with}
@@ -52,12 +52,22 @@ AreTaken [] before now = now ≡ before
 AreTaken (bytes ∷ files) before now =
     (between : ℕ) × IsTaken bytes before between × AreTaken files between now
 
+-- Of these files some in front were each read once. What was taken of those behind them is at most
+-- one piece beyond 2^30.
+pub record AreTakenUpTo (files : List (List ℕ)) (before now : ℕ) : Type 0 where
+  pub front : List (List ℕ)
+  pub behind : List (List ℕ)
+  pub all : front ++ behind ≡ files
+  pub between : ℕ
+  pub taken : AreTaken front before between
+  pub more : now ≤ between + file_limit + piece_size
+
 -- the reading of a file has begun: a byte was taken of it, or it has none
 abbrev pub HasBegun : Option (List ℕ) → ℕ → ℕ → Type 0
 HasBegun bytes before now = (bytes ≡ Some []) ⊎ (tally_with before 1 ≤ now)
 
 -- What reading and judging one file came to: there are bytes, those held where that is told, by
--- which it meets what the file says.
+-- which it meets what the file says. In no case were more taken than one piece beyond 2^30.
 pub record IsJudged {T : Type 0} (told : Option Files) (name : List ℕ)
     (judge : List ℕ → Result T FileStop) (result : Result T FileStop)
     (before now tally_before tally_now : ℕ) : Type 0 where
@@ -66,6 +76,7 @@ pub record IsJudged {T : Type 0} (told : Option Files) (name : List ℕ)
   pub meets : Meets is_free (option_map judge bytes) result
   pub taken : (file : List ℕ) → bytes ≡ Some file → IsDecided is_free result
       → IsTaken file tally_before tally_now
+  pub once : tally_now ≤ tally_before + file_limit + piece_size
   pub begun : (IsErrOf result ReadFault → ⊥) → HasBegun bytes tally_before tally_now
   pub causes : HasCauses (λ stop. stop) result before now tally_before tally_now
 
@@ -85,8 +96,9 @@ FirstHasBegun (Some kind) reads before now = HasBegun (reads kind) before now
 
 -- What reading files came to, where a run has stops of its own beside those of files: there are
 -- bytes for each kind of file, those held under the files' names where that is told, such that the
--- result meets what is said over them. Each file up to the one that decides was read once. Memory
--- is refused only once the first file is read.
+-- result meets what is said over them. Each file up to the one that decides was read once; where a
+-- read fault or want of memory decides, some in front were, and of those behind them at most one
+-- piece beyond 2^30 was taken. Memory is refused only once the first file is read.
 pub record AreRead {T S : Type 0} (told : Option Files) (names : FileKind → List ℕ)
     (free : S → Bool) (stopped : FileStop → S) (first : Option FileKind)
     (said : Reads → Option (Result T S)) (files : Reads → List (List ℕ)) (result : Result T S)
@@ -95,6 +107,7 @@ pub record AreRead {T S : Type 0} (told : Option Files) (names : FileKind → Li
   pub held : AreHeld told names reads
   pub meets : Meets free (said reads) result
   pub taken : IsDecided free result → AreTaken (files reads) tally_before tally_now
+  pub once : AreTakenUpTo (files reads) tally_before tally_now
   pub begun : (IsErrOf result (stopped ReadFault) → ⊥)
       → FirstHasBegun first reads tally_before tally_now
   pub causes : HasCauses stopped result before now tally_before tally_now

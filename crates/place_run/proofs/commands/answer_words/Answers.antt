@@ -2,10 +2,19 @@ use Rattle.std.proofs.Common.{◌≡◌, ◌≤◌, Ok, length, sym, arith}
 use Rattle.std.specs.Prelude.{string_bytes}
 use Rattle.std.proofs.lemmas.List.{length-map}
 use Rattle.command_words.specs.Words.{command_of, texts}
-use Rattle.command_words.specs.declared.words.Command.TheVariants.{Place, Base, Reasons, Audit}
+use Rattle.command_words.specs.declared.words.Command.TheVariants.{Place, Base, Reasons, Audit, Make}
 use Rattle.command_words.proofs.Fitting.{fits}
 use Rattle.place_run.proofs.Answering.{words-refused}
+use Rattle.place_run.proofs.Summaries.{summarised}
 use Rattle.place_run.proofs.commands.answer_words.Goals as goal
+
+pub place-requires-clause-words : goal.place-requires-clause-words
+place-requires-clause-words g c κs within =
+    let words = c.args.words.now in
+    let given : command_of (texts words) ≡ Ok (Place c.in-Ok-Place.workers) = cc
+    (c.read_words.ensures, c.in-Ok-Place.is, c.in-Ok-Place.field-0-is, c.in-Ok-Place.workers-is) in
+    let enough = (fits (texts words) (Place c.in-Ok-Place.workers) given).words in
+    omega (arith, enough, length-map words string_bytes)
 
 pub place-requires-clause-workers : goal.place-requires-clause-workers
 place-requires-clause-workers g c κs within =
@@ -62,3 +71,50 @@ audit-requires-clause-workers g c κs within =
 pub returns-in-Err-clause-answers : goal.returns-in-Err-clause-answers
 returns-in-Err-clause-answers g c =
     words-refused _ (texts c.args.words.now) _ c.in-Err.refused _ _ (sym c.in-Err.ensures)
+
+pub make-requires-clause-candidates : goal.make-requires-clause-candidates
+make-requires-clause-candidates g c κs within =
+    let words = texts c.args.words.now in
+    let made = c.in-Ok-Make in
+    let command = Make made.seed made.candidates made.programmes made.types made.workers in
+    let given : command_of words ≡ Ok command = cc
+    (c.read_words.ensures, made.is, made.field-0-is) in
+    let few = (fits words command given).sizes.candidates_fit in omega (arith, few)
+
+pub make-requires-clause-programmes : goal.make-requires-clause-programmes
+make-requires-clause-programmes g c κs within =
+    let words = texts c.args.words.now in
+    let made = c.in-Ok-Make in
+    let command = Make made.seed made.candidates made.programmes made.types made.workers in
+    let given : command_of words ≡ Ok command = cc
+    (c.read_words.ensures, made.is, made.field-0-is) in
+    let few = (fits words command given).sizes.programmes_fit in omega (arith, few)
+
+pub make-requires-clause-types : goal.make-requires-clause-types
+make-requires-clause-types g c κs within =
+    let words = texts c.args.words.now in
+    let made = c.in-Ok-Make in
+    let command = Make made.seed made.candidates made.programmes made.types made.workers in
+    let given : command_of words ≡ Ok command = cc
+    (c.read_words.ensures, made.is, made.field-0-is) in
+    let sizes = (fits words command given).sizes in
+    let few = sizes.types_fit in (sizes.some_type, omega (arith, few))
+
+pub make-requires-clause-workers : goal.make-requires-clause-workers
+make-requires-clause-workers g c κs within =
+    let words = texts c.args.words.now in
+    let made = c.in-Ok-Make in
+    let command = Make made.seed made.candidates made.programmes made.types made.workers in
+    let given : command_of words ≡ Ok command = cc
+    (c.read_words.ensures, made.is, made.field-0-is) in
+    (fits words command given).workers
+
+pub returns-in-Ok-Make-clause-answers : goal.returns-in-Ok-Make-clause-answers
+returns-in-Ok-Make-clause-answers g c =
+    let words = texts c.args.words.now in
+    let made = c.in-Ok-Make in
+    let command = Make made.seed made.candidates made.programmes made.types made.workers in
+    let given : command_of words ≡ Ok command = cc
+    (c.read_words.ensures, made.is, made.field-0-is) in
+    summarised _ words _ made.seed made.candidates made.programmes made.types made.workers
+    c.make.result _ _ given c.make.ensures

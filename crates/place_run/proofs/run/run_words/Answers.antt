@@ -1,6 +1,6 @@
 use Rattle.command_words.specs.Words.{texts}
 use Rattle.run_frame.proofs.Endings.{constant-count}
-use Rattle.place_run.proofs.Finishing.{causes-run, complete-run, leaves-sink, reports-done, verdict-done, worst-done}
+use Rattle.place_run.proofs.Finishing.{causes-run, complete-run, leaves-sink, reports-done, summary-done, unread-run, verdict-done, worst-done}
 use Rattle.place_run.proofs.run.run_words.Goals as goal
 
 pub returns-clause-worst : goal.returns-clause-worst
@@ -23,6 +23,21 @@ returns-clause-verdict g c =
     c.answer_words-answer.result c.finish-status.result c.args.out.now c.finish-status.new.out _ _ _
     _
     c.answer_words-answer.ensures.answers c.finish-status.ensures.finished
+
+pub returns-clause-summary : goal.returns-clause-summary
+returns-clause-summary g c =
+    summary-done g.K.Sink.written g.K.Sink.faults _ (texts c.args.words.now)
+    c.answer_words-answer.result c.finish-status.result c.args.out.now c.finish-status.new.out _ _ _
+    _
+    c.answer_words-answer.ensures.answers c.finish-status.ensures.finished
+
+pub returns-clause-unread : goal.returns-clause-unread
+returns-clause-unread g c =
+    unread-run g.K.Sink.written g.K.Sink.faults _ (texts c.args.words.now)
+    c.answer_words-answer.result c.finish-status.result c.args.out.now c.finish-status.new.out _ _ _
+    _
+    c.answer_words-answer.ensures.answers c.finish-status.ensures.finished
+    c.args.shelf.now c.answer_words-answer.new.shelf c.answer_words-answer.ensures.unread
 
 pub returns-clause-complete : goal.returns-clause-complete
 returns-clause-complete g c = λ no_read no_write.

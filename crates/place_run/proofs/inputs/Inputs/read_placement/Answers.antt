@@ -42,4 +42,5 @@ returns-clause-programmes g c =
     → held_by held i ≡ Some p → p < length (codes_of v.programmes.rows))) c.self.view_is
     (table-ok (λ (held : List (Option ℕ)). (i p : ℕ)
     → held_by held i ≡ Some p → p < length (codes_of c.self.inside.programmes.rows))
-    c.read_held.result c.table_or_stop.result c.table_or_stop.ensures c.read_held.ensures.programmes)
+    c.read_held.result c.table_or_stop.result c.table_or_stop.ensures
+    c.read_held.ensures.programmes)

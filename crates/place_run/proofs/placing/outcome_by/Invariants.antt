@@ -1,4 +1,4 @@
-use Rattle.place_run.proofs.placing.placement_by.Given as goal
+use Rattle.place_run.proofs.placing.outcome_by.Given as goal
 
 abbrev pub ghosts-uncounted : goal.ghosts-uncounted
 ghosts-uncounted g a = record { name = a.blank.name; parts = a.blank.parts }

@@ -1,0 +1,3 @@
+-- The definitions.
+-- the lines of a summary
+pub mod Summaries

@@ -1,0 +1,122 @@
+-- The summary of a made market: what is said of it, and how it answers the words.
+use Rattle.std.proofs.Common.{◌≡◌, ℕ, List, Option, Some, None, Result, Ok, Err, refl, sym, subst, ap, ◌∙◌, inl, IfOk}
+use Rattle.std.specs.Prelude.{IsErrAnd, IsErrOf, IsTrue}
+use Rattle.place_base.specs.declared.fault.FileFault.{FileFault}
+use Rattle.case_maker.specs.MadeMarkets.{HasSizes, made_market}
+use Rattle.command_words.specs.declared.words.Command.{Command}
+use Rattle.command_words.specs.declared.words.Command.TheVariants.{Make}
+use Rattle.command_words.specs.declared.words.WordsFault.{WordsFault}
+use Rattle.market.specs.Comparisons.{IsWorstStable}
+use Rattle.market.specs.Mechanism.{mechanism_cuts, mechanism_placement, mechanism_rounds}
+use Rattle.market.specs.Problems.{IsValid, Problem}
+use Rattle.market.specs.declared.placement.Outcome.{Outcome}
+use Rattle.market_summary.specs.Summaries.{summary}
+use Rattle.place_edges.specs.Shelf.{Files}
+use Rattle.run_frame.specs.declared.stop.FileStop.TheVariants.{Fault, Memory, ReadFault}
+use Rattle.run_frame.specs.Meetings.{Meets}
+use Rattle.run_frame.specs.Stops.{too_long}
+use Rattle.run_frame.proofs.Parts.{at-error}
+use Rattle.run_frame.proofs.Readings.{none-read}
+use Rattle.place_run.specs.Answers.{Answer, done}
+use Rattle.place_run.specs.Makings.{IsSummarised}
+use Rattle.place_run.specs.Placings.{IsOutcomeOf}
+use Rattle.place_run.specs.Runs.{IsAnswering}
+use Rattle.place_run.specs.Says.{named}
+use Rattle.place_run.specs.Stops.{is_free}
+use Rattle.place_run.specs.commands.Make.{IsSummaryOf, outcome_of, summary_of}
+use Rattle.place_run.specs.declared.status.Stop.{Stop}
+use Rattle.place_run.specs.declared.status.Stop.TheVariants.{File}
+use Rattle.place_run.proofs.Readings.{holds-stops}
+
+-- what the rounds gave is what the mechanism gives
+outcome-is : (m : Problem) (outcome : Outcome) → IsOutcomeOf m outcome → outcome ≡ outcome_of m
+outcome-is m outcome is =
+    ap (λ v. record outcome { placement = v }) is.placement
+    ∙ ap (λ v. record outcome { placement = mechanism_placement m; rounds = v }) is.rounds
+    ∙ ap (λ v. record outcome {
+      placement = mechanism_placement m;
+      rounds = mechanism_rounds m;
+      cuts = v;
+    }) is.cuts
+    ∙ ap (λ v. record {
+      placement = mechanism_placement m;
+      rounds = mechanism_rounds m;
+      cuts = mechanism_cuts m;
+      turns = v;
+    }) is.turns
+
+-- the summary of what they gave in a made market is that of the market
+pub is-summary : (seed candidates programmes types : ℕ) (m : Problem) (outcome : Outcome)
+    (text : List ℕ) (answer : Answer) → m ≡ made_market seed candidates programmes types
+    → IsValid (made_market seed candidates programmes types)
+    → HasSizes (made_market seed candidates programmes types) candidates programmes types
+    → IsWorstStable m (mechanism_placement m) → IsOutcomeOf m outcome → text ≡ summary m outcome
+    → answer ≡ done text → IsSummarised seed candidates programmes types (Ok answer)
+unfolding summary_of
+is-summary seed candidates programmes types m outcome text answer made valid sizes worst is
+    printed same =
+    let of_made : text ≡ summary_of seed candidates programmes types =
+    printed ∙ ap (summary m) (outcome-is m outcome is)
+    ∙ ap (λ v. summary v (outcome_of v)) made in (
+      same ∙ ap done of_made,
+      record {
+        market = valid;
+        sizes = sizes;
+        worst = subst (λ v. IsWorstStable v (mechanism_placement v)) made worst;
+        printed = ap (λ (v : Answer). v.text) same ∙ of_made;
+      },
+    )
+
+-- where memory was refused there is none
+pub no-summary : (seed candidates programmes types : ℕ) (answer : Result Answer Stop)
+    → IsErrAnd answer (λ stop. stop ≡ File Memory)
+    → IsSummarised seed candidates programmes types answer
+no-summary seed candidates programmes types answer is =
+    at-error (IsSummarised seed candidates programmes types) answer (File Memory) is refl
+
+-- no file is read for it
+pub no-read-fault : (seed candidates programmes types : ℕ) (answer : Result Answer Stop)
+    → IsSummarised seed candidates programmes types answer → IsErrOf answer (File ReadFault) → ⊥
+no-read-fault seed candidates programmes types (Ok ready) is e = cc e
+no-read-fault seed candidates programmes types (Err stop) same e =
+    let found : stop ≡ File ReadFault = cc e in
+    let never : File Memory ≡ File ReadFault = sym same ∙ found in cc never
+
+never-long : (seed candidates programmes types : ℕ) (answer : Result Answer Stop)
+    (fault : FileFault) → IsSummarised seed candidates programmes types answer
+    → IsErrOf answer (File (Fault fault)) → ⊥
+never-long seed candidates programmes types (Ok ready) fault is e = cc e
+never-long seed candidates programmes types (Err stop) fault same e =
+    let found : stop ≡ File (Fault fault) = cc e in
+    let never : File Memory ≡ File (Fault fault) = sym same ∙ found in cc never
+
+-- it is what is said, or memory was refused
+meets-summary : (seed candidates programmes types : ℕ) (answer : Result Answer Stop)
+    → IsSummarised seed candidates programmes types answer
+    → Meets is_free (Some (Ok (done (summary_of seed candidates programmes types)))) answer
+meets-summary seed candidates programmes types (Ok ready) (same, kept) =
+    ap (λ v. Some (Ok v)) (sym same)
+meets-summary seed candidates programmes types (Err stop) same =
+    inl (subst (λ v. IsTrue (is_free v)) (sym same) refl)
+
+keeps-summary : (seed candidates programmes types : ℕ) (answer : Result Answer Stop)
+    → IsSummarised seed candidates programmes types answer
+    → IfOk answer (λ ready. IsSummaryOf seed candidates programmes types ready.text)
+keeps-summary seed candidates programmes types (Ok ready) (same, kept) = kept
+keeps-summary seed candidates programmes types (Err stop) same = tt
+
+pub summarised : (told : Option Files) (words : List (List ℕ)) (command : Result Command WordsFault)
+    (seed candidates programmes types workers : ℕ) (answer : Result Answer Stop)
+    (before tally_before : ℕ) → command ≡ Ok (Make seed candidates programmes types workers)
+    → IsSummarised seed candidates programmes types answer
+    → IsAnswering told words command answer before before tally_before tally_before
+summarised told words command seed candidates programmes types workers answer before tally_before
+    accepted is =
+    subst (λ v. IsAnswering told words v answer before before tally_before tally_before)
+    (sym accepted) (record {
+      reading = none-read holds-stops told (named words) _ answer before tally_before
+          (λ reads. meets-summary seed candidates programmes types answer is)
+          (no-read-fault seed candidates programmes types answer is)
+          (λ kind. never-long seed candidates programmes types answer (too_long kind) is);
+      promise = keeps-summary seed candidates programmes types answer is;
+    })
