@@ -1,8 +1,8 @@
 // Each call of a shelf fails once, in turn.
+use super::files_with;
+use super::refused_in_turn::run_failing;
 use super::worked_markets::{MARKETS, Worked};
-use super::{files_with, run_on};
-use gate_workers::OpenGate;
-use place_edges::{MemShelf, MemSink};
+use place_edges::MemShelf;
 use std::alloc::Global;
 use std::process::Abort;
 use std::test::Fail;
@@ -28,45 +28,42 @@ const COMMANDS: [(&[&str], u64, &[u8]); 4] = [
     (&["audit", "p", "c", "r", "h"], 12, b"STABLE\n"),
 ];
 
-// Where this call of the shelf fails, the run is a read fault, ends there and prints nothing.
-fn is_a_read_fault(
+// A run over this shelf ends with this number, so many faults and calls of the shelf, this text and
+// this line.
+fn ends_over(
     rt: &(impl Threads + Sync + Abort),
     alloc: Global,
     texts: &[&str],
     shelf: &mut MemShelf,
+    wanted: (u8, u64, u64, &[u8], &[u8]),
+) -> Result<(), Fail> {
+    let ran = run_failing(rt, alloc, texts, shelf, 16, 0, 0)?;
+    let (out, notes) = (ran.out.bytes(), ran.notes.bytes());
+    assert_eq!(rt;
+        (ran.status.code(), ran.faults, ran.calls, out, notes),
+        wanted
+    );
+    Ok(())
+}
+
+// Where this call of the shelf fails, the run is a read fault, ends there and prints nothing. A
+// second run over the same shelf is done, by as many calls as without a fault.
+fn fails_at_call(
+    rt: &(impl Threads + Sync + Abort),
+    alloc: Global,
+    texts: &[&str],
+    mut shelf: MemShelf,
     call: u64,
+    (calls, text): (u64, &[u8]),
 ) -> Result<(), Fail> {
     shelf.fail_at(call)?;
-    let mut out = MemSink::new(alloc, 16, 65_536)?;
-    let mut notes = MemSink::new(alloc, 16, 65_536)?;
-    let status = run_on(rt, alloc, texts, shelf, (&mut out, &mut notes), &OpenGate)?;
-    assert_eq!(rt;
-        (status.code(), shelf.faults(), shelf.calls()),
-        (4, 1, call)
-    );
-    assert_eq!(rt; out.bytes(), b"".as_slice());
-    assert_eq!(rt; notes.bytes(), b"read fault\n".as_slice());
-    Ok(())
+    let failed = (4, 1, call, b"".as_slice(), b"read fault\n".as_slice());
+    ends_over(rt, alloc, texts, &mut shelf, failed)?;
+    let done = (0, 1, calls.saturating_add(call), text, b"".as_slice());
+    ends_over(rt, alloc, texts, &mut shelf, done)
 }
 
-// A run over a shelf that has failed once is done, and fails no more.
-fn is_done_at_last(
-    rt: &(impl Threads + Sync + Abort),
-    alloc: Global,
-    texts: &[&str],
-    shelf: &mut MemShelf,
-    text: &[u8],
-) -> Result<(), Fail> {
-    let mut out = MemSink::new(alloc, 16, 65_536)?;
-    let mut notes = MemSink::new(alloc, 16, 65_536)?;
-    let status = run_on(rt, alloc, texts, shelf, (&mut out, &mut notes), &OpenGate)?;
-    assert_eq!(rt; (status.code(), shelf.faults()), (0, 1));
-    assert_eq!(rt; out.bytes(), text);
-    assert_eq!(rt; notes.bytes(), b"".as_slice());
-    Ok(())
-}
-
-// Each call fails in turn, and a second run calls the shelf as often as one without a fault.
+// Each call fails in turn.
 fn fail_at_each_call(
     rt: &(impl Threads + Sync + Abort),
     alloc: Global,
@@ -76,10 +73,8 @@ fn fail_at_each_call(
     text: &[u8],
 ) -> Result<(), Fail> {
     for call in 1..=calls {
-        let mut shelf = files_with(alloc, market, market.placed)?;
-        is_a_read_fault(rt, alloc, texts, &mut shelf, call)?;
-        is_done_at_last(rt, alloc, texts, &mut shelf, text)?;
-        assert_eq!(rt; shelf.calls(), calls.saturating_add(call));
+        let shelf = files_with(alloc, market, market.placed)?;
+        fails_at_call(rt, alloc, texts, shelf, call, (calls, text))?;
     }
     Ok(())
 }

@@ -97,10 +97,9 @@ fn a_file_of_more_than_2_to_the_30_bytes_is_too_long(rt: HostRuntime) -> Result<
     let status = run_words(
         &rt, alloc, &words, &mut shelf, &mut out, &mut notes, &OpenGate,
     );
-    assert_eq!(rt; status.code(), 3);
-    assert_eq!(rt; out.bytes(), b"".as_slice());
     let note = b"fault programmes line 0 field 0 F11 FileTooLong earlier 0\n";
-    assert_eq!(rt; notes.bytes(), note.as_slice());
+    let ended = (status.code(), out.bytes(), notes.bytes());
+    assert_eq!(rt; ended, (3, b"".as_slice(), note.as_slice()));
     Ok(())
 }
 
@@ -118,6 +117,14 @@ fn many_programmes(alloc: Global, rows: u64) -> Result<Vec<u8>, AllocError> {
     Ok(programmes)
 }
 
+// The files of the freed seat with such a programmes file.
+fn with_programmes(alloc: Global, rows: u64) -> Result<MemShelf, AllocError> {
+    let mut files = shelf(alloc, &FREED_SEAT)?;
+    let programmes = many_programmes(alloc, rows)?;
+    files.add(String::from_str(alloc, "p")?, programmes)?;
+    Ok(files)
+}
+
 #[test]
 fn a_programmes_file_may_have_60_000_rows(rt: HostRuntime) -> Result<(), Fail> {
     let alloc = rt.alloc();
@@ -128,9 +135,8 @@ fn a_programmes_file_may_have_60_000_rows(rt: HostRuntime) -> Result<(), Fail> {
             "fault programmes line 60002 field 0 F09 TooManyRows earlier 0\n",
         ),
     ] {
-        let mut shelf = shelf(alloc, &FREED_SEAT)?;
-        shelf.add(String::from_str(alloc, "p")?, many_programmes(alloc, rows)?)?;
-        let ran = run(&rt, alloc, &PLACE, shelf, &OpenGate)?;
+        let files = with_programmes(alloc, rows)?;
+        let ran = run(&rt, alloc, &PLACE, files, &OpenGate)?;
         assert_eq!(rt; ran.notes.bytes(), note.as_bytes());
     }
     Ok(())
@@ -199,31 +205,33 @@ fn many_ranks(alloc: Global) -> Result<Vec<u8>, AllocError> {
     Ok(bytes)
 }
 
-#[test]
-fn five_thousand_candidates_are_placed_by_twenty_thousand_ranks(
-    rt: HostRuntime,
-) -> Result<(), Fail> {
-    let alloc = rt.alloc();
-    let programmes = four_programmes(alloc)?;
-    let candidates = many_candidates(alloc)?;
-    let ranks = many_ranks(alloc)?;
-    let shelf = shelf(
-        alloc,
-        &[("p", &programmes), ("c", &candidates), ("r", &ranks)],
-    )?;
+// The three files.
+fn many_files(alloc: Global) -> Result<MemShelf, AllocError> {
+    let mut files = MemShelf::new(alloc);
+    files.add(String::from_str(alloc, "p")?, four_programmes(alloc)?)?;
+    files.add(String::from_str(alloc, "c")?, many_candidates(alloc)?)?;
+    files.add(String::from_str(alloc, "r")?, many_ranks(alloc)?)?;
+    Ok(files)
+}
+
+// Each group in its own programme.
+fn many_placed(alloc: Global) -> Result<Vec<u8>, AllocError> {
     let mut placed = b"candidate,programme\n".to_vec(alloc)?;
     for index in 0..5_000 {
         let code = Field::Number(index / 1_250 + 1);
         put_row_2(&mut placed, Field::Number(index + 1), code)?;
     }
+    Ok(placed)
+}
+
+#[test]
+fn five_thousand_candidates_are_placed_by_twenty_thousand_ranks(
+    rt: HostRuntime,
+) -> Result<(), Fail> {
+    let alloc = rt.alloc();
+    let text = many_placed(alloc)?;
     // the ranks are taken in more than one piece
-    ends(
-        &rt,
-        alloc,
-        &PLACE,
-        shelf,
-        &OpenGate,
-        (0, &placed, b"", 0, 12),
-    )?;
+    let placed = (0, text.as_slice(), b"".as_slice(), 0, 12);
+    ends(&rt, alloc, &PLACE, many_files(alloc)?, &OpenGate, placed)?;
     Ok(())
 }

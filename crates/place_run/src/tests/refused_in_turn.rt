@@ -2,19 +2,46 @@
 ghost use Rattle.std.specs.Prelude.{◌<◌};
 
 use super::worked_markets::{MARKETS, Worked};
-use super::{PLACE, files_with, run_on};
+use super::{PLACE, PROGRAMMES, Ran, files_with, run_on, shelf};
 use gate_workers::OpenGate;
-use place_edges::MemSink;
+use place_edges::{MemShelf, MemSink};
 use std::alloc::{AllocError, Global};
 use std::process::Abort;
 use std::test::Fail;
 use std::thread::Threads;
 
-// A sink of pieces of so many bytes.
-fn sink(alloc: Global, piece: usize) -> Result<MemSink, AllocError>
+// A sink of pieces of so many bytes, whose put of this number fails; the number 0 is no put's.
+fn sink(alloc: Global, piece: usize, put: u64) -> Result<MemSink, AllocError>
     requires { 0 < piece }
 {
-    MemSink::new(alloc, piece, 65_536)
+    let mut sink = MemSink::new(alloc, piece, 65_536)?;
+    sink.fail_at(put)?;
+    Ok(sink)
+}
+
+// Runs these words over this shelf. A put of `out`, in pieces of so many bytes, fails, and one of
+// `notes`, in pieces of one byte.
+pub(super) fn run_failing(
+    rt: &(impl Threads + Sync),
+    alloc: Global,
+    texts: &[&str],
+    shelf: &mut MemShelf,
+    piece: usize,
+    put: u64,
+    note_put: u64,
+) -> Result<Ran, AllocError>
+    requires { 0 < piece }
+{
+    let mut out = sink(alloc, piece, put)?;
+    let mut notes = sink(alloc, 1, note_put)?;
+    let status = run_on(rt, alloc, texts, shelf, (&mut out, &mut notes), &OpenGate)?;
+    Ok(Ran {
+        status,
+        out,
+        notes,
+        faults: shelf.faults(),
+        calls: shelf.calls(),
+    })
 }
 
 // The words of each command over the files of the freed seat, and the parts in which it writes its
@@ -52,13 +79,14 @@ fn fails_at_put(
     requires { 0 < piece }
 {
     let mut shelf = files_with(alloc, market, market.placed)?;
-    let (mut out, mut notes) = (sink(alloc, piece)?, sink(alloc, 16)?);
-    out.fail_at(put)?;
-    let sinks = (&mut out, &mut notes);
-    let status = run_on(rt, alloc, texts, &mut shelf, sinks, &OpenGate)?;
-    assert_eq!(rt; (status.code(), out.faults()), (5, 1));
-    assert_eq!(rt; out.bytes(), front);
-    assert_eq!(rt; notes.bytes(), b"write fault\n".as_slice());
+    let ran = run_failing(rt, alloc, texts, &mut shelf, piece, put, 0)?;
+    let ended = (
+        ran.status.code(),
+        ran.out.faults(),
+        ran.out.bytes(),
+        ran.notes.bytes(),
+    );
+    assert_eq!(rt; ended, (5, 1, front, b"write fault\n".as_slice()));
     Ok(())
 }
 
@@ -96,23 +124,55 @@ fn a_put_that_fails_leaves_exactly_what_was_put_before_it(rt: HostRuntime) -> Re
     Ok(())
 }
 
-// The line of a fault of the ranks.
-const LINE: &[u8] = b"fault ranks line 2 field 2 F05 BadTypeName earlier 0\n";
+// Files that are refused: the number of the status, and its line.
+const LINES: [(&[(&str, &[u8])], u8, &[u8]); 2] = [
+    (
+        &[("p", PROGRAMMES), ("c", b"candidate,list\nx,101\n")],
+        3,
+        b"fault candidates line 2 field 1 F03 NotNumber earlier 0\n",
+    ),
+    (&[("p", PROGRAMMES)], 4, b"read fault\n"),
+];
+
+// Where this put of the line fails, the status stays, and a prefix of the line was noted.
+fn notes_fail_at_put(
+    rt: &(impl Threads + Sync + Abort),
+    alloc: Global,
+    files: &[(&str, &[u8])],
+    code: u8,
+    put: u64,
+    front: &[u8],
+) -> Result<(), Fail> {
+    let mut shelf = shelf(alloc, files)?;
+    let ran = run_failing(rt, alloc, &PLACE, &mut shelf, 16, 0, put)?;
+    let ended = (
+        ran.status.code(),
+        ran.notes.faults(),
+        ran.out.bytes(),
+        ran.notes.bytes(),
+    );
+    assert_eq!(rt; ended, (code, 1, b"".as_slice(), front));
+    Ok(())
+}
+
+// Each put of the line fails in turn.
+fn notes_fail_at_each_put(
+    rt: &(impl Threads + Sync + Abort),
+    alloc: Global,
+    files: &[(&str, &[u8])],
+    code: u8,
+    line: &[u8],
+) -> Result<(), Fail> {
+    for at in 0..line.len() {
+        notes_fail_at_put(rt, alloc, files, code, at as u64 + 1, &line[..at])?;
+    }
+    Ok(())
+}
 
 #[test]
 fn notes_that_fail_at_any_put_have_a_prefix_of_the_line(rt: HostRuntime) -> Result<(), Fail> {
-    let alloc = rt.alloc();
-    for put in 1..=53u64 {
-        let mut shelf = files_with(alloc, &MARKETS[1], b"")?;
-        let ranks = b"candidate,type,rank\n1,say,1\n".to_vec(alloc)?;
-        shelf.add(String::from_str(alloc, "r")?, ranks)?;
-        let (mut out, mut notes) = (sink(alloc, 16)?, sink(alloc, 1)?);
-        notes.fail_at(put)?;
-        let sinks = (&mut out, &mut notes);
-        let status = run_on(&rt, alloc, &PLACE, &mut shelf, sinks, &OpenGate)?;
-        assert_eq!(rt; (status.code(), notes.faults()), (3, 1));
-        assert_eq!(rt; out.bytes(), b"".as_slice());
-        assert_eq!(rt; Some(notes.bytes()), LINE.get(..put as usize - 1));
+    for (files, code, line) in LINES {
+        notes_fail_at_each_put(&rt, rt.alloc(), files, code, line)?;
     }
     Ok(())
 }
