@@ -1,5 +1,5 @@
 -- What all candidates list, and all programmes offer, is few enough to be counted.
-use Rattle.std.proofs.Common.{◌≡◌, ℕ, ◌+◌, ◌*◌, ◌^◌, ◌<◌, ◌≤◌, length, arith}
+use Rattle.std.proofs.Common.{ℕ, ◌*◌, ◌≤◌, length, arith}
 use Rattle.market.specs.Counting.{sum_below}
 use Rattle.market.specs.Problems.{IsValid, Problem, list_of, quota_of}
 use Rattle.market.specs.declared.limits.TheConstants.{MAX_CANDIDATES, MAX_ENTRIES, MAX_PROGRAMMES, MAX_QUOTA}
