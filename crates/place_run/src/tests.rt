@@ -35,7 +35,7 @@ use crate::{Status, run_words};
 use command_words::WordsFault;
 use gate_workers::{Gate, OpenGate};
 use market::{Placer, Steps};
-use place_edges::{MemShelf, MemSink, SureShelf, SureSink};
+use place_edges::{MemShelf, MemSink};
 use round_rerun::Rounds;
 use std::alloc::{AllocError, Global};
 use std::marker::Brand;
@@ -150,22 +150,21 @@ fn run(
     })
 }
 
-// Runs these words over this shelf, with this gate, and compares the number of the status, both
-// texts, how often the shelf failed, and how often it was called: a file of one piece has an open
-// and two takes.
+// Runs these words over this shelf, with this gate, and compares the number of the status, the text
+// and the line, how often the shelf failed, and how often it was called: a file of one piece has an
+// open and two takes.
 fn ends(
     rt: &(impl Threads + Sync + Abort),
     alloc: Global,
     texts: &[&str],
     shelf: MemShelf,
     gate: &impl Gate,
-    (code, out, note, faults, calls): (u8, &[u8], &[u8], u64, u64),
+    wanted: (u8, &[u8], &[u8], u64, u64),
 ) -> Result<Status, Fail> {
     let ran = run(rt, alloc, texts, shelf, gate)?;
-    assert_eq!(rt; ran.status.code(), code);
-    assert_eq!(rt; ran.out.bytes(), out);
-    assert_eq!(rt; ran.notes.bytes(), note);
-    assert_eq!(rt; (ran.faults, ran.calls), (faults, calls));
+    let (out, notes) = (ran.out.bytes(), ran.notes.bytes());
+    let ended = (ran.status.code(), out, notes, ran.faults, ran.calls);
+    assert_eq!(rt; ended, wanted);
     Ok(ran.status)
 }
 
@@ -178,6 +177,17 @@ fn place_words(alloc: Global) -> Result<Vec<String>, AllocError>
     let candidates = String::from_str(alloc, "c")?;
     let ranks = String::from_str(alloc, "r")?;
     Ok(vec![in alloc; place, programmes, candidates, ranks]?)
+}
+
+// The market of these files.
+fn problem_of(
+    rt: &(impl Threads + Sync),
+    alloc: Global,
+    mut shelf: MemShelf,
+) -> Result<Problem, Stop> {
+    let words = place_words(alloc)?;
+    let inputs = Inputs::read(rt, alloc, &words, &mut shelf, 2)?;
+    Ok(Problem::build(rt, alloc, inputs, 2)?)
 }
 
 // The rounds, the cuts and the turns of these files, which two workers place.
@@ -193,14 +203,12 @@ fn counts_of<R: Threads + Sync>(
 fn counts_by<R: Threads + Sync, L: Ledger>(
     rt: &R,
     alloc: Global,
-    mut shelf: MemShelf,
+    shelf: MemShelf,
     blank: Blank,
 ) -> Result<(u32, u32, u64), Stop>
     requires ledger { (blank.name ≡ L.name) × (blank.parts ≡ L.parts) × (0 < blank.parts) }
 {
-    let words = place_words(alloc)?;
-    let inputs = Inputs::read(rt, alloc, &words, &mut shelf, 2)?;
-    let problem = Problem::build(rt, alloc, inputs, 2)?;
+    let problem = problem_of(rt, alloc, shelf)?;
     let mut turns = Steps::<L>::new(blank);
     let outcome = Rounds::new(2, &OpenGate).place(rt, alloc, &problem.market, &mut turns)?;
     Ok((outcome.rounds, outcome.cuts, outcome.turns))
@@ -641,110 +649,3 @@ fn files_are_opened_in_order(rt: HostRuntime) -> Result<(), Fail> {
 }
 
 const FREED_SEAT: [(&str, &[u8]); 3] = [("p", PROGRAMMES), ("c", CANDIDATES), ("r", RANKS)];
-
-#[test]
-fn a_read_that_fails_within_a_file_is_a_read_fault(rt: HostRuntime) -> Result<(), Fail> {
-    let mut shelf = shelf(rt.alloc(), &FREED_SEAT)?;
-    shelf.fail_at(5)?;
-    let status = ends(
-        &rt,
-        rt.alloc(),
-        &PLACE,
-        shelf,
-        &OpenGate,
-        (4, b"", b"read fault\n", 1, 5),
-    )?;
-    assert_eq!(rt; status, Status::ReadFault);
-    Ok(())
-}
-
-#[test]
-fn a_write_that_fails_leaves_the_front_of_the_text(rt: HostRuntime) -> Result<(), Fail> {
-    let alloc = rt.alloc();
-    let mut shelf = shelf(alloc, &FREED_SEAT)?;
-    let mut out = MemSink::new(alloc, 16, 65_536)?;
-    out.fail_at(2)?;
-    let mut notes = MemSink::new(alloc, 16, 65_536)?;
-    let sinks = (&mut out, &mut notes);
-    let status = run_on(&rt, alloc, &PLACE, &mut shelf, sinks, &OpenGate)?;
-    assert_eq!(rt; (status, status.code()), (Status::WriteFault, 5));
-    assert_eq!(rt; out.bytes(), b"candidate,progra".as_slice());
-    assert_eq!(rt; out.faults(), 1);
-    assert_eq!(rt; notes.bytes(), b"write fault\n".as_slice());
-    Ok(())
-}
-
-#[test]
-fn reasons_that_cannot_be_written_leave_the_front_of_their_text(
-    rt: HostRuntime,
-) -> Result<(), Fail> {
-    let alloc = rt.alloc();
-    for (put, front) in [
-        (2, b"candidate,progra".as_slice()),
-        (3, b"candidate,programme,reason,base\n".as_slice()),
-    ] {
-        let mut shelf = shelf(alloc, &FREED_SEAT)?;
-        let mut out = MemSink::new(alloc, 16, 65_536)?;
-        out.fail_at(put)?;
-        let mut notes = MemSink::new(alloc, 16, 65_536)?;
-        let sinks = (&mut out, &mut notes);
-        let status = run_on(&rt, alloc, REASONS_BY[0], &mut shelf, sinks, &OpenGate)?;
-        assert_eq!(rt; (status.code(), out.faults()), (5, 1));
-        assert_eq!(rt; out.bytes(), front);
-    }
-    Ok(())
-}
-
-#[test]
-fn notes_that_fail_at_once_change_no_refusal(rt: HostRuntime) -> Result<(), Fail> {
-    let alloc = rt.alloc();
-    for (files, code) in [
-        ([("p", PROGRAMMES), ("c", BAD_CANDIDATES)], 3),
-        ([("p", PROGRAMMES), ("r", RANKS)], 4),
-    ] {
-        let mut shelf = shelf(alloc, &files)?;
-        let mut out = MemSink::new(alloc, 16, 65_536)?;
-        let mut notes = MemSink::new(alloc, 4, 65_536)?;
-        notes.fail_at(1)?;
-        let sinks = (&mut out, &mut notes);
-        let status = run_on(&rt, alloc, &PLACE, &mut shelf, sinks, &OpenGate)?;
-        assert_eq!(rt; (status.code(), notes.faults()), (code, 1));
-        assert_eq!(rt;
-            (out.bytes(), notes.bytes()),
-            (b"".as_slice(), b"".as_slice())
-        );
-    }
-    Ok(())
-}
-
-#[test]
-fn notes_that_fail_change_nothing_else(rt: HostRuntime) -> Result<(), Fail> {
-    let alloc = rt.alloc();
-    let mut shelf = shelf(alloc, &[("p", PROGRAMMES), ("c", BAD_CANDIDATES)])?;
-    let mut out = MemSink::new(alloc, 16, 65_536)?;
-    let mut notes = MemSink::new(alloc, 4, 65_536)?;
-    notes.fail_at(6)?;
-    let sinks = (&mut out, &mut notes);
-    let status = run_on(&rt, alloc, &PLACE, &mut shelf, sinks, &OpenGate)?;
-    assert_eq!(rt; status.code(), 3);
-    assert_eq!(rt; out.bytes(), b"".as_slice());
-    assert_eq!(rt; notes.bytes(), b"fault candidates".as_slice());
-    Ok(())
-}
-
-#[test]
-fn nothing_fails_over_a_sure_shelf_and_a_sure_sink(rt: HostRuntime) -> Result<(), Fail> {
-    let alloc = rt.alloc();
-    let mut shelf = SureShelf::new(alloc);
-    for (name, bytes) in FREED_SEAT {
-        shelf.add(String::from_str(alloc, name)?, bytes.to_vec(alloc)?)?;
-    }
-    let words = words(alloc, &PLACE)?;
-    let mut out = SureSink::new();
-    let mut notes = SureSink::new();
-    let status = run_words(
-        &rt, alloc, &words, &mut shelf, &mut out, &mut notes, &OpenGate,
-    );
-    assert_eq!(rt; status, Status::Done);
-    Ok(())
-}

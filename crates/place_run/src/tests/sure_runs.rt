@@ -9,7 +9,13 @@ use std::test::Fail;
 use std::thread::Threads;
 
 // Words, the files beside which all others are empty, the number of the status, and its line.
-const REFUSED: [(&[&str], &[(&str, &[u8])], u8, &[u8]); 4] = [
+const ENDS: [(&[&str], &[(&str, &[u8])], u8, &[u8]); 5] = [
+    (
+        &PLACE,
+        &[("p", PROGRAMMES), ("c", CANDIDATES), ("r", RANKS)],
+        0,
+        b"",
+    ),
     (&["plan"], &[], 2, b"words UnknownCommand 1\n"),
     (
         &PLACE,
@@ -67,11 +73,9 @@ fn ends_surely(
 }
 
 #[test]
-fn over_a_sure_shelf_and_a_sure_sink_words_files_and_audits_are_refused(
-    rt: HostRuntime,
-) -> Result<(), Fail> {
+fn over_a_sure_shelf_and_a_sure_sink_nothing_fails_by_itself(rt: HostRuntime) -> Result<(), Fail> {
     let alloc = rt.alloc();
-    for (texts, files, code, note) in REFUSED {
+    for (texts, files, code, note) in ENDS {
         ends_surely(&rt, alloc, texts, sure_shelf(alloc, files)?, code, note)?;
     }
     Ok(())
