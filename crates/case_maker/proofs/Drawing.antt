@@ -3,7 +3,7 @@ use Rattle.std.proofs.Common.{◌≡◌, ℕ, zero, suc, ◌+◌, ◌%◌, ◌<�
 use Rattle.std.specs.List.{cons_option, filter_map, range_with_len}
 use Rattle.std.proofs.lemmas.Bool.{cond_both}
 use Rattle.case_maker.specs.Draws.{Key, key_of}
-use Rattle.case_maker.proofs.Copies.{copies, one_if, one_if-cases, one_if-other, one_if-same}
+use Rattle.market.proofs.Copies.{copies, one_if, one_if-cases, one_if-other, one_if-same}
 
 -- the keys that words give the candidates from o on
 abbrev pub keys_from : (ℕ → ℕ) → ℕ → ℕ → List Key

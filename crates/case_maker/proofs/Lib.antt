@@ -1,7 +1,6 @@
 -- words that are taken in turn
 pub mod Taking
 -- lists in which an entry stands once
-pub mod Copies
 pub mod Repeats
 -- keys in order
 pub mod Sorting

@@ -8,7 +8,7 @@ use Rattle.case_maker.specs.declared.keys.TheConstants.{INDEXES}
 use Rattle.case_maker.specs.Draws.{Key}
 use Rattle.case_maker.specs.Packed.{unpacked}
 use Rattle.case_maker.specs.Turns.{is_before, put_in, in_order, turn_order}
-use Rattle.case_maker.proofs.Copies.{copies, one_if, Rises}
+use Rattle.market.proofs.Copies.{copies, one_if, Rises}
 use Rattle.case_maker.proofs.Sorting.{place_in, sorted, sorted-unique}
 
 -- keys come in the order of their packed numbers

@@ -6,7 +6,7 @@ use Rattle.std.proofs.lemmas.Bool.{cases_eq, cond_both, eq-eqb, ne_eqb}
 use Rattle.std.proofs.lemmas.List.Elements.{All-cons, All-filter, All-head, All-nil, All-tail, filter-append}
 use Rattle.market.specs.Problems.{HasNoRepeats}
 use Rattle.case_maker.specs.Draws.{without_repeats}
-use Rattle.case_maker.proofs.Copies.{copies, one_if, one_if-cases, one_if-other, one_if-same, no_repeats}
+use Rattle.market.proofs.Copies.{copies, one_if, one_if-cases, one_if-other, one_if-same, no_repeats}
 
 -- the numbers but one
 abbrev others : ℕ → List ℕ → List ℕ

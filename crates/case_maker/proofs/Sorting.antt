@@ -3,7 +3,7 @@
 use Rattle.std.proofs.Common.{◌≡◌, ℕ, zero, suc, ◌+◌, ◌<◌, ◌≤◌, nat_le, if◌then◌else◌, List, [], ◌∷◌, length, refl, sym, ap, ◌∙◌, arith}
 use Rattle.std.specs.Prelude.{slice_index, IsPermutation}
 use Rattle.std.proofs.lemmas.Bool.{cond_both, leb-true, leb-false}
-use Rattle.case_maker.proofs.Copies.{copies, one_if, copies-permutation, Rises, Rises-unique}
+use Rattle.market.proofs.Copies.{copies, one_if, copies-permutation, Rises, Rises-unique}
 
 -- one number more, in its place
 abbrev pub place_in : ℕ → List ℕ → List ℕ

@@ -11,7 +11,7 @@ use Rattle.case_maker.specs.declared.sizes.Sizes.{Sizes}
 use Rattle.case_maker.specs.Words.{Words, words_after, words_of, seeded}
 use Rattle.case_maker.specs.Draws.{draw_count, drawn_entries, drawn_list, list_words}
 use Rattle.case_maker.specs.MadeMarkets.{AreFit, HasSizes, programme_of, own_words, made_keys, made_market, made_order, made_ranks, market_of}
-use Rattle.case_maker.proofs.Copies.{copies, copies-at, no_repeats}
+use Rattle.market.proofs.Copies.{copies, copies-at, no_repeats}
 use Rattle.case_maker.proofs.Repeats.{All-without_repeats, HasNoRepeats-without_repeats, length-without_repeats}
 use Rattle.case_maker.proofs.Ordering.{copies-turn_order, length-turn_order}
 use Rattle.case_maker.proofs.Drawing.{copies-above, copies-once, length-keys}

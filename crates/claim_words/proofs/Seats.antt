@@ -3,7 +3,7 @@ use Rattle.std.proofs.Common.{◌≡◌, ℕ, List, [], ◌∷◌, ◌++◌, len
 use Rattle.word_rule.specs.Rounds.{IsNew, AreNew, IsOver, AreOver}
 use Rattle.word_rule.specs.declared.seat.SharedRound.{SharedRound}
 use Rattle.word_rule.specs.declared.seat.WorkSeat.{WorkSeat}
-use Rattle.word_rule.proofs.Seats.{each_last, each_snoc}
+use Rattle.interleaving_core.proofs.Places.{each_last, each_snoc}
 
 -- the last of seats at the opening, and the others
 pub new_last : (round : SharedRound) (l xs : List WorkSeat) (m : WorkSeat) → l ≡ xs ++ m ∷ []

@@ -2,7 +2,7 @@
 use Rattle.std.proofs.Common.{◌≡◌, ℕ, zero, suc, ◌+◌, ◌<◌, ◌≤◌, List, [], ◌∷◌, ◌++◌, length, length-append, Some, refl, ap, arith}
 use Rattle.std.specs.Prelude.{slice_get, slice_index, slice_index_or}
 use Rattle.std.proofs.lemmas.Option.{slice_get-get_or}
-use Rattle.word_rule.proofs.Seats.{each_snoc}
+use Rattle.interleaving_core.proofs.Places.{each_snoc}
 use Rattle.market.specs.Dictatorships.{IsValidDictatorship, dictatorship, list_at}
 use Rattle.market.proofs.Checks.{dictatorship_fits, turn_lists_fit, dictatorship_valid_from}
 use Rattle.market.proofs.Computes.{computes}

@@ -4,7 +4,8 @@ use Rattle.interleaving_core.specs.Core.{View}
 use Rattle.word_rule.specs.Rounds.{knows, shares_of, AreNew}
 use Rattle.word_rule.specs.declared.seat.SharedRound.{SharedRound}
 use Rattle.word_rule.specs.declared.seat.WorkSeat.{WorkSeat}
-use Rattle.word_rule.proofs.Seats.{each_last, each_snoc, shares_last}
+use Rattle.interleaving_core.proofs.Places.{each_last, each_snoc}
+use Rattle.word_rule.proofs.Seats.{shares_last}
 use Rattle.commit_book.specs.Seats.{IsWorking, AreWorking}
 
 -- the last of these seats, and the others

@@ -1,6 +1,7 @@
 -- lists, counts
 pub mod Firsts
 pub mod Counts
+pub mod Copies
 -- a valid problem
 pub mod Valid
 -- one dictatorship

@@ -14,7 +14,7 @@ use Rattle.rank_lists.specs.Groups.{candidate_group, rank_group}
 use Rattle.rank_lists.specs.Repeats.{HasNoRepeat}
 use Rattle.rank_lists.specs.Rows.{candidate_in, type_in, rank_in, row_at}
 use Rattle.rank_lists.specs.Table.{Standing, in_type, standing_in, standings}
-use Rattle.rank_lists.proofs.Counts.{copies, copies-none, one_if, one_if-cases, one_if-same}
+use Rattle.market.proofs.Copies.{copies, copies-none, one_if, one_if-cases, one_if-same}
 use Rattle.rank_lists.proofs.Ranking.{Comes-from}
 use Rattle.rank_lists.proofs.RowGroups.{HasFields, same_candidate-group, same_rank-group}
 

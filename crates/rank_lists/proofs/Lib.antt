@@ -1,4 +1,4 @@
-pub mod Counts
+pub mod NoCopies
 pub mod EarlierDuplicates
 pub mod FirstDuplicates
 pub mod Gathering

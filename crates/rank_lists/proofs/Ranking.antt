@@ -14,7 +14,7 @@ use Rattle.rank_lists.specs.Rows.{candidate_in, type_in, rank_in}
 use Rattle.rank_lists.specs.Table.{Standing, standing_of, standing_in, standings, in_type}
 use Rattle.rank_lists.specs.Repeats.{HasNoRepeat}
 use Rattle.rank_lists.specs.Rows.{row_at}
-use Rattle.rank_lists.proofs.Counts.{copies, one_if, one_if-same, one_if-other, one_if-cases}
+use Rattle.market.proofs.Copies.{copies, one_if, one_if-same, one_if-other, one_if-cases}
 use Rattle.rank_lists.proofs.Standings.{Each}
 
 module _ (names : List (List ℕ)) (numbers : List ℕ) where

@@ -4,7 +4,8 @@ use Rattle.std.specs.Prelude.{slice_index, IsPermutation}
 use Rattle.std.proofs.lemmas.List.{get_or-map, length-map}
 use Rattle.rank_lists.specs.declared.keys.TheConstants.{PLACES}
 use Rattle.rank_lists.specs.Repeats.{HasNoRepeat, HasUnequalNeighbours}
-use Rattle.rank_lists.proofs.Counts.{copies, copies-permutation, copies-twice, copies-differ, Rises}
+use Rattle.market.proofs.Copies.{copies, copies-permutation, copies-twice, Rises}
+use Rattle.rank_lists.proofs.NoCopies.{copies-differ}
 
 pub short-distinct : (form : ℕ → ℕ) (placed sorted : List ℕ)
     → IsPermutation (map (λ p. form (p / PLACES)) placed) sorted → Rises sorted

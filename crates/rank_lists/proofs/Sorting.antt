@@ -11,7 +11,8 @@ use Rattle.rank_lists.specs.declared.keys.TheConstants.{PLACES}
 use Rattle.rank_lists.specs.Placed.{HasPlaces}
 use Rattle.rank_lists.specs.Repeats.{HasNoRepeat, IsFirstRepeat, IsPair, IsLeastOfPairs, IsLeastPair}
 use Rattle.rank_lists.specs.declared.repeats.Repeat.{Repeat}
-use Rattle.rank_lists.proofs.Counts.{copies, copies-permutation, copies-twice, copies-placed, Rises}
+use Rattle.market.proofs.Copies.{copies, copies-permutation, copies-twice, Rises}
+use Rattle.rank_lists.proofs.NoCopies.{copies-placed}
 
 -- the numbers without their places
 abbrev pub numbers_of : List ℕ → List ℕ

@@ -7,7 +7,7 @@ use Rattle.std.proofs.lemmas.Bool.Decides.{nat_tests}
 use Rattle.rank_lists.specs.declared.keys.TheConstants.{INDEXES}
 use Rattle.rank_lists.specs.Clean.{key_of}
 use Rattle.rank_lists.specs.Table.{Standing}
-use Rattle.rank_lists.proofs.Counts.{copies, one_if, copies-permutation, Rises, Rises-unique}
+use Rattle.market.proofs.Copies.{copies, one_if, copies-permutation, Rises, Rises-unique}
 
 -- a better rank, and of equal ranks the lesser index
 abbrev is_before : Standing → Standing → Bool

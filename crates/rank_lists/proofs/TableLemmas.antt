@@ -17,7 +17,8 @@ use Rattle.rank_lists.specs.Rows.{row_at}
 use Rattle.rank_lists.specs.Table.{IsSound}
 use Rattle.rank_lists.specs.Turns.{AreTurns}
 use Rattle.rank_lists.proofs.CleanRows.{copies-once}
-use Rattle.rank_lists.proofs.Counts.{Rises, copies, copies-differ, copies-twice}
+use Rattle.market.proofs.Copies.{Rises, copies, copies-twice}
+use Rattle.rank_lists.proofs.NoCopies.{copies-differ}
 use Rattle.rank_lists.proofs.Ranking.{Comes-candidate, candidates-once, ranks-once, standings-Each}
 use Rattle.rank_lists.proofs.RowGroups.{HasFields}
 use Rattle.rank_lists.proofs.Standings.{Each, Each-at, AreSmall, copies-sorted, keys-candidates, keys-ranks, sorted, sorted-AreSmall, sorted-Each, sorted-Rises, sorted-keys}

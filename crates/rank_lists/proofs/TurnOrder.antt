@@ -7,7 +7,7 @@ use Rattle.std.proofs.lemmas.Bool.Decides.{nat_tests}
 use Rattle.std.proofs.lemmas.List.{get_or-map, get_or_default, length-map}
 use Rattle.std.proofs.lemmas.List.Sums.{sum_by-cons}
 use Rattle.rank_lists.specs.Table.{Standing, better_count, by_rank, turn_in}
-use Rattle.rank_lists.proofs.Counts.{copies, one_if}
+use Rattle.market.proofs.Copies.{copies, one_if}
 use Rattle.rank_lists.proofs.Standings.{Each, Each-at, Each-weaker, copies-sorted, length-sorted, sorted, sorted-Each, sorted-Each-back}
 
 -- 1 for a rank that is better, else 0

@@ -6,28 +6,7 @@ use Rattle.std.proofs.lemmas.List.Sums.{sum_by-append, sum_by-cons}
 use Rattle.registration_desk.specs.Desks.{IsClerkOf, AreClerksOf, IsNew, AllNew}
 use Rattle.registration_desk.specs.declared.desk.Desk.{Desk}
 use Rattle.registration_desk.specs.declared.desk.Clerk.{Clerk}
-use Rattle.interleaving_core.proofs.Places.{at_snoc, at_longer, at_last}
-
-module _ {A : Type 0} (P : ℕ → A → Type 0) where
-  -- at each place of the list it holds
-  abbrev Each : List A → Type 0
-  Each l = (k : ℕ) (x : A) → slice_get l k ≡ Some x → P k x
-
-  -- of the last one, and of the others
-  pub each_last : (l xs : List A) (m : A) → l ≡ xs ++ m ∷ [] → Each l → P (length xs) m × Each xs
-  each_last l xs m is all = (
-    all (length xs) m (ap (λ z. slice_get z (length xs)) is ∙ at_last xs m),
-    λ k x e. all k x (ap (λ z. slice_get z k) is ∙ at_longer xs (m ∷ []) k x e),
-  )
-
-  -- of one more
-  pub each_snoc : (l xs : List A) (m : A) → l ≡ xs ++ m ∷ [] → Each xs → P (length xs) m → Each l
-  each_snoc l xs m is all mine k x e =
-      ⊎_elim
-      (λ (t : slice_get xs k ≡ Some x). all k x t)
-      (λ (t : (k ≡ length xs) × (m ≡ x)).
-      subst (λ (z : ℕ × A). P z.0 z.1) (λ i. (sym t.0 i, t.1 i)) mine)
-      (at_snoc xs m x k (ap (λ z. slice_get z k) (sym is) ∙ e))
+use Rattle.interleaving_core.proofs.Places.{each_last, each_snoc}
 
 -- the last of the clerks of a desk, and the others
 pub clerks_last : (desk : Desk) (l xs : List Clerk) (m : Clerk) → l ≡ xs ++ m ∷ []

@@ -44,9 +44,10 @@ pub(super) fn run_failing(
     })
 }
 
-// The words of each command over the files of the freed seat, and the parts in which it writes its
-// text: the reasons have a header, and then the rows of a candidate after the other.
-const TEXTS: [(&[&str], &[&[u8]]); 4] = [
+// The words of each command over the files of the freed seat, or of a market that is made, and the
+// parts in which it writes its text: the reasons have a header, and then the rows of a candidate
+// after the other.
+const TEXTS: [(&[&str], &[&[u8]]); 5] = [
     (
         &["place", "p", "c", "r"],
         &[b"candidate,programme\n1,101\n2,201\n"],
@@ -64,6 +65,13 @@ const TEXTS: [(&[&str], &[&[u8]]); 4] = [
         ],
     ),
     (&["audit", "p", "c", "r", "h"], &[b"STABLE\n"]),
+    (
+        &["make", "1", "0", "0", "1"],
+        &[
+            b"candidates 0\nprogrammes 0\ntypes 1\nentries 0\nrounds 1\ncuts 0\nturns 0\n\
+placed 0\nseats 0\n",
+        ],
+    ),
 ];
 
 // Where this put fails, the run is a write fault, and what was put before it stands.

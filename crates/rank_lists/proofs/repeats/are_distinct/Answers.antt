@@ -1,7 +1,7 @@
 use Rattle.std.proofs.Common.{length, subst, IsPermutation}
 use Rattle.std.proofs.lemmas.List.Sorted.{IsNonDecreasingBy-from_sort}
 use Rattle.rank_lists.specs.Repeats.{HasUnequalNeighbours}
-use Rattle.rank_lists.proofs.Counts.{Rises}
+use Rattle.market.proofs.Copies.{Rises}
 use Rattle.rank_lists.proofs.ShortForms.{short-distinct}
 use Rattle.rank_lists.proofs.repeats.are_distinct.Goals as goal
 

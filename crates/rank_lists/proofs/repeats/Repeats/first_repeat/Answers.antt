@@ -1,7 +1,7 @@
 use Rattle.std.proofs.Common.{ℕ, List, length, subst, MatchOption}
 use Rattle.std.proofs.lemmas.List.Sorted.{IsNonDecreasingBy-from_sort}
 use Rattle.rank_lists.specs.Repeats.{HasNoRepeat, IsFirstRepeat}
-use Rattle.rank_lists.proofs.Counts.{Rises}
+use Rattle.market.proofs.Copies.{Rises}
 use Rattle.rank_lists.proofs.Sorting.{first-repeat}
 use Rattle.rank_lists.proofs.repeats.Repeats.first_repeat.Goals as goal
 
