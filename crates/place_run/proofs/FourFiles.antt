@@ -1,21 +1,18 @@
 -- A placement file that is read and judged behind three files: what all four come to.
-use Rattle.std.proofs.Common.{◌≡◌, ℕ, ◌≤◌, List, [], ◌∷◌, ◌++◌, Option, Some, None, Result, Ok, Err, refl, sym, ap, subst, ◌∙◌, inl, inr, arith, ⊎_elim}
-use Rattle.std.specs.Prelude.{Bool, IsErrAnd, IsTrue}
+use Rattle.std.proofs.Common.{◌≡◌, ℕ, List, [], ◌∷◌, ◌++◌, Option, Some, None, Result, Ok, Err, refl, sym, ap, subst, ◌∙◌, arith}
+use Rattle.std.specs.Prelude.{Bool, IsTrue}
 use Rattle.place_base.specs.declared.fault.FileKind.{FileKind}
 use Rattle.place_base.specs.declared.fault.FileKind.TheVariants as file
 use Rattle.place_edges.specs.Shelf.{Files}
 use Rattle.programme_table.specs.Table.{codes_of}
 use Rattle.candidate_table.specs.Table.{numbers_of}
 use Rattle.run_frame.specs.Files.{AreHeld, AreTaken, IsHeld, IsJudged, Reads}
-use Rattle.run_frame.specs.Meetings.{IsDecided, Meets}
-use Rattle.run_frame.specs.Stops.{is_free}
+use Rattle.run_frame.specs.Meetings.{Meets}
 use Rattle.run_frame.specs.declared.stop.FileStop.{FileStop}
 use Rattle.place_run.specs.Runs.{IsReading}
 use Rattle.place_run.specs.Says.{MayOpenAudit, audited_read, audited_said, behind_tables, named, opened, placement_read, read_from, tables_read, tables_said}
 use Rattle.place_run.specs.Stops as stops
 use Rattle.place_run.specs.Tables.{Tables, placement_said}
-use Rattle.place_run.specs.commands.Audit.{Audited}
-use Rattle.place_run.specs.declared.status.Stop.{Stop}
 use Rattle.place_run.specs.declared.status.Stop.TheVariants.{File}
 use Rattle.place_run.proofs.Readings.{begun-later, causes-behind, causes-ok, opened-ok, opened-stop, taken-ok, taken-stop}
 

@@ -1,6 +1,6 @@
 -- What files say that were read: they have no fault, and their tables are those of the files. So what
 -- is known of the market of the tables is known of the market of the files.
-use Rattle.std.proofs.Common.{◌≡◌, ℕ, ◌<◌, ◌≤◌, List, refl, sym, subst, ap, ◌∙◌, Option, Some, None, Result, Ok, Err, inl, inr, arith, ⊎_elim}
+use Rattle.std.proofs.Common.{◌≡◌, ℕ, ◌<◌, ◌≤◌, List, refl, sym, subst, ap, ◌∙◌, Option, Some, None, Result, Ok, Err, ⊎_elim}
 use Rattle.std.specs.Prelude.{length, ◌↔◌}
 use Rattle.std.proofs.lemmas.Bool.{cases_lt}
 use Rattle.place_base.specs.declared.fault.FileFault.{FileFault}

@@ -1,4 +1,4 @@
-use Rattle.std.proofs.Common.{Ok, Err, refl, sym, ◌∙◌}
+use Rattle.std.proofs.Common.{Ok, Err}
 use Rattle.command_words.specs.Words.{texts}
 use Rattle.place_run.specs.Says.{audited_read, audited_said}
 use Rattle.place_run.specs.commands.Audit.{IsAudit, audit_of}
