@@ -1,5 +1,5 @@
--- Words that give a command are as many as it takes, its numbers are within their ranges, and it has
--- 1 to 64 workers.
+-- Words that give a command are as many as it takes, its numbers are within their ranges, and it
+-- has 1 to 64 workers.
 use Rattle.std.proofs.Common.{◌≡◌, ℕ, suc, ◌+◌, ◌-◌, ◌*◌, ◌^◌, ◌<◌, ◌≤◌, List, [], ◌∷◌, drop, length, Option, Some, None, Result, Ok, Err, refl, sym, ◌∙◌, subst, arith, ⊎_elim}
 use Rattle.std.specs.Prelude.{codes, nat_lt, slice_index_or, ⊤}
 use Rattle.std.specs.Str.{bytes_eq}
@@ -141,8 +141,10 @@ numbers-fit further workers command many within e =
     let beside = with-read (types_beside candidates.0 types.0) _ command types.2 in
     let number = with-read workers (λ n. Ok (Make seed.0 candidates.0 programmes.0 beside.0 n))
     command beside.2 in
-    let one = number-ranged (slice_index_or further 1 []) 0 MOST_CANDIDATES 3 candidates.0 candidates.1 in
-    let two = number-ranged (slice_index_or further 2 []) 0 MOST_PROGRAMMES 4 programmes.0 programmes.1 in
+    let one = number-ranged (slice_index_or further 1 []) 0 MOST_CANDIDATES 3 candidates.0
+    candidates.1 in
+    let two = number-ranged (slice_index_or further 2 []) 0 MOST_PROGRAMMES 4 programmes.0
+    programmes.1 in
     let three = number-ranged (slice_index_or further 3 []) 1 MOST_TYPES 5 types.0 types.1 in
     let kept = same-types candidates.0 types.0 beside.0 beside.1 in
     let same : Make seed.0 candidates.0 programmes.0 beside.0 number.0 ≡ command = cc number.2 in

@@ -36,8 +36,7 @@ abbrev pub of_names : (ℕ → Command) → List (List ℕ) → Result ℕ Words
     → Result Command WordsFault
 of_names command further workers = with_number workers (λ number. Ok (command number))
 
--- how many types there are, beside so many candidates: with too many ranks it is this number that is
--- bad
+-- how many types there are, beside so many candidates: with too many ranks this number is bad
 abbrev pub types_beside : ℕ → ℕ → Result ℕ WordsFault
 types_beside candidates types =
     if nat_lt MOST_RANKS (candidates * types) then Err (BadNumber 5) else Ok types
@@ -47,8 +46,10 @@ types_beside candidates types =
 abbrev pub of_numbers : List (List ℕ) → Result ℕ WordsFault → Result Command WordsFault
 of_numbers further workers =
     with_number (number_at (number_of (slice_index_or further 0 []) 0 (2 ^ 64 - 1)) 2) (λ seed.
-    with_number (number_at (number_of (slice_index_or further 1 []) 0 MOST_CANDIDATES) 3) (λ candidates.
-    with_number (number_at (number_of (slice_index_or further 2 []) 0 MOST_PROGRAMMES) 4) (λ programmes.
+    with_number (number_at (number_of (slice_index_or further 1 []) 0 MOST_CANDIDATES) 3)
+    (λ candidates.
+    with_number (number_at (number_of (slice_index_or further 2 []) 0 MOST_PROGRAMMES) 4)
+    (λ programmes.
     with_number (number_at (number_of (slice_index_or further 3 []) 1 MOST_TYPES) 5) (λ types.
     with_number (types_beside candidates types) (λ types.
     with_number workers (λ number. Ok (Make seed candidates programmes types number)))))))
@@ -70,7 +71,11 @@ abbrev pub grammar : List CommandForm
 grammar =
     record { word = codes "place"; further = 3; command = of_names (λ workers. Place workers) }
     ∷ record { word = codes "base"; further = 3; command = of_names (λ workers. Base workers) }
-    ∷ record { word = codes "reasons"; further = 3; command = of_names (λ workers. Reasons workers) }
+    ∷ record {
+      word = codes "reasons";
+      further = 3;
+      command = of_names (λ workers. Reasons workers);
+    }
     ∷ record { word = codes "audit"; further = 4; command = of_names (λ workers. Audit workers) }
     ∷ record { word = codes "make"; further = 4; command = of_numbers } ∷ []
 

@@ -33,4 +33,5 @@ summary_lines m outcome =
 
 -- the summary: these lines
 unfoldable pub summary : Problem → Outcome → List ℕ
-summary m outcome = flat_map (λ (line : List ℕ × ℕ). line_text line.0 line.1) (summary_lines m outcome)
+summary m outcome =
+    flat_map (λ (line : List ℕ × ℕ). line_text line.0 line.1) (summary_lines m outcome)
