@@ -26,8 +26,8 @@ use std::thread::Threads;
 /// after each refusal `out` is as it was; only a write fault leaves a part of the text there. A
 /// fault of `notes` changes neither the status nor `out`.
 ///
-/// The rounds run on as many workers as the words say, who pass the gate; what is written does not
-/// depend on them.
+/// The rounds are written to run on as many workers as the words say, who pass the gate; what is
+/// written does not depend on them.
 pub fn run_words<R: Threads + Sync, H: Shelf, K: Sink, N: Sink, G: Gate>(
     rt: &R,
     alloc: Global,
@@ -42,7 +42,8 @@ pub fn run_words<R: Threads + Sync, H: Shelf, K: Sink, N: Sink, G: Gate>(
         (texts words.now) }
 
     // Over the bytes that were read, which are those held where the shelf tells them, the status,
-    // the text and its promise are those of the words. Each file is read once.
+    // the text and its promise are those of the words. Each file up to the one that decides is read
+    // once.
     ensures run { IsAnsweredRun K.written K.faults (H.files shelf.old) (texts words.now) result
         out.old out.new (H.faults shelf.old) (H.faults shelf.new)
         (H.tally shelf.old) (H.tally shelf.new) }

@@ -1,6 +1,7 @@
 -- The limits of a desk in numbers, as docs/FORMATS.md has them.
-use Rattle.std.specs.Prelude.{◌≡◌, ℕ, List, [], ◌∷◌, Ok}
-use Rattle.place_base.specs.declared.limits.TheConstants.{MOST_CANDIDATES, MOST_REQUESTS, LARGEST_NUMBER, LARGEST_CODE, LONGEST_LINE, LF, COMMA, BYTE_ORDER_MARK}
+use Rattle.std.specs.Prelude.{◌≡◌, ℕ, ◌^◌, List, [], ◌∷◌, Ok}
+use Rattle.place_base.specs.declared.limits.TheConstants.{MOST_CANDIDATES, MOST_REQUESTS, LARGEST_NUMBER, LARGEST_CODE, LONGEST_LINE, LF, CR, COMMA, BYTE_ORDER_MARK}
+use Rattle.place_edges.specs.Shelf.{file_limit}
 use Rattle.registration_desk.specs.Words.{clerks_of}
 use Rattle.registration_desk.specs.declared.desk.TheConstants.{MOST_CLERKS}
 
@@ -16,9 +17,11 @@ pub record HasFileLimits : Type 0 where
   pub number : LARGEST_NUMBER ≡ 99999999999
   pub code : LARGEST_CODE ≡ 999999999
   pub line : LONGEST_LINE ≡ 1024
+  pub file : file_limit ≡ 2 ^ 30
 
 -- the bytes that cut them
 pub record HasFileBytes : Type 0 where
   pub line_feed : LF ≡ 10
+  pub carriage_return : CR ≡ 13
   pub comma : COMMA ≡ 44
   pub mark : BYTE_ORDER_MARK ≡ 239 ∷ 187 ∷ 191 ∷ []

@@ -18,8 +18,8 @@ use std::sync::Wait;
 use std::thread;
 use std::thread::Threads;
 
-/// Answers every request, by 1 to 64 clerks who share one desk. That each works in a thread of its
-/// own, where one can be made, is tested.
+/// Answers every request, by 1 to 64 clerks who share one desk. That two of them are at work at the
+/// same time is tested.
 pub fn serve_all<R: Threads + Wait + Sync, G: DeskGate>(
     rt: &R,
     alloc: Global,

@@ -47,7 +47,8 @@ pub fn run_desk<R: Threads + Wait + Sync, H: Shelf, K: Sink, N: Sink, G: DeskGat
 
     // Over the bytes that were read, which are those held where the shelf tells them, the status,
     // the text and the line are those of the words. Where the run ends neither in want of memory
-    // nor in a read fault, each file was read once.
+    // nor in a read fault, each file up to the one that decides was read once; of one that is too
+    // long at most one piece more than 2^30 bytes was taken.
     ensures run { IsDeskRun K.written K.faults N.written N.faults (H.files shelf.old)
         (texts words.now) result out.old out.new notes.old notes.new
         (H.faults shelf.old) (H.faults shelf.new) (H.tally shelf.old) (H.tally shelf.new) }

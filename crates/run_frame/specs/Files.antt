@@ -25,7 +25,7 @@ pub record HasCauses {T S : Type 0} (stopped : FileStop → S) (result : Result 
       → GaveMore tally_before tally_now file_limit
 
 -- The causes of what reading one file came to; and in no case were more bytes taken than one piece
--- beyond 2^30, so that no reading is begun again.
+-- beyond 2^30, so that the reading of a file that is too long is not begun again.
 pub record HasFileCauses {T : Type 0} (result : Result T FileStop)
     (before now tally_before tally_now : ℕ) : Type 0 where
   pub faults : before ≤ now

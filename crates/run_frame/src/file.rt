@@ -27,8 +27,8 @@ pub fn read_file<H: Shelf>(
     ensures given { IfOk result (λ bytes.
         H.tally shelf.new ≡ tally_with (H.tally shelf.old) (vec_len bytes)) }
 
-    // Each stop has its cause in the counts, and the file is read once; memory is refused only
-    // where bytes were taken.
+    // Each stop has its cause in the counts, and in no case were more bytes taken than one piece
+    // beyond 2^30; memory is refused only where bytes were taken.
     ensures causes { HasFileCauses result (H.faults shelf.old) (H.faults shelf.new)
         (H.tally shelf.old) (H.tally shelf.new) }
 

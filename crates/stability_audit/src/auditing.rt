@@ -18,7 +18,7 @@ use std::thread::Threads;
 /// The first verdict in this order: the first programme over its quota; the first candidate who
 /// holds a programme that is not acceptable; the blocking pair of the first candidate, with the
 /// programme that stands first in that candidate's list; stable. The placement's programmes are
-/// those of the market; nothing but memory is refused. Candidates are looked at in parallel.
+/// those of the market; nothing but memory is refused. Candidates may be looked at in parallel.
 pub fn audit<R: Threads + Sync>(
     rt: &R,
     alloc: Global,
