@@ -76,7 +76,7 @@ module _ (names : List (List ℕ)) (numbers bytes : List ℕ) (few : length numb
       let size : length (take k body) ≤ k = omega (arith, length-take k body) in
       let shape : shape_fault ranks_form (header_in ranks_form (rows bytes)).fields
       (length (take k body)) (row_at body k) ≡ None =
-      shape-anywhere ranks_form (header_in ranks_form (rows bytes)).fields (length (take k body))
+      shape-anywhere ranks_form (header_in ranks_form (rows bytes)).fields 0 (length (take k body))
       (row_at body k) (omega arith) (clean-at k lt).shape in
       row_fault-at own_rules bytes k lt ∙ rw (shape, (clean-at k lt).reading) refl)
 
