@@ -8,6 +8,8 @@ use place_base::FaultKind::{
 use place_base::{FileFault, FileKind, Finder};
 use record_files::{TableStop, duplicate_at};
 use std::alloc::Global;
+use std::sync::atomic::AtomicBool;
+use std::sync::atomic::Ordering::SeqCst;
 use std::test::Fail;
 use std::thread::Threads;
 
@@ -153,6 +155,88 @@ fn tell_fault<R: Threads + Sync>(
         if read.err() != Some(TableStop::Fault(wanted)) {
             return Err(Fail::new("another fault"));
         }
+    }
+    Ok(())
+}
+
+// Numbers of which two are looked for side by side: who looks for one of them is held until the
+// other is looked for too.
+#[derive(Drop)]
+struct Meeting<F: Finder> {
+    numbers: F,
+    // The two numbers, and whether each was looked for.
+    both: [u64; 2],
+    first: AtomicBool,
+    second: AtomicBool,
+    // Whether one was held until the last look.
+    given_up: AtomicBool,
+}
+
+impl<F: Finder> Meeting<F> {
+    fn new(numbers: F, both: [u64; 2]) -> Meeting<F> {
+        Meeting {
+            numbers,
+            both,
+            first: AtomicBool::new(false),
+            second: AtomicBool::new(false),
+            given_up: AtomicBool::new(false),
+        }
+    }
+
+    // Raises the one flag, and holds until the other is raised.
+    fn meets(&self, here: &AtomicBool, other: &AtomicBool) {
+        here.store(true, SeqCst);
+        if !is_raised(other) {
+            self.given_up.store(true, SeqCst);
+        }
+    }
+
+    // Whether both numbers were looked for, and neither in vain.
+    fn has_met(&self) -> bool {
+        self.first.load(SeqCst) && self.second.load(SeqCst) && !self.given_up.load(SeqCst)
+    }
+}
+
+// Looks so often, at most, whether the flag is raised; false where it never was.
+fn is_raised(flag: &AtomicBool) -> bool {
+    for _ in 0..200_000_000u32 {
+        if flag.load(SeqCst) {
+            return true;
+        }
+    }
+    false
+}
+
+impl<F: Finder> Finder for Meeting<F> {
+    ghost numbers = { λ meeting. F.numbers meeting.numbers };
+
+    fn count(&self) -> u32 {
+        self.numbers.count()
+    }
+
+    fn number_at(&self, index: u32) -> u64 {
+        self.numbers.number_at(index)
+    }
+
+    fn find(&self, number: u64) -> Option<u32> {
+        if number == self.both[0] {
+            self.meets(&self.first, &self.second);
+        }
+        if number == self.both[1] {
+            self.meets(&self.second, &self.first);
+        }
+        self.numbers.find(number)
+    }
+}
+
+#[test]
+fn parts_are_read_side_by_side(rt: HostRuntime) -> Result<(), Fail> {
+    let codes = codes(&rt, rt.alloc())?;
+    let meeting = Meeting::new(codes, [101, 202]);
+    let bytes = b"candidate,list\n1,101\n2,202\n";
+    let table = CandidateTable::read(&rt, rt.alloc(), bytes, 3, &meeting)?;
+    if table.count() != 2 || !meeting.has_met() {
+        return Err(Fail::new("the parts did not meet"));
     }
     Ok(())
 }
