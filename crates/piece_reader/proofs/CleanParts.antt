@@ -35,5 +35,5 @@ pub clean-means : (rules : FileRules) (header : Header) (earlier : List Row) (ro
     → length earlier < rules.form.most_rows → IsClean rules header row
     → fault_behind rules header earlier row ≡ rules.meaning earlier row
 clean-means rules header earlier row lt clean =
-    rw (shape-anywhere rules.form header.fields 0 (length earlier) row lt clean.shape, clean.reading)
-    refl
+    let shape = shape-anywhere rules.form header.fields 0 (length earlier) row lt clean.shape in
+    rw (shape, clean.reading) refl

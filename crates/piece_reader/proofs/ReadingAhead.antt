@@ -1,4 +1,5 @@
--- What is known of a part whose rows have no fault; and the tables of all parts, one after the other.
+-- What is known of a part whose rows have no fault; and the tables of all parts, one after the
+-- other.
 use Rattle.std.proofs.Common.{◌≡◌, ◌==◌, ℕ, zero, suc, ◌+◌, ◌<◌, ◌≤◌, false, drop, if◌then◌else◌, List, [], ◌∷◌, ◌++◌, All, IfSome, Ok, None, Option, Result, Some, length, get_or, refl, sym, ap, ◌∙◌, arith, append_assoc, subst, take, length-append}
 use Rattle.std.specs.List.{AllZip, flat_map}
 use Rattle.std.specs.Prelude.{option_and_then}
@@ -58,7 +59,8 @@ module _ {G : Type 0} (rules : FileRules) (header : Header) (HasRows : List Row 
       }
 
   -- the rows of the first parts are in these tables, so many
-  pub record JoinsTo (lists : List (List Row)) (tables : List G) (count : ℕ) (left : List (List Row))
+  pub record JoinsTo (lists : List (List Row)) (tables : List G) (count : ℕ)
+      (left : List (List Row))
       : Type 0 where
     pub done : List (List Row)
     pub each : AllZip HasRows done tables
@@ -75,7 +77,8 @@ module _ {G : Type 0} (rules : FileRules) (header : Header) (HasRows : List Row 
       → IsPartRead rules header HasRows rows read
       → JoinsTo lists (tables ++ read.table ∷ []) (count + read.count) left
   JoinsTo-next lists tables count rows left read j is =
-      let whole : flat_map (λ rows. rows) (j.done ++ rows ∷ []) ≡ flat_map (λ rows. rows) j.done ++ rows =
+      let whole : flat_map (λ rows. rows) (j.done ++ rows ∷ [])
+      ≡ flat_map (λ rows. rows) j.done ++ rows =
       flat_map-append (λ (rows : List Row). rows) j.done (rows ∷ [])
       ∙ ap (λ more. flat_map (λ rows. rows) j.done ++ more) (append-nil rows) in
       let sizes = length-append (flat_map (λ (rows : List Row). rows) j.done) rows in
@@ -85,7 +88,8 @@ module _ {G : Type 0} (rules : FileRules) (header : Header) (HasRows : List Row 
         done = j.done ++ rows ∷ [];
         each = AllZip-more HasRows j.done tables rows read.table j.each is.has;
         clean = subst (All (IsClean rules header)) (sym whole)
-            (All-append (IsClean rules header) (flat_map (λ rows. rows) j.done) rows j.clean is.clean);
+            (All-append (IsClean rules header) (flat_map (λ rows. rows) j.done) rows
+            j.clean is.clean);
         size = omega (arith, ap length whole);
         behind = j.behind ∙ sym (append_assoc j.done (rows ∷ []) left);
       }
@@ -97,8 +101,13 @@ module _ {G : Type 0} (rules : FileRules) (header : Header) (HasRows : List Row 
       let whole : j.done ≡ lists = sym (append-nil j.done) ∙ sym j.behind in
       record {
         each = subst (λ all. AllZip HasRows all tables) whole j.each;
-        clean = subst (λ all. All (IsClean rules header) (flat_map (λ rows. rows) all)) whole j.clean;
-        few = omega (arith, j.size, ap (λ all. length (flat_map (λ (rows : List Row). rows) all)) whole);
+        clean =
+            subst (λ all. All (IsClean rules header) (flat_map (λ rows. rows) all)) whole j.clean;
+        few = omega (
+          arith,
+          j.size,
+          ap (λ all. length (flat_map (λ (rows : List Row). rows) all)) whole,
+        );
       }
 
   -- the parts left are those of the lists left

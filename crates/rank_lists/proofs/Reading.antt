@@ -115,7 +115,8 @@ module _ (names : List (List ℕ)) (numbers : List ℕ) (bytes : List ℕ) (read
             (cases_lt read.count (length body))
 
         by : (h : Option FileFault) → first_row_fault ranks_form (rows bytes) ≡ h
-            → first_of h (row_fault own_rules bytes read.count) ≡ Some f → ranks_fault bytes ≡ Some f
+            → first_of h (row_fault own_rules bytes read.count) ≡ Some f
+            → ranks_fault bytes ≡ Some f
         by (Some x) e stop = rw e stop
         by None e stop =
             let here = behind stop in
@@ -184,13 +185,15 @@ module _ (names : List (List ℕ)) (numbers : List ℕ) (bytes : List ℕ) (read
       (subst (IsFirstDuplicate read.table.candidates read.table.ranks) e looked)
 
   -- with none, the fault at which reading stopped is the first
-  pub fault-of-stop : (f : FileFault) → duplicate ≡ None → read.fault ≡ Some f → ranks_fault bytes ≡ Some f
+  pub fault-of-stop : (f : FileFault) → duplicate ≡ None → read.fault ≡ Some f
+      → ranks_fault bytes ≡ Some f
   fault-of-stop f none e = stop-first names numbers bytes read are.taken
       (subst (IsFirstDuplicate read.table.candidates read.table.ranks) none looked) f e
 
   -- with neither, the file has no fault, and the sorted ranks are its table, which is sound
-  pub table-of-turns : (count : ℕ) (orders ranks : List (List ℕ)) → duplicate ≡ None → read.fault ≡ None
-      → count ≡ length numbers → count ≤ INDEXES → AreAllTurns numbers read.table.given.items orders ranks
+  pub table-of-turns : (count : ℕ) (orders ranks : List (List ℕ)) → duplicate ≡ None
+      → read.fault ≡ None → count ≡ length numbers → count ≤ INDEXES
+      → AreAllTurns numbers read.table.given.items orders ranks
       → (ranks_fault bytes ≡ None)
       × (table_with count orders ranks ≡ ranks_table names numbers bytes)
       × IsSound (table_with count orders ranks)

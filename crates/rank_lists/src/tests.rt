@@ -55,8 +55,8 @@ impl TypeFinder for OneType {
     }
 }
 
-// Lists read, of which no more is known than how many types and candidates there are: a file written
-// out would be computed in each goal.
+// Lists read, of which no more is known than how many types and candidates there are: a file
+// written out would be computed in each goal.
 fn read<R: Threads + Sync>(
     rt: &R,
     alloc: Global,

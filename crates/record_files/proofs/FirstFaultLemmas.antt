@@ -1,5 +1,5 @@
--- Reading rows one after the other comes to the first fault: as long as no row has one, the least of
--- those read has none; the first that has one is the least of all.
+-- Reading rows one after the other comes to the first fault: as long as no row has one, the least
+-- of those read has none; the first that has one is the least of all.
 use Rattle.std.proofs.Common.{◌≡◌, ℕ, zero, suc, ◌+◌, ◌-◌, ◌<◌, ◌≤◌, List, [], ◌∷◌, ◌++◌, length, take, drop, get_or, refl, sym, ap, ◌∙◌, arith, add-one, Bool, true, false, nat_le, Option, Some, None, ⊎_elim, subst, length-drop, length-take-le, take_all}
 use Rattle.std.proofs.lemmas.Bool.{cases_lt, leb-false}
 use Rattle.std.specs.Prelude.{slice_get, option_and_then}
@@ -155,7 +155,8 @@ module _ {T : Type 0} (rules : FileRules) (header : Header) (HasRows : List Row 
 
     -- with one reading stops
     pub TakesTo-stops : (f : FileFault) → found ≡ Some f
-        → AreTaken rules None header HasRows all (record { table = new; count = count; fault = Some f })
+        → AreTaken rules None header HasRows all
+        (record { table = new; count = count; fault = Some f })
     TakesTo-stops f e = record {
       within = t.within;
       has = (told (Some f) e).1;
@@ -167,7 +168,8 @@ module _ {T : Type 0} (rules : FileRules) (header : Header) (HasRows : List Row 
 
   -- where no row is left all were taken
   pub TakesTo-ends : (count : ℕ) (table : T) → TakesTo count table []
-      → AreTaken rules None header HasRows all (record { table = table; count = count; fault = None })
+      → AreTaken rules None header HasRows all
+      (record { table = table; count = count; fault = None })
   TakesTo-ends count table t =
       let sizes : 0 ≡ length all - count = ap length t.left_is ∙ length-drop count all in
       let within = t.within in
@@ -201,7 +203,8 @@ module _ {T : Type 0} (rules : FileRules) (header : Header) (HasRows : List Row 
 
   -- where none was told the table is that of all rows
   pub AreTaken-whole : (of_header : Option FileFault) (read : RowsRead T)
-      → AreTaken rules of_header header HasRows all read → read.fault ≡ None → HasRows all read.table
+      → AreTaken rules of_header header HasRows all read → read.fault ≡ None
+      → HasRows all read.table
   AreTaken-whole of_header read t none =
       let size = t.whole none in
       subst (λ rows. HasRows rows read.table) (take_all read.count all (omega arith)) t.has

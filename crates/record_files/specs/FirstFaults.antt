@@ -62,8 +62,9 @@ shape_fault form fields index row =
     (first_of (fault_if (nat_le form.most_rows index) (fault_at form.file row.0 0 TooManyRows))
     (fault_if (not (length (fields_of row) == fields)) (fault_at form.file row.0 0 FieldCount)))
 
--- what a kind of file may have: its form, what is wrong with the fields of a row by themselves under
--- one of its headers, and what is wrong with a row beside the earlier rows and the other files
+-- what a kind of file may have: its form, what is wrong with the fields of a row by themselves
+-- under one of its headers, and what is wrong with a row beside the earlier rows and the other
+-- files
 pub record FileRules : Type 0 where
   pub form : Form
   pub reading : ℕ → Row → Option FileFault

@@ -20,17 +20,18 @@ IsFileRead fault IsMeant (Err Memory) = ⊤
 abbrev pub IsTableRead : {T : Type 0} → Option FileFault → T → Result T TableStop → Type 0
 IsTableRead fault table result = IsFileRead fault (λ read. read ≡ table) result
 
--- what taking a row over comes to: nothing is wrong with it and the table has grown, or its fault is
--- told and the table is that of before
+-- what taking a row over comes to: nothing is wrong with it and the table has grown, or its fault
+-- is told and the table is that of before
 abbrev pub IsRowTaken : Option FileFault → Type 0 → Type 0 → Option FileFault → Type 0
 IsRowTaken fault before grown None = (fault ≡ None) × grown
 IsRowTaken fault before grown (Some found) = (fault ≡ Some found) × before
 
--- what reading a list of rows comes to, behind a header that may have a fault: the first so many have
--- no fault, and this holds of them; the fault that is told is the header's, and then no row was read,
--- or that of the row behind them; where none is told all were read
-pub record AreTaken {T : Type 0} (rules : FileRules) (of_header : Option FileFault) (header : Header)
-    (HasRows : List Row → T → Type 0) (all : List Row) (read : RowsRead T) : Type 0 where
+-- what reading a list of rows comes to, behind a header that may have a fault: the first so many
+-- have no fault, and this holds of them; the fault that is told is the header's, and then no row
+-- was read, or that of the row behind them; where none is told all were read
+pub record AreTaken {T : Type 0} (rules : FileRules) (of_header : Option FileFault)
+    (header : Header) (HasRows : List Row → T → Type 0) (all : List Row) (read : RowsRead T)
+    : Type 0 where
   pub within : read.count ≤ length all
   pub has : HasRows (take read.count all) read.table
   pub passed : 0 < read.count → of_header ≡ None
@@ -38,8 +39,8 @@ pub record AreTaken {T : Type 0} (rules : FileRules) (of_header : Option FileFau
   pub here : first_of of_header (fault_in rules header all read.count) ≡ read.fault
   pub whole : read.fault ≡ None → read.count ≡ length all
 
--- what reading the rows of a file comes to: its first fault is told, where it has one, and this holds
--- of the rows before that
+-- what reading the rows of a file comes to: its first fault is told, where it has one, and this
+-- holds of the rows before that
 pub record AreRowsRead {T : Type 0} (rules : FileRules) (bytes : List ℕ)
     (HasRows : List Row → T → Type 0) (read : RowsRead T) : Type 0 where
   pub first : first_fault rules bytes ≡ read.fault

@@ -21,7 +21,7 @@ pub struct RowsRead<T> {
     pub table: T,
     /// How many these rows are.
     pub count: u32,
-    /// The fault.
+    /// The fault behind them.
     pub fault: Option<FileFault>,
 }
 
