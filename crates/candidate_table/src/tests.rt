@@ -8,8 +8,8 @@ use place_base::FaultKind::{
 use place_base::{FileFault, FileKind, Finder};
 use record_files::{TableStop, duplicate_at};
 use std::alloc::Global;
-use std::sync::atomic::AtomicBool;
 use std::sync::atomic::Ordering::SeqCst;
+use std::sync::atomic::{AtomicBool, AtomicU32};
 use std::test::Fail;
 use std::thread::Threads;
 
@@ -159,83 +159,60 @@ fn tell_fault<R: Threads + Sync>(
     Ok(())
 }
 
-// Numbers of which two are looked for side by side: who looks for one of them is held until the
-// other is looked for too.
+// The codes of a table. Who looks for one is held until another look is begun.
 #[derive(Drop)]
-struct Meeting<F: Finder> {
-    numbers: F,
-    // The two numbers, and whether each was looked for.
-    both: [u64; 2],
-    first: AtomicBool,
-    second: AtomicBool,
-    // Whether one was held until the last look.
+struct Meeting {
+    codes: CandidateTable,
+    looks: AtomicU32,
+    // Whether one was held until the end.
     given_up: AtomicBool,
 }
 
-impl<F: Finder> Meeting<F> {
-    fn new(numbers: F, both: [u64; 2]) -> Meeting<F> {
-        Meeting {
-            numbers,
-            both,
-            first: AtomicBool::new(false),
-            second: AtomicBool::new(false),
-            given_up: AtomicBool::new(false),
+impl Meeting {
+    // Waits so long, at most, for another look; false where there never was one.
+    fn waits(&self) -> bool {
+        for _ in 0..200_000_000u32 {
+            if self.looks.load(SeqCst) >= 2 {
+                return true;
+            }
         }
-    }
-
-    // Raises the one flag, and holds until the other is raised.
-    fn meets(&self, here: &AtomicBool, other: &AtomicBool) {
-        here.store(true, SeqCst);
-        if !is_raised(other) {
-            self.given_up.store(true, SeqCst);
-        }
-    }
-
-    // Whether both numbers were looked for, and neither in vain.
-    fn has_met(&self) -> bool {
-        self.first.load(SeqCst) && self.second.load(SeqCst) && !self.given_up.load(SeqCst)
+        false
     }
 }
 
-// Looks so often, at most, whether the flag is raised; false where it never was.
-fn is_raised(flag: &AtomicBool) -> bool {
-    for _ in 0..200_000_000u32 {
-        if flag.load(SeqCst) {
-            return true;
-        }
-    }
-    false
-}
+impl Finder for Meeting {
+    ghost use Rattle.candidate_table.specs.Table.{numbers_of};
 
-impl<F: Finder> Finder for Meeting<F> {
-    ghost numbers = { λ meeting. F.numbers meeting.numbers };
+    ghost numbers = { λ meeting. numbers_of meeting.codes.numbers };
 
     fn count(&self) -> u32 {
-        self.numbers.count()
+        self.codes.count()
     }
 
     fn number_at(&self, index: u32) -> u64 {
-        self.numbers.number_at(index)
+        self.codes.number_at(index)
     }
 
     fn find(&self, number: u64) -> Option<u32> {
-        if number == self.both[0] {
-            self.meets(&self.first, &self.second);
+        let _ = self.looks.fetch_add(1, SeqCst);
+        if !self.waits() {
+            self.given_up.store(true, SeqCst);
         }
-        if number == self.both[1] {
-            self.meets(&self.second, &self.first);
-        }
-        self.numbers.find(number)
+        self.codes.find(number)
     }
 }
 
 #[test]
 fn parts_are_read_side_by_side(rt: HostRuntime) -> Result<(), Fail> {
-    let codes = codes(&rt, rt.alloc())?;
-    let meeting = Meeting::new(codes, [101, 202]);
+    let meeting = Meeting {
+        codes: codes(&rt, rt.alloc())?,
+        looks: AtomicU32::new(0),
+        given_up: AtomicBool::new(false),
+    };
     let bytes = b"candidate,list\n1,101\n2,202\n";
     let table = CandidateTable::read(&rt, rt.alloc(), bytes, 3, &meeting)?;
-    if table.count() != 2 || !meeting.has_met() {
+    let has_met = meeting.looks.load(SeqCst) == 2 && !meeting.given_up.load(SeqCst);
+    if table.count() != 2 || !has_met {
         return Err(Fail::new("the parts did not meet"));
     }
     Ok(())

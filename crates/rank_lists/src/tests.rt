@@ -181,30 +181,16 @@ fn tell_fault<R: Threads + Sync>(
     Ok(())
 }
 
-// Numbers of which two are looked for side by side: who looks for one of them is held until the
-// other is looked for too.
+// The candidates 1, 2 and 3. Who looks for 1 or 2 is held until the other is looked for too.
 #[derive(Drop)]
-struct Meeting<F: Finder> {
-    numbers: F,
-    // The two numbers, and whether each was looked for.
-    both: [u64; 2],
+struct Meeting {
     first: AtomicBool,
     second: AtomicBool,
-    // Whether one was held until the last look.
+    // Whether one was held until the end.
     given_up: AtomicBool,
 }
 
-impl<F: Finder> Meeting<F> {
-    fn new(numbers: F, both: [u64; 2]) -> Meeting<F> {
-        Meeting {
-            numbers,
-            both,
-            first: AtomicBool::new(false),
-            second: AtomicBool::new(false),
-            given_up: AtomicBool::new(false),
-        }
-    }
-
+impl Meeting {
     // Raises the one flag, and holds until the other is raised.
     fn meets(&self, here: &AtomicBool, other: &AtomicBool) {
         here.store(true, SeqCst);
@@ -213,7 +199,7 @@ impl<F: Finder> Meeting<F> {
         }
     }
 
-    // Whether both numbers were looked for, and neither in vain.
+    // Whether both were looked for, and neither was held until the end.
     fn has_met(&self) -> bool {
         self.first.load(SeqCst) && self.second.load(SeqCst) && !self.given_up.load(SeqCst)
     }
@@ -229,32 +215,35 @@ fn is_raised(flag: &AtomicBool) -> bool {
     false
 }
 
-impl<F: Finder> Finder for Meeting<F> {
-    ghost numbers = { λ meeting. F.numbers meeting.numbers };
+impl Finder for Meeting {
+    ghost numbers = { λ _. 1 ∷ 2 ∷ 3 ∷ [] };
 
     fn count(&self) -> u32 {
-        self.numbers.count()
+        Candidates.count()
     }
 
     fn number_at(&self, index: u32) -> u64 {
-        self.numbers.number_at(index)
+        Candidates.number_at(index)
     }
 
     fn find(&self, number: u64) -> Option<u32> {
-        if number == self.both[0] {
-            self.meets(&self.first, &self.second);
+        match number {
+            1 => self.meets(&self.first, &self.second),
+            2 => self.meets(&self.second, &self.first),
+            _ => {}
         }
-        if number == self.both[1] {
-            self.meets(&self.second, &self.first);
-        }
-        self.numbers.find(number)
+        Candidates.find(number)
     }
 }
 
 #[test]
 fn parts_are_read_side_by_side(rt: HostRuntime) -> Result<(), Fail> {
     let say = OneType(TypeName::new(b"SAY").ok_or("a name")?);
-    let meeting = Meeting::new(Candidates, [1, 2]);
+    let meeting = Meeting {
+        first: AtomicBool::new(false),
+        second: AtomicBool::new(false),
+        given_up: AtomicBool::new(false),
+    };
     let bytes = b"candidate,type,rank\n1,SAY,8\n2,SAY,9\n";
     let lists = RankLists::read(&rt, rt.alloc(), bytes, 3, &say, &meeting)?;
     if lists.into_parts().orders.len() != 1 || !meeting.has_met() {
