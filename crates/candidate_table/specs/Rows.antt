@@ -42,7 +42,9 @@ codes_read (entry ∷ entries) = with_first (number_of entry 1 LARGEST_CODE) (co
 -- the codes of a list of at most 24 entries, or what is wrong with the list
 abbrev pub list_of : List ℕ → Result (List ℕ) FaultKind
 list_of field =
-    if nat_lt MOST_ENTRIES (length (entries_of field)) then Err ListTooLong else codes_read (entries_of field)
+    if nat_lt MOST_ENTRIES (length (entries_of field))
+    then Err ListTooLong
+    else codes_read (entries_of field)
 
 -- what is wrong with the fields of a row by themselves
 abbrev pub reading : Row → Option FileFault
@@ -53,7 +55,8 @@ reading row =
 -- a code of a list of this line that is none of the programmes'
 abbrev pub unknown_fault : List ℕ → ℕ → ℕ → Option FileFault
 unknown_fault programmes line code =
-    fault_if (is_none (position (nat_eq code) programmes)) (fault_at Candidates line 2 UnknownProgramme)
+    fault_if (is_none (position (nat_eq code) programmes))
+    (fault_at Candidates line 2 UnknownProgramme)
 
 -- a code of a list of this line that stands among those before it
 abbrev pub again_fault : ℕ → List ℕ → ℕ → Option FileFault

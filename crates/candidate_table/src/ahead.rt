@@ -10,12 +10,14 @@ use place_base::{CandidateNo, FileFault, FileKind, Finder};
 use record_files::{FileForm, Header, RecordRow};
 use std::alloc::{AllocError, Global};
 
-/// The line of a row, the candidate's number, and the preference list as indexes of programmes or
-/// what is wrong with it.
+/// A candidate read beside the programmes, and not yet beside the candidates before.
 #[derive(Drop)]
 pub struct Candidate {
+    /// The row's line.
     pub line: u32,
+    /// The candidate's number.
     pub number: CandidateNo,
+    /// The preference list as indexes of programmes, or what is wrong with it.
     pub list: Result<List, FileFault>,
 }
 

@@ -37,8 +37,8 @@ impl Model for CandidateTable {
 }
 
 impl CandidateTable {
-    /// The table of a file of at most 2^30 bytes beside the programmes' codes; `Fault` exactly where
-    /// the file has a first fault, and then it carries it.
+    /// The table of a file of at most 2^30 bytes beside the programmes' codes; `Fault` exactly
+    /// where the file has a first fault, and then it carries it.
     ///
     /// `pieces` is the number of parts, 1 to 64, in which the file is read side by side. The result
     /// does not depend on it. After a refusal there is no table.

@@ -8,6 +8,8 @@ use place_base::FaultKind::{
 use place_base::{FileFault, FileKind, Finder};
 use record_files::{TableStop, duplicate_at};
 use std::alloc::Global;
+use std::sync::atomic::Ordering::SeqCst;
+use std::sync::atomic::{AtomicBool, AtomicU32};
 use std::test::Fail;
 use std::thread::Threads;
 
@@ -153,6 +155,65 @@ fn tell_fault<R: Threads + Sync>(
         if read.err() != Some(TableStop::Fault(wanted)) {
             return Err(Fail::new("another fault"));
         }
+    }
+    Ok(())
+}
+
+// The codes of a table. Who looks for one is held until another look is begun.
+#[derive(Drop)]
+struct Meeting {
+    codes: CandidateTable,
+    looks: AtomicU32,
+    // Whether one was held until the end.
+    given_up: AtomicBool,
+}
+
+impl Meeting {
+    // Waits so long, at most, for another look; false where there never was one.
+    fn waits(&self) -> bool {
+        for _ in 0..200_000_000u32 {
+            if self.looks.load(SeqCst) >= 2 {
+                return true;
+            }
+        }
+        false
+    }
+}
+
+impl Finder for Meeting {
+    ghost use Rattle.candidate_table.specs.Table.{numbers_of};
+
+    ghost numbers = { λ meeting. numbers_of meeting.codes.numbers };
+
+    fn count(&self) -> u32 {
+        self.codes.count()
+    }
+
+    fn number_at(&self, index: u32) -> u64 {
+        self.codes.number_at(index)
+    }
+
+    fn find(&self, number: u64) -> Option<u32> {
+        let _ = self.looks.fetch_add(1, SeqCst);
+        if !self.waits() {
+            self.given_up.store(true, SeqCst);
+        }
+        self.codes.find(number)
+    }
+}
+
+#[test]
+fn parts_are_read_side_by_side(rt: HostRuntime) -> Result<(), Fail> {
+    let meeting = Meeting {
+        codes: codes(&rt, rt.alloc())?,
+        looks: AtomicU32::new(0),
+        given_up: AtomicBool::new(false),
+    };
+    let bytes = b"candidate,list\n1,101\n2,202\n";
+    let table = CandidateTable::read(&rt, rt.alloc(), bytes, 3, &meeting)?;
+    let has_met = meeting.looks.load(SeqCst) == 2 && !meeting.given_up.load(SeqCst);
+    if table.count() != 2 || !has_met {
+        return Err(Fail::new("the parts did not meet"));
     }
     Ok(())
 }

@@ -65,7 +65,8 @@ module _ {A T : Type 0} (rules : FileRules) (keeps : Row → A → Type 0) (has 
     -- what adding a row comes to
     abbrev pub Takes : T → A → T → Option FileFault → Type 0
     Takes table one new found = (before : List Row) (row : Row) → has before table → keeps row one
-        → IsRowTaken (rules.meaning before row) (has before new) (has (before ++ row ∷ []) new) found
+        → IsRowTaken (rules.meaning before row) (has before new)
+        (has (before ++ row ∷ []) new) found
 
     module _ (earlier rows : List Row) (table new : T) (one : A) (left : List A) where
       pub AddsTo-next : AddsTo earlier rows table (one ∷ left) → Takes table one new None
@@ -163,7 +164,8 @@ module _ {A T : Type 0} (rules : FileRules) (keeps : Row → A → Type 0) (has 
       JoinsParts-next p takes = by p.lists p.behind p.kept
         where
           by : (lists : List (List Row)) → all ≡ p.done ++ flat_map (λ rows. rows) lists
-              → AllZip (λ rows (part : AheadRows A). AllZip keeps rows part.rows.items) lists (part ∷ left)
+              → AllZip (λ rows (part : AheadRows A). AllZip keeps rows part.rows.items) lists
+              (part ∷ left)
               → JoinsParts all new left
           by [] behind kept = absurd kept
           by (rows ∷ lists) behind kept =
@@ -182,7 +184,8 @@ module _ {A T : Type 0} (rules : FileRules) (keeps : Row → A → Type 0) (has 
       JoinsParts-stops f p takes = by p.lists p.behind p.kept
         where
           by : (lists : List (List Row)) → all ≡ p.done ++ flat_map (λ rows. rows) lists
-              → AllZip (λ rows (part : AheadRows A). AllZip keeps rows part.rows.items) lists (part ∷ left)
+              → AllZip (λ rows (part : AheadRows A). AllZip keeps rows part.rows.items) lists
+              (part ∷ left)
               → meanings rules [] all ≡ Some f
           by [] behind kept = absurd kept
           by (rows ∷ lists) behind kept =
@@ -195,13 +198,15 @@ module _ {A T : Type 0} (rules : FileRules) (keeps : Row → A → Type 0) (has 
               ∙ rw (told.0) refl
 
       -- the part's rows, and that they stand below the limit
-      pub JoinsParts-below : (most : ℕ) → length all ≤ most → (p : JoinsParts all table (part ∷ left))
+      pub JoinsParts-below : (most : ℕ) → length all ≤ most
+          → (p : JoinsParts all table (part ∷ left))
           → (more : List Row) × AllZip keeps more part.rows.items
           × (length p.done + length more ≤ most)
       JoinsParts-below most few p = by p.lists p.behind p.kept
         where
           by : (lists : List (List Row)) → all ≡ p.done ++ flat_map (λ rows. rows) lists
-              → AllZip (λ rows (part : AheadRows A). AllZip keeps rows part.rows.items) lists (part ∷ left)
+              → AllZip (λ rows (part : AheadRows A). AllZip keeps rows part.rows.items) lists
+              (part ∷ left)
               → (more : List Row) × AllZip keeps more part.rows.items
               × (length p.done + length more ≤ most)
           by [] behind kept = absurd kept

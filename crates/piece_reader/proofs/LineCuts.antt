@@ -1,5 +1,5 @@
--- Cutting a file behind an LF cuts its rows: the rows up to the cut, and the rows of the rest counted
--- from its line, are the rows of the whole.
+-- Cutting a file behind an LF cuts its rows: the rows up to the cut, and the rows of the rest
+-- counted from its line, are the rows of the whole.
 use Rattle.std.proofs.Common.{◌≡◌, ℕ, suc, ◌+◌, Bool, true, false, cond, List, [], ◌∷◌, ◌++◌, length, refl, sym, ap, ◌∙◌, arith, ◌==◌, if◌then◌else◌, nat_eq, ◌&&◌}
 use Rattle.std.proofs.lemmas.Bool.Decides.{nat_tests}
 use Rattle.std.proofs.lemmas.List.{append-nil}
@@ -39,7 +39,8 @@ split-behind_lf [] back = refl
 split-behind_lf (b ∷ front) back =
     let later = split-behind_lf front back in
     elim (b == LF) as
-    (λ t. (if t then [] ∷ split LF (front ++ LF ∷ back) else onto_first b (split LF (front ++ LF ∷ back)))
+    (λ t. (if t then [] ∷ split LF (front ++ LF ∷ back)
+    else onto_first b (split LF (front ++ LF ∷ back)))
     ≡ (if t then [] ∷ split LF front else onto_first b (split LF front)) ++ split LF back) [
       | true ↦ ap (λ pieces. [] ∷ pieces) later
       | false ↦ ap (onto_first b) later
@@ -87,7 +88,8 @@ length-split (b ∷ bs) =
 -- the rows of bytes that end with an LF, and the rows behind it counted on
 pub numbered-behind_lf : (line : ℕ) (front back : List ℕ)
     → numbered line (split LF (front ++ LF ∷ back))
-    ≡ numbered line (split LF (front ++ LF ∷ [])) ++ numbered (line + 1 + line_ends front) (split LF back)
+    ≡ numbered line (split LF (front ++ LF ∷ []))
+    ++ numbered (line + 1 + line_ends front) (split LF back)
 numbered-behind_lf line front back =
     let whole = ap (numbered line) (split-behind_lf front back)
     ∙ numbered-append line (split LF front) (split LF back) in
@@ -105,7 +107,8 @@ pub record IsUnmarked (front : List ℕ) : Type 0 where
   pub dropped : (back : List ℕ) → without_mark (front ++ LF ∷ back) ≡ left ++ LF ∷ back
   pub same : line_ends left ≡ line_ends front
 
-unmarked-as_is : (front : List ℕ) → ((back : List ℕ) → without_mark (front ++ LF ∷ back) ≡ front ++ LF ∷ back)
+unmarked-as_is : (front : List ℕ)
+    → ((back : List ℕ) → without_mark (front ++ LF ∷ back) ≡ front ++ LF ∷ back)
     → IsUnmarked front
 unmarked-as_is front h = record { left = front; dropped = h; same = refl }
 

@@ -1,5 +1,5 @@
--- The first line start from a place on: the formula gives it, and later places do not give an earlier
--- one.
+-- The first line start from a place on: the formula gives it, and later places do not give an
+-- earlier one.
 use Rattle.std.proofs.Common.{◌≡◌, ◌≢◌, ◌⊎◌, ℕ, zero, suc, ◌+◌, ◌-◌, ◌*◌, ◌/◌, ◌<◌, ◌≤◌, Bool, true, false, List, [], ◌∷◌, length, drop, get_or, refl, sym, ap, ◌∙◌, arith, ◌==◌, ⊎_elim, inl, inr, subst, if◌then◌else◌, length-drop}
 use Rattle.std.proofs.lemmas.Bool.{cases_lt}
 use Rattle.std.proofs.lemmas.Bool.Decides.{nat_tests}
@@ -26,7 +26,8 @@ first_line-is [] = record {
 first_line-is (byte ∷ bytes) = by (byte == LF) refl (first_line-is bytes)
   where
     longer : IsFirstLine bytes (first_line bytes)
-        → ((0 < suc (first_line bytes)) × (get_or (byte ∷ bytes) (suc (first_line bytes) - 1) 0 ≡ LF))
+        → ((0 < suc (first_line bytes))
+        × (get_or (byte ∷ bytes) (suc (first_line bytes) - 1) 0 ≡ LF))
         ⊎ (suc (first_line bytes) ≡ suc (length bytes))
     longer f = ⊎_elim
         (λ (here : (0 < first_line bytes) × (get_or bytes (first_line bytes - 1) 0 ≡ LF)).
@@ -189,7 +190,8 @@ module _ (bytes : List ℕ) (pieces : ℕ) (some : 0 < pieces) where
       (λ (high : k + 1 < pieces).
       IsLineStart-rises bytes (k * length bytes / pieces) ((k + 1) * length bytes / pieces)
       (cut_of bytes pieces k) (cut_of bytes pieces (k + 1)) (share-rises k)
-      (AreCuts-cut_of.between k low (omega arith)) (AreCuts-cut_of.between (k + 1) (omega arith) high))
+      (AreCuts-cut_of.between k low (omega arith))
+      (AreCuts-cut_of.between (k + 1) (omega arith) high))
       (λ (past : pieces ≤ k + 1). let last : pieces ≡ k + 1 = omega arith in
       subst (λ n. cut_of bytes pieces k ≤ cut_of bytes pieces n) last
       (omega (arith, cut_of-last, cut_of-inside k (omega arith))))

@@ -86,7 +86,8 @@ module _ (bytes : List ℕ) where
       (λ (first : start ≡ 0).
       let e : 0 ≡ start = sym first in
       let to_end : end ≡ end - 0 = omega arith in
-      subst (λ n. rows_to bytes end ≡ rows_to bytes n ++ part_rows bytes (part_between bytes n end)) e
+      subst (λ n. rows_to bytes end
+      ≡ rows_to bytes n ++ part_rows bytes (part_between bytes n end)) e
       (ap (λ n. rows (take n bytes)) to_end))
       (λ (later : FollowsLf bytes start ⊎ (start ≡ length bytes)). ⊎_elim
       (λ (lf : FollowsLf bytes start). part-behind_lf start end lf le inside)
@@ -121,20 +122,25 @@ module _ (bytes : List ℕ) where
         inr ((AreCuts-cut_of bytes pieces some).between (suc k) (omega arith) lt).follows
 
     part-rows-if : (k : ℕ) (t : Bool) → is_full (part_at pieces k) ≡ t
-        → flat_map (part_rows bytes) (cond t (part_at pieces k ∷ []) []) ≡ part_rows bytes (part_at pieces k)
+        → flat_map (part_rows bytes) (cond t (part_at pieces k ∷ []) [])
+        ≡ part_rows bytes (part_at pieces k)
     part-rows-if k true e = append-nil (part_rows bytes (part_at pieces k))
-    part-rows-if k false e = sym (part-none bytes (at pieces k) (at pieces (k + 1)) (ltb-false _ _ e))
+    part-rows-if k false e =
+        sym (part-none bytes (at pieces k) (at pieces (k + 1)) (ltb-false _ _ e))
 
-    rows-to : (k : ℕ) → k ≤ pieces → flat_map (part_rows bytes) (full_to pieces k) ≡ rows_to bytes (at pieces k)
+    rows-to : (k : ℕ) → k ≤ pieces
+        → flat_map (part_rows bytes) (full_to pieces k) ≡ rows_to bytes (at pieces k)
     rows-to zero le = refl
     rows-to (suc k) le =
         let next : suc k ≡ k + 1 = omega arith in
         let lt : k < pieces = omega arith in
         ap (λ n. flat_map (part_rows bytes) (full_to pieces n)) next
         ∙ ap (flat_map (part_rows bytes)) (full_to-next pieces k)
-        ∙ flat_map-append (part_rows bytes) (full_to pieces k) (cond (is_full (part_at pieces k)) (part_at pieces k ∷ []) [])
+        ∙ flat_map-append (part_rows bytes) (full_to pieces k)
+        (cond (is_full (part_at pieces k)) (part_at pieces k ∷ []) [])
         ∙ (λ j. rows-to k (omega arith) j ++ part-rows-if k (is_full (part_at pieces k)) refl j)
-        ∙ sym (part-next (at pieces k) (at pieces (k + 1)) (cut-place k lt) (cut_of-rises bytes pieces some k lt)
+        ∙ sym (part-next (at pieces k) (at pieces (k + 1)) (cut-place k lt)
+        (cut_of-rises bytes pieces some k lt)
         (cut_of-inside bytes pieces some (k + 1) (omega arith)))
         ∙ ap (λ n. rows_to bytes (at pieces n)) (sym next)
 
@@ -155,12 +161,14 @@ module _ (bytes : List ℕ) where
     push-if : (k : ℕ) (t : Bool) → is_full (part_at pieces k) ≡ t → k < pieces
         → All (IsPartOf bytes) (full_to pieces k)
         → All (IsPartOf bytes) (full_to pieces k ++ cond t (part_at pieces k ∷ []) [])
-    push-if k true e lt all = All-push (IsPartOf bytes) (full_to pieces k) (part_at pieces k) all (record {
-      some = ltb-true _ _ e;
-      inside = cut_of-inside bytes pieces some (k + 1) (omega arith);
-      line = line-inside (at pieces k);
-    })
-    push-if k false e lt all = subst (All (IsPartOf bytes)) (sym (append-nil (full_to pieces k))) all
+    push-if k true e lt all =
+        All-push (IsPartOf bytes) (full_to pieces k) (part_at pieces k) all (record {
+          some = ltb-true _ _ e;
+          inside = cut_of-inside bytes pieces some (k + 1) (omega arith);
+          line = line-inside (at pieces k);
+        })
+    push-if k false e lt all =
+        subst (All (IsPartOf bytes)) (sym (append-nil (full_to pieces k))) all
 
     each-to : (k : ℕ) → k ≤ pieces → All (IsPartOf bytes) (full_to pieces k)
     each-to zero le = All-nil (IsPartOf bytes)
@@ -184,12 +192,15 @@ module _ (bytes : List ℕ) where
 
     -- the line of the next part
     pub line-next : (k : ℕ) → k < pieces
-        → 1 + line_ends (take (at pieces k) bytes) + line_ends (slice_range bytes (at pieces k) (at pieces (k + 1)))
+        → 1 + line_ends (take (at pieces k) bytes)
+        + line_ends (slice_range bytes (at pieces k) (at pieces (k + 1)))
         ≡ 1 + line_ends (take (at pieces (k + 1)) bytes)
     line-next k lt =
         let both : line_ends (take (at pieces (k + 1)) bytes)
-        ≡ line_ends (take (at pieces k) bytes) + line_ends (slice_range bytes (at pieces k) (at pieces (k + 1))) =
-        ap line_ends (take-between bytes (at pieces k) (at pieces (k + 1)) (cut_of-rises bytes pieces some k lt))
+        ≡ line_ends (take (at pieces k) bytes)
+        + line_ends (slice_range bytes (at pieces k) (at pieces (k + 1))) =
+        ap line_ends
+        (take-between bytes (at pieces k) (at pieces (k + 1)) (cut_of-rises bytes pieces some k lt))
         ∙ sum_by-append (λ byte. cond (byte == LF) 1 0) (take (at pieces k) bytes)
         (slice_range bytes (at pieces k) (at pieces (k + 1))) in
         omega arith

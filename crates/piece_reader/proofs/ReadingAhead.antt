@@ -1,19 +1,24 @@
--- Reading the rows of a part into its table, one after the other; and the tables of all parts, one
--- after the other.
-use Rattle.std.proofs.Common.{◌≡◌, ◌==◌, ℕ, zero, suc, ◌+◌, ◌<◌, ◌≤◌, false, drop, if◌then◌else◌, List, [], ◌∷◌, ◌++◌, All, IfSome, Ok, None, Option, Result, Some, length, get_or, refl, sym, ap, ◌∙◌, arith, append_assoc, subst, length-append}
+-- What is known of a part whose rows have no fault; and the tables of all parts, one after the
+-- other.
+use Rattle.std.proofs.Common.{◌≡◌, ◌==◌, ℕ, zero, suc, ◌+◌, ◌<◌, ◌≤◌, false, drop, if◌then◌else◌, List, [], ◌∷◌, ◌++◌, All, IfSome, Ok, None, Option, Result, Some, length, get_or, refl, sym, ap, ◌∙◌, arith, append_assoc, subst, take, length-append}
 use Rattle.std.specs.List.{AllZip, flat_map}
+use Rattle.std.specs.Prelude.{option_and_then}
 use Rattle.std.proofs.lemmas.Bool.Decides.{nat_tests}
 use Rattle.std.proofs.lemmas.Grind.{flat_map-append}
 use Rattle.std.proofs.lemmas.List.{append-nil, get_or-map, length-map}
-use Rattle.std.proofs.lemmas.List.Elements.{All-append, All-nil, All-push}
-use Rattle.record_files.specs.FirstFaults.{FileRules, first_row_fault}
+use Rattle.std.proofs.lemmas.List.Elements.{All-append, All-nil}
+use Rattle.std.proofs.lemmas.Option.{slice_get-get_or}
+use Rattle.record_files.specs.FirstFaults.{FileRules, fault_behind, fault_in, first_row_fault, least_fault}
 use Rattle.record_files.specs.Form.{header_in}
+use Rattle.record_files.specs.ReadTo.{AreTaken}
 use Rattle.record_files.specs.Rows.{Row, data_rows, part_rows, rows}
 use Rattle.record_files.specs.declared.form.Header.{Header}
+use Rattle.record_files.specs.declared.reading.RowsRead.{RowsRead}
 use Rattle.record_files.specs.declared.rows.RowPart.{RowPart}
+use Rattle.record_files.proofs.FirstFaultLemmas.{AreTaken-whole, least_fault-each}
 use Rattle.piece_reader.specs.Ahead.{ArePartsRead, AreRead, AreTablesOf, IsClean, IsPartRead}
 use Rattle.piece_reader.specs.Header.{BeginsWithRow, data_lists}
-use Rattle.piece_reader.specs.declared.ahead.PartRead.{PartRead}
+use Rattle.piece_reader.proofs.CleanParts.{IsClean-from}
 use Rattle.piece_reader.proofs.DataRows.{data_rows-of_lists}
 
 -- one more at the end of two lists
@@ -38,44 +43,24 @@ AllZip-each R (x ∷ xs) (y ∷ ys) same each = (
 )
 
 module _ {G : Type 0} (rules : FileRules) (header : Header) (HasRows : List Row → G → Type 0) where
-  -- of all rows the first are in the table, and they are clean
-  pub record ReadsTo (all : List Row) (table : G) (count : ℕ) (left : List Row) : Type 0 where
-    pub said : List Row
-    pub has : HasRows said table
-    pub clean : All (IsClean rules header) said
-    pub size : count ≡ length said
-    pub behind : all ≡ said ++ left
-
-  pub ReadsTo-begin : (all : List Row) (table : G) → HasRows [] table → ReadsTo all table 0 all
-  ReadsTo-begin all table has =
-      record { said = []; has = has; clean = All-nil _; size = refl; behind = refl }
-
-  pub ReadsTo-next : (all : List Row) (table new : G) (count : ℕ) (row : Row) (left : List Row)
-      (r : ReadsTo all table count (row ∷ left)) → IsClean rules header row
-      → HasRows (r.said ++ row ∷ []) new → ReadsTo all new (count + 1) left
-  ReadsTo-next all table new count row left r clean has =
-      let more = length-append r.said (row ∷ []) in
-      let size = r.size in
+  -- the rows of a part, where no fault of them was told
+  pub IsPartRead-from : (all : List Row) (read : RowsRead G) → read.fault ≡ None
+      → AreTaken rules None header HasRows all read → IsPartRead rules header HasRows all read
+  IsPartRead-from all read none taken =
+      let count = taken.whole none in
+      let least = subst (λ n. least_fault (fault_in rules header all) n ≡ None) count taken.none in
       record {
-        said = r.said ++ row ∷ [];
-        has = has;
-        clean = All-push (IsClean rules header) r.said row r.clean clean;
-        size = omega arith;
-        behind = r.behind ∙ sym (append_assoc r.said (row ∷ []) left);
-      }
-
-  pub ReadsTo-ends : (all : List Row) (table : G) (count : ℕ) → ReadsTo all table count []
-      → IsPartRead rules header HasRows all (record { table = table; count = count })
-  ReadsTo-ends all table count r =
-      let whole : r.said ≡ all = sym (append-nil r.said) ∙ sym r.behind in
-      record {
-        has = subst (λ rows. HasRows rows table) whole r.has;
-        clean = subst (All (IsClean rules header)) whole r.clean;
-        count = r.size ∙ ap length whole;
+        has = AreTaken-whole rules header HasRows all None read taken none;
+        clean = λ k d below. IsClean-from rules header (take k all) (get_or all k d)
+            (sym (ap (option_and_then (fault_behind rules header (take k all)))
+            (slice_get-get_or all k d below))
+            ∙ least_fault-each _ (length all) least k below);
+        count = count;
       }
 
   -- the rows of the first parts are in these tables, so many
-  pub record JoinsTo (lists : List (List Row)) (tables : List G) (count : ℕ) (left : List (List Row))
+  pub record JoinsTo (lists : List (List Row)) (tables : List G) (count : ℕ)
+      (left : List (List Row))
       : Type 0 where
     pub done : List (List Row)
     pub each : AllZip HasRows done tables
@@ -88,11 +73,12 @@ module _ {G : Type 0} (rules : FileRules) (header : Header) (HasRows : List Row 
       record { done = []; each = tt; clean = All-nil _; size = refl; behind = refl }
 
   pub JoinsTo-next : (lists : List (List Row)) (tables : List G) (count : ℕ) (rows : List Row)
-      (left : List (List Row)) (read : PartRead G) → JoinsTo lists tables count (rows ∷ left)
+      (left : List (List Row)) (read : RowsRead G) → JoinsTo lists tables count (rows ∷ left)
       → IsPartRead rules header HasRows rows read
       → JoinsTo lists (tables ++ read.table ∷ []) (count + read.count) left
   JoinsTo-next lists tables count rows left read j is =
-      let whole : flat_map (λ rows. rows) (j.done ++ rows ∷ []) ≡ flat_map (λ rows. rows) j.done ++ rows =
+      let whole : flat_map (λ rows. rows) (j.done ++ rows ∷ [])
+      ≡ flat_map (λ rows. rows) j.done ++ rows =
       flat_map-append (λ (rows : List Row). rows) j.done (rows ∷ [])
       ∙ ap (λ more. flat_map (λ rows. rows) j.done ++ more) (append-nil rows) in
       let sizes = length-append (flat_map (λ (rows : List Row). rows) j.done) rows in
@@ -102,7 +88,8 @@ module _ {G : Type 0} (rules : FileRules) (header : Header) (HasRows : List Row 
         done = j.done ++ rows ∷ [];
         each = AllZip-more HasRows j.done tables rows read.table j.each is.has;
         clean = subst (All (IsClean rules header)) (sym whole)
-            (All-append (IsClean rules header) (flat_map (λ rows. rows) j.done) rows j.clean is.clean);
+            (All-append (IsClean rules header) (flat_map (λ rows. rows) j.done) rows
+            j.clean is.clean);
         size = omega (arith, ap length whole);
         behind = j.behind ∙ sym (append_assoc j.done (rows ∷ []) left);
       }
@@ -114,19 +101,24 @@ module _ {G : Type 0} (rules : FileRules) (header : Header) (HasRows : List Row 
       let whole : j.done ≡ lists = sym (append-nil j.done) ∙ sym j.behind in
       record {
         each = subst (λ all. AllZip HasRows all tables) whole j.each;
-        clean = subst (λ all. All (IsClean rules header) (flat_map (λ rows. rows) all)) whole j.clean;
-        few = omega (arith, j.size, ap (λ all. length (flat_map (λ (rows : List Row). rows) all)) whole);
+        clean =
+            subst (λ all. All (IsClean rules header) (flat_map (λ rows. rows) all)) whole j.clean;
+        few = omega (
+          arith,
+          j.size,
+          ap (λ all. length (flat_map (λ (rows : List Row). rows) all)) whole,
+        );
       }
 
   -- the parts left are those of the lists left
   pub record PartsLeft {E : Type 0} (lists : List (List Row)) (tables : List G) (count : ℕ)
-      (parts : List (Result (Option (PartRead G)) E)) : Type 0 where
+      (parts : List (Result (Option (RowsRead G)) E)) : Type 0 where
     pub left : List (List Row)
     pub read : ArePartsRead rules header HasRows left parts
     pub joins : JoinsTo lists tables count left
 
   pub PartsLeft-next : {E : Type 0} (lists : List (List Row)) (tables : List G) (count : ℕ)
-      (read : PartRead G) (parts : List (Result (Option (PartRead G)) E))
+      (read : RowsRead G) (parts : List (Result (Option (RowsRead G)) E))
       → PartsLeft lists tables count (Ok (Some read) ∷ parts)
       → PartsLeft lists (tables ++ read.table ∷ []) (count + read.count) parts
   PartsLeft-next {E} lists tables count read parts p = by p.left p.read p.joins

@@ -5,7 +5,7 @@ use Rattle.record_files.specs.FirstFaults.{FileRules, first_row_fault, shape_fau
 use Rattle.record_files.specs.Form.{header_in}
 use Rattle.record_files.specs.Rows.{Row, data_rows, rows}
 use Rattle.record_files.specs.declared.form.Header.{Header}
-use Rattle.piece_reader.specs.declared.ahead.PartRead.{PartRead}
+use Rattle.record_files.specs.declared.reading.RowsRead.{RowsRead}
 
 -- nothing is wrong with a row by itself, wherever below the limit it stands
 pub record IsClean (rules : FileRules) (header : Header) (row : Row) : Type 0 where
@@ -14,7 +14,7 @@ pub record IsClean (rules : FileRules) (header : Header) (row : Row) : Type 0 wh
 
 -- these are the table and the number of rows that are clean
 pub record IsPartRead {G : Type 0} (rules : FileRules) (header : Header)
-    (HasRows : List Row → G → Type 0) (rows : List Row) (read : PartRead G) : Type 0 where
+    (HasRows : List Row → G → Type 0) (rows : List Row) (read : RowsRead G) : Type 0 where
   pub has : HasRows rows read.table
   pub clean : All (IsClean rules header) rows
   pub count : read.count ≡ length rows
@@ -32,7 +32,7 @@ pub record AreRead {G : Type 0} (rules : FileRules) (HasRows : List Row → G �
 
 -- each part was read, where memory was not refused and nothing in it is wrong by itself
 abbrev pub ArePartsRead : {G E : Type 0} → FileRules → Header → (List Row → G → Type 0)
-    → List (List Row) → List (Result (Option (PartRead G)) E) → Type 0
+    → List (List Row) → List (Result (Option (RowsRead G)) E) → Type 0
 ArePartsRead rules header HasRows lists parts =
     AllZip (λ rows part. IfOk part (λ read. IfSome read (IsPartRead rules header HasRows rows)))
     lists parts

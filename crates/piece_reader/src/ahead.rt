@@ -11,22 +11,15 @@ use crate::header::from_header;
 use crate::part_table::PartTable;
 use crate::pieces::read_pieces;
 use place_base::limits::{LARGEST_FILE, MOST_PIECES};
-use record_files::{FileForm, Header, RecordRow, Records, RowPart};
+use record_files::{Header, Records, RowPart, RowsRead, take_rows};
 use std::alloc::{AllocError, Global};
 use std::thread::{self, Threads};
 
-/// The table of the rows of a part, and how many they are.
-#[derive(Drop)]
-pub struct PartRead<G> {
-    pub table: G,
-    pub count: u32,
-}
-
 /// Reads the rows of each part of a file into a table of its own, side by side.
 ///
-/// Where tables are answered, the file has no fault that its header or a row shows by itself, and no
-/// row too many. `None` says nothing of the file: the caller then reads it row by row. It comes
-/// where such a fault was seen, or where a table told one of a row beside those of its part.
+/// Where tables are answered, the file has no fault that its header or a row shows by itself, and
+/// no row too many. `None` says nothing of the file: the caller then reads it row by row. It may
+/// come where such a fault was seen, or where a table told one of a row beside those of its part.
 pub fn read_parts<R: Threads + Sync, B: Sync, G: PartTable<B> + Send + Drop>(
     rt: &R,
     alloc: Global,
@@ -56,7 +49,7 @@ fn read_each<R: Threads + Sync, B: Sync, G: PartTable<B> + Send + Drop>(
     parts: &[RowPart],
     header: Header,
     beside: &B,
-) -> Result<Vec<Result<Option<PartRead<G>>, AllocError>>, AllocError>
+) -> Result<Vec<Result<Option<RowsRead<G>>, AllocError>>, AllocError>
     requires size { length bytes.now ≤ LARGEST_FILE }
     requires parts { All (IsPartOf bytes.now) parts.now }
     requires header { IsHeaderOf (G.rules beside.now).form header }
@@ -80,81 +73,39 @@ fn read_part<B, G: PartTable<B> + Drop>(
     first: bool,
     header: Header,
     beside: &B,
-) -> Result<Option<PartRead<G>>, AllocError>
+) -> Result<Option<RowsRead<G>>, AllocError>
     requires size { length bytes.now ≤ LARGEST_FILE }
     requires part { IsPartOf bytes.now part }
     requires header { IsHeaderOf (G.rules beside.now).form header }
     ensures { IfOk result (λ read. IfSome read (IsPartRead (G.rules beside.now) header
         (G.has_rows beside.now) (drop (if first then 1 else 0) (part_rows bytes.now part)))) }
 {
+    let records = data_records(bytes, part, first);
+    let table = G::empty(alloc, beside)?;
+    let read = take_rows(alloc, records, header, beside, table)?;
+    match read.fault {
+        None => Ok(Some(read)),
+        Some(_fault) => Ok(None),
+    }
+}
+
+// The rows of a part, without its first where that is the header.
+fn data_records(bytes: &[u8], part: RowPart, first: bool) -> Records<'_>
+    requires size { length bytes.now ≤ LARGEST_FILE }
+    requires part { IsPartOf bytes.now part }
+    ensures { result ≡ drop (if first then 1 else 0) (part_rows bytes.now part) }
+{
     let mut records = Records::of_part(bytes, part);
     if first {
         let _header = records.next();
     }
-    read_rows(alloc, records, header, beside)
-}
-
-// Reads rows, up to the first that is wrong by itself.
-fn read_rows<B, G: PartTable<B> + Drop>(
-    alloc: Global,
-    mut records: Records<'_>,
-    header: Header,
-    beside: &B,
-) -> Result<Option<PartRead<G>>, AllocError>
-    requires header { IsHeaderOf (G.rules beside.now).form header }
-    ensures { IfOk result (λ read. IfSome read (IsPartRead (G.rules beside.now) header
-        (G.has_rows beside.now) records.entry)) }
-{
-    let form = G::form(beside);
-    let mut table = G::empty(alloc, beside)?;
-    let mut count = 0;
-    'rows: while let Some(row) = records.next() {
-        if !read_row(alloc, &form, header, count, &row, beside, &mut table)? {
-            return Ok(None);
-        }
-        count += 1;
-    }
-    Ok(Some(PartRead { table, count }))
-}
-
-// Reads a row behind so many into the table, or answers false where it cannot.
-fn read_row<B, G: PartTable<B>>(
-    alloc: Global,
-    form: &FileForm,
-    header: Header,
-    count: u32,
-    row: &RecordRow<'_>,
-    beside: &B,
-    table: &mut G,
-) -> Result<bool, AllocError>
-    requires form { form.now ≡ (G.rules beside.now).form }
-    requires header { IsHeaderOf (G.rules beside.now).form header }
-    requires rows { (earlier : List Row) × G.has_rows beside.now earlier table.old
-        × (length earlier ≡ count) }
-    ensures clean { IfOk result (λ read. IsTrue read
-        → IsClean (G.rules beside.now) header row.now) }
-    ensures few { IfOk result (λ read. IsTrue read
-        → count < (G.rules beside.now).form.most_rows) }
-    ensures grown { IfOk result (λ read. IsTrue read → (earlier : List Row)
-        → G.has_rows beside.now earlier table.old
-        → G.has_rows beside.now (earlier ++ row.now ∷ []) table.new) }
-{
-    if form.shape_fault(header.fields, count, row).is_some() {
-        return Ok(false);
-    }
-    let Ok(fields) = G::read_fields(beside, header, row) else {
-        return Ok(false);
-    };
-    match table.take(alloc, beside, fields)? {
-        None => Ok(true),
-        Some(_fault) => Ok(false),
-    }
+    records
 }
 
 // The tables of all parts, where each was read and they hold no more rows than the file may have.
 fn whole<B, G: PartTable<B> + Drop>(
     alloc: Global,
-    parts: Vec<Result<Option<PartRead<G>>, AllocError>>,
+    parts: Vec<Result<Option<RowsRead<G>>, AllocError>>,
     beside: &B,
 ) -> Result<Option<Vec<G>>, AllocError>
     ensures { IfOk result (λ read. IfSome read (λ tables. (header : FileHeader)

@@ -56,6 +56,7 @@ pub trait AheadRow<B> {
 /// What is kept of the rows of a part, in order.
 #[derive(Drop)]
 pub struct AheadRows<A> {
+    /// One for each row.
     pub rows: Vec<A>,
 }
 

@@ -43,8 +43,11 @@ pub fn read_pieces<R: Threads + Sync>(
 /// What lies between two cuts, and how many lines end in it.
 #[derive(Clone, Copy)]
 pub struct Stretch {
+    /// The first cut.
     pub start: u32,
+    /// The next cut.
     pub end: u32,
+    /// How many LFs stand between them.
     pub lines: u32,
 }
 
@@ -112,7 +115,8 @@ fn parts_between(
 ) -> Result<Vec<RowPart>, AllocError>
     requires size { length bytes.now ≤ LARGEST_FILE }
     requires pieces { (1 ≤ pieces) × (pieces ≤ MOST_PIECES) }
-    requires stretches { stretches.now ≡ map (stretch_of bytes.now pieces) (range_with_len 0 pieces) }
+    requires stretches { stretches.now
+        ≡ map (stretch_of bytes.now pieces) (range_with_len 0 pieces) }
     ensures { IfOk result (λ parts.
         parts.items ≡ parts_of bytes.now pieces (cut_of bytes.now pieces)) }
 {

@@ -82,8 +82,8 @@ fn the_header_stands_behind_empty_lines(rt: HostRuntime) -> Result<(), Fail> {
 #[derive(Clone, Copy)]
 struct Line(u32);
 
-// How many rows were read. A file has at most three of them, and a row at line 9 is wrong: its fault
-// tells how many stand before it.
+// How many rows were read. A file has at most three of them, and a row at line 9 is wrong: its
+// fault tells how many stand before it.
 #[derive(Drop)]
 struct RowCount(u32);
 

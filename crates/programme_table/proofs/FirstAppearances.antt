@@ -27,7 +27,8 @@ any-others name found names apart =
     ∙ apart)) names
 
 -- a name found among later first appearances is found among all
-pub any-first : (name found : List ℕ) (names : List (List ℕ)) → list_any (bytes_eq found) names ≡ true
+pub any-first : (name found : List ℕ) (names : List (List ℕ))
+    → list_any (bytes_eq found) names ≡ true
     → list_any (bytes_eq found) (name ∷ others name names) ≡ true
 any-first name found names there = by (bytes_eq found name) refl
   where

@@ -1,5 +1,6 @@
 -- The table of the rows read grows as the rows do: a new row leaves the types of the earlier ones
--- where they are, and what is wrong with it beside the rows is what is wrong with it beside the table.
+-- where they are, and what is wrong with it beside the rows is what is wrong with it beside the
+-- table.
 use Rattle.std.proofs.Common.{nat_le, ◌≡◌, ◌≤◌, ◌<◌, ℕ, Bool, true, false, List, [], ◌∷◌, ◌++◌, map, length, length-append, refl, arith, sym, ap, ◌∙◌, Option, Some, None}
 use Rattle.std.specs.List.{list_any, AllByRecursion}
 use Rattle.std.specs.Option.{option_map}
@@ -28,8 +29,8 @@ use Rattle.programme_table.specs.declared.row.Fields.{Fields}
 abbrev IsTyped : List (List ℕ) → Row → Type 0
 IsTyped names row = list_any (bytes_eq (type_of row)) names ≡ true
 
-weaker : {X : Type 0} (P Q : X → Type 0) → ((x : X) → P x → Q x) → (xs : List X) → AllByRecursion P xs
-    → AllByRecursion Q xs
+weaker : {X : Type 0} (P Q : X → Type 0) → ((x : X) → P x → Q x) → (xs : List X)
+    → AllByRecursion P xs → AllByRecursion Q xs
 weaker P Q w [] all = tt
 weaker P Q w (x ∷ xs) all = (w x all.0, weaker P Q w xs all.1)
 
@@ -39,7 +40,8 @@ typed [] = tt
 typed (row ∷ rows) = (
   rw (nat_list_eq_equiv.refl (type_of row)) refl,
   weaker (IsTyped (types_of rows)) (IsTyped (types_of (row ∷ rows)))
-      (λ other there. any-first (type_of row) (type_of other) (types_of rows) there) rows (typed rows),
+      (λ other there. any-first (type_of row) (type_of other) (types_of rows) there) rows
+      (typed rows),
 )
 
 -- a type that is added leaves the programmes of the others as they were
@@ -121,7 +123,8 @@ pub clash-room : (table : Programmes) (fields : Fields) → clash table fields �
     → length (insert_key bytes_eq table.names fields.name) ≤ MOST_TYPES
 clash-room table fields none few =
     let new = clash-new table fields none in
-    let room : fault_if (is_full_for table fields.name) (fault_at programmes fields.line 2 OutOfRange)
+    let room : fault_if (is_full_for table fields.name)
+    (fault_at programmes fields.line 2 OutOfRange)
     ≡ None = rw new at none in
     by (is_full_for table fields.name) refl room (list_any (bytes_eq fields.name) table.names) refl
   where
@@ -134,7 +137,8 @@ clash-room table fields none few =
     by false full none false there =
         let room : nat_le MOST_TYPES (length table.names) ≡ false =
         sym (and-true (nat_le MOST_TYPES (length table.names))) ∙ (rw there at full) in
-        let below : length table.names < MOST_TYPES = leb-false MOST_TYPES (length table.names) room in
+        let below : length table.names < MOST_TYPES =
+        leb-false MOST_TYPES (length table.names) room in
         rw there (omega (arith, length-append {A = List ℕ}))
 
 -- a table with one more programme fits

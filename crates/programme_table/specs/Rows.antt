@@ -57,7 +57,8 @@ meaning earlier row =
 
 -- what may be wrong with a programmes file
 abbrev pub programmes_rules : FileRules
-programmes_rules = record { form = programmes_form; reading = λ version. reading; meaning = meaning }
+programmes_rules =
+    record { form = programmes_form; reading = λ version. reading; meaning = meaning }
 
 -- the first fault of a programmes file
 abbrev pub programmes_fault : List ℕ → Option FileFault

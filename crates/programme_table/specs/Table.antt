@@ -8,8 +8,8 @@ use Rattle.record_files.specs.Rows.{Row, data_rows}
 use Rattle.programme_table.specs.Rows.{code_of, type_of, quota_of, types_of}
 use Rattle.programme_table.specs.declared.row.ProgrammeRow.{ProgrammeRow}
 
--- the programmes in file order, the code of each with its line, and the names of their score types in
--- order of first appearance
+-- the programmes in file order, the code of each with its line, and the names of their score types
+-- in order of first appearance
 pub record Programmes : Type 0 where
   pub rows : List ProgrammeRow
   pub codes : List (ℕ × ℕ)

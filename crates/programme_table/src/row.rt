@@ -4,12 +4,16 @@ ghost use Rattle.place_base.specs.declared.limits.TheConstants.{LARGEST_QUOTA};
 
 use place_base::{ProgrammeCode, TypeName};
 
-/// The line of a row, and its code, name of a score type and quota.
+/// What a row of the file says, by itself.
 #[derive(Clone, Copy)]
 pub struct Fields {
+    /// The row's line.
     pub line: u32,
+    /// The programme's code.
     pub code: ProgrammeCode,
+    /// The name of its score type.
     pub name: TypeName,
+    /// How many seats it has.
     pub quota: u32,
     ghost limit: { quota ≤ LARGEST_QUOTA },
 }

@@ -76,7 +76,7 @@ module _ (names : List (List ℕ)) (numbers bytes : List ℕ) (few : length numb
       let size : length (take k body) ≤ k = omega (arith, length-take k body) in
       let shape : shape_fault ranks_form (header_in ranks_form (rows bytes)).fields
       (length (take k body)) (row_at body k) ≡ None =
-      shape-anywhere ranks_form (header_in ranks_form (rows bytes)).fields (length (take k body))
+      shape-anywhere ranks_form (header_in ranks_form (rows bytes)).fields 0 (length (take k body))
       (row_at body k) (omega arith) (clean-at k lt).shape in
       row_fault-at own_rules bytes k lt ∙ rw (shape, (clean-at k lt).reading) refl)
 
@@ -87,9 +87,11 @@ module _ (names : List (List ℕ)) (numbers bytes : List ℕ) (few : length numb
   turns-at : (kind : ℕ) → kind < length names → AreCleanTurns (map key_of (in_type kind all))
       (slice_index_or orders kind []) (slice_index_or ranks kind [])
   turns-at kind lt =
-      subst (λ keys. AreCleanTurns keys (slice_index_or orders kind []) (slice_index_or ranks kind []))
+      subst (λ keys. AreCleanTurns keys (slice_index_or orders kind [])
+      (slice_index_or ranks kind []))
       (keys-of_parts names numbers kind lt read.lists parts read.each
-      ∙ ap (λ (rows : List Row). map key_of (in_type kind (standings names numbers rows))) read.whole)
+      ∙ ap (λ (rows : List Row). map key_of (in_type kind (standings names numbers rows)))
+      read.whole)
       (turns.turns kind lt)
 
   known : All (λ row. IsSome (standing_in names numbers row)) body
@@ -112,7 +114,8 @@ module _ (names : List (List ℕ)) (numbers bytes : List ℕ) (few : length numb
   not-again : (group : Row → ℕ) → HasNoRepeat (map group body) (length body)
       → HasNoRepeat (map group (take (length body) body))
       (length (map group (take (length body) body)))
-  not-again group h = subst (λ all. HasNoRepeat (map group all) (length (map group all))) (sym whole)
+  not-again group h =
+      subst (λ all. HasNoRepeat (map group all) (length (map group all))) (sym whole)
       (subst (HasNoRepeat (map group body)) (sym (length-map body group)) h)
 
   -- the table of the file is that of the turns

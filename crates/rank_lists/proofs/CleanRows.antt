@@ -51,7 +51,8 @@ module _ (names : List (List ℕ)) (numbers : List ℕ) (f : Standing → ℕ) (
   total (row ∷ rows) = adds (standing_in names numbers row) + total rows
 
   copies-front : (o : Option Standing) (ss : List Standing)
-      → copies x (map f (in_type kind (cons_option o ss))) ≡ adds o + copies x (map f (in_type kind ss))
+      → copies x (map f (in_type kind (cons_option o ss)))
+      ≡ adds o + copies x (map f (in_type kind ss))
   copies-front None ss = sym (zero-add (copies x (map f (in_type kind ss))))
   copies-front (Some s) ss = elim (s.kind == kind) as
       (λ t. copies x (map f (if t then s ∷ in_type kind ss else in_type kind ss))
@@ -156,8 +157,10 @@ module _ (names : List (List ℕ)) (numbers : List ℕ) (rows : List Row)
       let first = Comes-from names numbers (row_at rows i) s.0 s.1 in
       let second = Comes-from names numbers (row_at rows j) t.0 t.1 in
       let index : s.0.candidate ≡ t.0.candidate = same-some s.0.candidate t.0.candidate
-      (sym first.candidate ∙ ap (λ n. position (nat_eq n) numbers) (sym number) ∙ second.candidate) in
-      let two = twice names numbers (λ s. s.candidate) t.0.candidate t.0.kind rows i j s.0 t.0 below lt
+      (sym first.candidate ∙ ap (λ n. position (nat_eq n) numbers) (sym number)
+      ∙ second.candidate) in
+      let two =
+      twice names numbers (λ s. s.candidate) t.0.candidate t.0.kind rows i j s.0 t.0 below lt
       s.1 t.1 kind.0 refl index refl in
       let one = once t.0.kind kind.1 t.0.candidate in
       absurd (omega arith)

@@ -8,7 +8,8 @@ use Rattle.rank_lists.specs.declared.part_ranks.PartRanks.{PartRanks}
 use Rattle.rank_lists.specs.declared.turns.Turns.{Turns}
 
 -- the turns of one type more
-pub AreEachRead-next : {E : Type 0} (parts : List PartRanks) (turns : List (Result (Option Turns) E))
+pub AreEachRead-next : {E : Type 0} (parts : List PartRanks)
+    (turns : List (Result (Option Turns) E))
     (one : Result (Option Turns) E) (types : ℕ) → AreEachRead types parts turns
     → AreTurnsRead (keys_in types parts) one → AreEachRead (types + 1) parts (turns ++ one ∷ [])
 AreEachRead-next {E} parts turns one types read last =
@@ -59,7 +60,8 @@ module _ {E : Type 0} (parts : List PartRanks) (all : List (Result (Option Turns
       let ranks_more = length_push ranks turns.ranks in
       let orders_size = c.turns.orders_size in
       let ranks_size = c.turns.ranks_size in
-      let behind : all ≡ (done ++ one ∷ []) ++ left = c.behind ∙ sym (append_assoc done (one ∷ []) left) in
+      let behind : all ≡ (done ++ one ∷ []) ++ left =
+      c.behind ∙ sym (append_assoc done (one ∷ []) left) in
       let within : length done < length all =
       omega (arith, ap length behind, length-append (done ++ one ∷ []) left) in
       let here : slice_index_or all (length done) one ≡ one =
@@ -67,7 +69,8 @@ module _ {E : Type 0} (parts : List PartRanks) (all : List (Result (Option Turns
       ∙ get_or_append_left (done ++ one ∷ []) left one (length done) (omega arith)
       ∙ get_or_push done one one (length done) refl in
       let last : AreCleanTurns (keys_in (length done) parts) turns.order turns.ranks =
-      subst (AreTurnsRead {E = E} (keys_in (length done) parts)) here (read.each (length done) one within)
+      subst (AreTurnsRead {E = E} (keys_in (length done) parts)) here
+      (read.each (length done) one within)
       in
       record {
         done = done ++ one ∷ [];

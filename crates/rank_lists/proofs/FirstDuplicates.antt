@@ -74,7 +74,8 @@ module _ (body : List Row) (n : ℕ) (all : n ≤ length body) (group : Row → 
   earlier-at k i lt below = get_or-take k body i (0, []) below
 
   -- a row that repeats no earlier one
-  repeat-none : (m k : ℕ) (file : FileKind) (line field : ℕ) → HasNoRepeat (map group (take n body)) m
+  repeat-none : (m k : ℕ) (file : FileKind) (line field : ℕ)
+      → HasNoRepeat (map group (take n body)) m
       → k < m → m ≤ n
       → repeat_fault file line field (same (row_at body k)) (take k body) ≡ None
   repeat-none m k file line field distinct lt le =

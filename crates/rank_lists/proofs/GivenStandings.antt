@@ -63,7 +63,8 @@ module _ (names : List (List ℕ)) (numbers : List ℕ) (earlier : List Row) (ro
       ∙ map-append key_of (in_type kind first) (in_type kind (cons_option o []))
 
   -- a row of a known candidate in a known type
-  pub HasStandings-known : (old new : PartRanks) (k index : ℕ) → HasStandings names numbers earlier old
+  pub HasStandings-known : (old new : PartRanks) (k index : ℕ)
+      → HasStandings names numbers earlier old
       → position (bytes_eq (type_in row)) names ≡ Some k
       → position (nat_eq (candidate_in row)) numbers ≡ Some index
       → new.given.items ≡ with_rank old.given.items (Some k) (rank_in row * INDEXES + index)

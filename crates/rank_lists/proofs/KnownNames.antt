@@ -13,7 +13,8 @@ use Rattle.rank_lists.proofs.Names.{IsName-from, IsName-same}
 -- names of different numbers differ
 other-name : (a b : List ℕ) → name_number b ≢ name_number a → bytes_eq a b ≡ false
 other-name a b other = ⊎_elim
-    (λ (yes : bytes_eq a b ≡ true). absurd (other (ap name_number (sym ((bytes_eq-Decides a b).0 yes)))))
+    (λ (yes : bytes_eq a b ≡ true).
+    absurd (other (ap name_number (sym ((bytes_eq-Decides a b).0 yes)))))
     (λ (no : bytes_eq a b ≡ false). no)
     (cases_Bool (bytes_eq a b))
 

@@ -32,9 +32,11 @@ ranks-rise sorted ranks e up i j le lt =
     let whole = ap length e in
     let keys : slice_index sorted i ≤ slice_index sorted j = up i j le (omega arith) in
     let first : slice_index ranks i ≡ slice_index sorted i / INDEXES =
-    ap (λ all. slice_index all i) e ∙ get_or-map (λ key. key / INDEXES) sorted i 0 0 (omega arith) in
+    ap (λ all. slice_index all i) e
+    ∙ get_or-map (λ key. key / INDEXES) sorted i 0 0 (omega arith) in
     let second : slice_index ranks j ≡ slice_index sorted j / INDEXES =
-    ap (λ all. slice_index all j) e ∙ get_or-map (λ key. key / INDEXES) sorted j 0 0 (omega arith) in
+    ap (λ all. slice_index all j) e
+    ∙ get_or-map (λ key. key / INDEXES) sorted j 0 0 (omega arith) in
     omega arith
 
 module _ (names : List (List ℕ)) (numbers : List ℕ) (rows : List Row)
@@ -78,7 +80,8 @@ module _ (names : List (List ℕ)) (numbers : List ℕ) (rows : List Row)
       ∙ sym (there kind (omega arith)) ∙ get_or_default other kind [] d (omega arith))
 
   -- the turns of a type are its standings by rising rank
-  turns-are : (kind : ℕ) (order ranks : List ℕ) → AreTurns (map key_of (in_type kind all)) order ranks
+  turns-are : (kind : ℕ) (order ranks : List ℕ)
+      → AreTurns (map key_of (in_type kind all)) order ranks
       → (order ≡ order_in kind) × (ranks ≡ ranks_in kind)
   turns-are kind order ranks t =
       let same : t.sorted ≡ map key_of (sorted_in kind) =

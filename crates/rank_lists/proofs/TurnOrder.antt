@@ -138,12 +138,14 @@ module _ (ss : List Standing) (rise : (i j : ℕ) → i < j → j < length (map 
     turn-at k d lt =
         let s = slice_index_or (sorted ss) k d in
         let here : slice_index_or (sorted ss) k s ≡ s = get_or_default (sorted ss) k s d lt in
-        let only = λ (t : Standing) (there : StandsIn (sorted ss) t) (e : (better_count ss t == k) ≡ true).
+        let only =
+        λ (t : Standing) (there : StandsIn (sorted ss) t) (e : (better_count ss t == k) ≡ true).
         (let place : there.0 ≡ k = sym (count-at there.0 t there.1 there.2) ∙ equal _ _ e in
         sym there.2 ∙ ap (λ i. slice_index_or (sorted ss) i t) place
         ∙ get_or_default (sorted ss) k t d lt) in
         find-only (λ t. better_count ss t == k) ss s
-        (Each-weaker (StandsIn (sorted ss)) (λ t. (better_count ss t == k) ≡ true → t ≡ s) only ss places)
+        (Each-weaker (StandsIn (sorted ss)) (λ t. (better_count ss t == k) ≡ true → t ≡ s) only
+        ss places)
         (Each-at (StandsIn ss) (sorted ss) stands k d lt) (is-equal _ _ (count-at k s lt here))
 
     -- the standings by rising rank

@@ -1,5 +1,5 @@
--- A file that has no fault and ranks known candidates in known types alone: its turn orders from the
--- ranks given in each type.
+-- A file that has no fault and ranks known candidates in known types alone: its turn orders from
+-- the ranks given in each type.
 use Rattle.std.specs.Prelude.{◌≡◌, ◌<◌, ◌+◌, ◌*◌, ◌%◌, ℕ, List, [], All, IfOk, IfSome, IsSome, None, Option, Result, false, length, map, nat_eq, position, slice_index_or}
 use Rattle.std.specs.List.{flat_map}
 use Rattle.market.specs.Problems.{HasNoRepeats}

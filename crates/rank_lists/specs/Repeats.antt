@@ -40,4 +40,5 @@ earlier_repeat (Some least) other = if nat_le least.later other.later then least
 
 -- no two neighbours among the first numbers are equal
 abbrev pub HasUnequalNeighbours : List ℕ → ℕ → Type 0
-HasUnequalNeighbours sorted n = (k : ℕ) → k + 1 < n → slice_index sorted k ≢ slice_index sorted (k + 1)
+HasUnequalNeighbours sorted n =
+    (k : ℕ) → k + 1 < n → slice_index sorted k ≢ slice_index sorted (k + 1)

@@ -57,7 +57,8 @@ ranks_fault bytes = first_fault ranks_rules bytes
 
 -- what may be wrong with its rows by themselves, where none means anything beside the earlier ones
 abbrev pub own_rules : FileRules
-own_rules = record { form = ranks_form; reading = λ version. reading; meaning = λ earlier row. None }
+own_rules =
+    record { form = ranks_form; reading = λ version. reading; meaning = λ earlier row. None }
 
 -- the data row at an index
 abbrev pub row_at : List Row → ℕ → Row

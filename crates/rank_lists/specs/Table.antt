@@ -104,4 +104,5 @@ pub record IsSound (table : RankTable) : Type 0 where
   pub rise : (kind j k : ℕ) → kind < length table.orders → j < k → k < length (ranks_at table kind)
       → slice_index (ranks_at table kind) j < slice_index (ranks_at table kind) k
   pub limits : (kind k : ℕ) → kind < length table.orders → k < length (ranks_at table kind)
-      → (1 ≤ slice_index (ranks_at table kind) k) × (slice_index (ranks_at table kind) k ≤ LARGEST_RANK)
+      → (1 ≤ slice_index (ranks_at table kind) k)
+      × (slice_index (ranks_at table kind) k ≤ LARGEST_RANK)

@@ -10,7 +10,9 @@ use std::alloc::{AllocError, Global};
 /// The types and candidates beside which ranks are read.
 #[derive(Drop)]
 pub(crate) struct Known<'a, T: TypeFinder, C: Finder> {
+    // The types.
     pub(crate) types: &'a T,
+    // The candidates.
     pub(crate) candidates: &'a C,
     // The names of the types, each as one number: these are compared sooner.
     names: Vec<u64>,

@@ -30,7 +30,8 @@ impl PartRanks {
     fn index_of<C: Finder>(&mut self, candidate: CandidateNo, candidates: &C) -> Option<u32>
         requires { self.old.index ≡ position (nat_eq self.old.number) (C.numbers candidates.now) }
         ensures result { result ≡ position (nat_eq candidate) (C.numbers candidates.now) }
-        ensures last { self.new.index ≡ position (nat_eq self.new.number) (C.numbers candidates.now) }
+        ensures last { self.new.index
+            ≡ position (nat_eq self.new.number) (C.numbers candidates.now) }
         ensures given { self.new.given ≡ self.old.given }
         ensures unknown { self.new.unknown ≡ self.old.unknown }
     {

@@ -15,7 +15,9 @@ const SPREAD: u64 = 0x9e37_79b9_7f4a_7c15;
 /// Two places of a list at which the same number stands.
 #[derive(Clone, Copy)]
 pub(crate) struct Repeat {
+    // The first of them.
     pub(crate) earlier: u32,
+    // The other.
     pub(crate) later: u32,
 }
 

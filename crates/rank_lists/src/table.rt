@@ -40,7 +40,9 @@ impl Model for RankLists {
 /// The turn order of each type and the ranks in it, as a market takes them.
 #[derive(Drop)]
 pub struct RankParts {
+    /// For each type its candidates by rising rank.
     pub orders: Vec<List>,
+    /// For each type their ranks.
     pub ranks: Vec<List>,
 }
 

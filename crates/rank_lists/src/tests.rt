@@ -7,6 +7,8 @@ use place_base::FaultKind::{self, BadTypeName, Duplicate, FieldCount, NotNumber,
 use place_base::{FileFault, FileKind, Finder, TypeFinder, TypeName};
 use record_files::{TableStop, duplicate_at};
 use std::alloc::Global;
+use std::sync::atomic::AtomicBool;
+use std::sync::atomic::Ordering::SeqCst;
 use std::test::Fail;
 use std::thread::Threads;
 
@@ -53,8 +55,8 @@ impl TypeFinder for OneType {
     }
 }
 
-// Lists read, of which no more is known than how many types and candidates there are: a file written
-// out would be computed in each goal.
+// Lists read, of which no more is known than how many types and candidates there are: a file
+// written out would be computed in each goal.
 fn read<R: Threads + Sync>(
     rt: &R,
     alloc: Global,
@@ -175,6 +177,77 @@ fn tell_fault<R: Threads + Sync>(
         if read.err() != Some(TableStop::Fault(wanted)) {
             return Err(Fail::new("another fault"));
         }
+    }
+    Ok(())
+}
+
+// The candidates 1, 2 and 3. Who looks for 1 or 2 is held until the other is looked for too.
+#[derive(Drop)]
+struct Meeting {
+    first: AtomicBool,
+    second: AtomicBool,
+    // Whether one was held until the end.
+    given_up: AtomicBool,
+}
+
+impl Meeting {
+    // Raises the one flag, and holds until the other is raised.
+    fn meets(&self, here: &AtomicBool, other: &AtomicBool) {
+        here.store(true, SeqCst);
+        if !is_raised(other) {
+            self.given_up.store(true, SeqCst);
+        }
+    }
+
+    // Whether both were looked for, and neither was held until the end.
+    fn has_met(&self) -> bool {
+        self.first.load(SeqCst) && self.second.load(SeqCst) && !self.given_up.load(SeqCst)
+    }
+}
+
+// Looks so often, at most, whether the flag is raised; false where it never was.
+fn is_raised(flag: &AtomicBool) -> bool {
+    for _ in 0..200_000_000u32 {
+        if flag.load(SeqCst) {
+            return true;
+        }
+    }
+    false
+}
+
+impl Finder for Meeting {
+    ghost numbers = { λ _. 1 ∷ 2 ∷ 3 ∷ [] };
+
+    fn count(&self) -> u32 {
+        Candidates.count()
+    }
+
+    fn number_at(&self, index: u32) -> u64 {
+        Candidates.number_at(index)
+    }
+
+    fn find(&self, number: u64) -> Option<u32> {
+        match number {
+            1 => self.meets(&self.first, &self.second),
+            2 => self.meets(&self.second, &self.first),
+            _ => {}
+        }
+        Candidates.find(number)
+    }
+}
+
+#[test]
+fn parts_are_read_side_by_side(rt: HostRuntime) -> Result<(), Fail> {
+    let say = OneType(TypeName::new(b"SAY").ok_or("a name")?);
+    let meeting = Meeting {
+        first: AtomicBool::new(false),
+        second: AtomicBool::new(false),
+        given_up: AtomicBool::new(false),
+    };
+    let bytes = b"candidate,type,rank\n1,SAY,8\n2,SAY,9\n";
+    let lists = RankLists::read(&rt, rt.alloc(), bytes, 3, &say, &meeting)?;
+    if lists.into_parts().orders.len() != 1 || !meeting.has_met() {
+        return Err(Fail::new("the parts did not meet"));
     }
     Ok(())
 }

@@ -27,7 +27,9 @@ impl Model for GivenRanks {
 /// The candidates of one type in turn order, and their ranks.
 #[derive(Drop)]
 pub(crate) struct Turns {
+    // The candidates by rising rank.
     pub(crate) order: List,
+    // Their ranks.
     pub(crate) ranks: List,
 }
 

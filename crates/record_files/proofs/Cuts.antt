@@ -36,11 +36,12 @@ empty-of : (xs : List ℕ) → length xs ≡ 0 → xs ≡ []
 empty-of [] h = refl
 empty-of (x ∷ xs) h = absurd (omega arith)
 
-numbered-empty : (line : ℕ) (text : List ℕ) (texts : List (List ℕ)) → strip_carriage_return text ≡ []
-    → numbered line (text ∷ texts) ≡ numbered (line + 1) texts
+numbered-empty : (line : ℕ) (text : List ℕ) (texts : List (List ℕ))
+    → strip_carriage_return text ≡ [] → numbered line (text ∷ texts) ≡ numbered (line + 1) texts
 numbered-empty line text texts e = rw e refl
 
-numbered-full : (line : ℕ) (text : List ℕ) (texts : List (List ℕ)) → 0 < length (strip_carriage_return text)
+numbered-full : (line : ℕ) (text : List ℕ) (texts : List (List ℕ))
+    → 0 < length (strip_carriage_return text)
     → numbered line (text ∷ texts) ≡ (line, strip_carriage_return text) ∷ numbered (line + 1) texts
 numbered-full line text texts z = full-of (strip_carriage_return text) z
   where

@@ -1,5 +1,5 @@
--- Cutting a text at its commas, one field after the other: the fields found so far, and those of the
--- rest of the text, are the fields of the text.
+-- Cutting a text at its commas, one field after the other: the fields found so far, and those of
+-- the rest of the text, are the fields of the text.
 use Rattle.std.proofs.Common.{◌≡◌, ℕ, zero, suc, ◌+◌, ◌-◌, ◌<◌, ◌≤◌, List, [], ◌∷◌, length, take, drop, refl, sym, ap, ◌∙◌, arith, add-one, Some, ⊎_elim, subst, length-drop, take_all, add-zero, zero-add}
 use Rattle.std.proofs.lemmas.List.{drop-drop}
 use Rattle.std.specs.Prelude.{slice_get, slice_index}
@@ -98,7 +98,8 @@ module _ (text old new : List ℕ) (count start p : ℕ) (c : CutTo text old cou
       }
 
   -- at the end of the text all fields are found
-  pub IsCutAt-end : p ≡ length (drop start text) → split COMMA (drop start text) ≡ drop start text ∷ []
+  pub IsCutAt-end : p ≡ length (drop start text)
+      → split COMMA (drop start text) ≡ drop start text ∷ []
       → IsCutAt text new (count + 1)
   IsCutAt-end all e =
       let one : length (split COMMA (drop start text)) ≡ 1 = ap length e in

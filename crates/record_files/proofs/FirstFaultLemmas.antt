@@ -1,18 +1,19 @@
--- Reading a file row by row comes to its first fault: as long as no row has one, the least of those
--- read has none; the first that has one is the least of all.
-use Rattle.std.proofs.Common.{◌≡◌, ℕ, zero, suc, ◌+◌, ◌-◌, ◌<◌, ◌≤◌, List, [], ◌∷◌, ◌++◌, length, take, drop, get_or, refl, sym, ap, ◌∙◌, arith, add-one, Bool, true, false, nat_le, Option, Some, None, ⊎_elim, subst, length-drop, length-take-le}
+-- Reading rows one after the other comes to the first fault: as long as no row has one, the least
+-- of those read has none; the first that has one is the least of all.
+use Rattle.std.proofs.Common.{◌≡◌, ℕ, zero, suc, ◌+◌, ◌-◌, ◌<◌, ◌≤◌, List, [], ◌∷◌, ◌++◌, length, take, drop, get_or, refl, sym, ap, ◌∙◌, arith, add-one, Bool, true, false, nat_le, Option, Some, None, ⊎_elim, subst, length-drop, length-take-le, take_all}
 use Rattle.std.proofs.lemmas.Bool.{cases_lt, leb-false}
 use Rattle.std.specs.Prelude.{slice_get, option_and_then}
 use Rattle.std.proofs.Math.Seq.{drop-cons}
 use Rattle.std.proofs.lemmas.List.{take_more}
-use Rattle.std.proofs.lemmas.Option.{slice_get-get_or}
+use Rattle.std.proofs.lemmas.Option.{slice_get-get_or, slice_get_past}
 use Rattle.place_base.specs.declared.fault.FaultKind.TheVariants.{TooManyRows}
 use Rattle.place_base.specs.declared.fault.FileFault.{FileFault}
-use Rattle.record_files.specs.FirstFaults.{FileRules, fault_at, fault_if, first_of, first_row_fault, long_fault, shape_fault, fault_behind, row_fault, least_fault, first_fault}
+use Rattle.record_files.specs.FirstFaults.{FileRules, fault_at, fault_if, first_of, first_row_fault, long_fault, shape_fault, fault_behind, fault_in, row_fault, least_fault}
 use Rattle.record_files.specs.Form.{header_in}
-use Rattle.record_files.specs.ReadTo.{IsReadTo, IsRowTaken, StopsAt}
+use Rattle.record_files.specs.ReadTo.{AreRowsRead, AreTaken, IsRowTaken}
 use Rattle.record_files.specs.Rows.{Row, rows, data_rows}
 use Rattle.record_files.specs.declared.form.Header.{Header}
+use Rattle.record_files.specs.declared.reading.RowsRead.{RowsRead}
 
 -- what stands behind a head
 record HasHead {X : Type 0} (xs : List X) (k : ℕ) (x : X) (left : List X) : Type 0 where
@@ -96,106 +97,145 @@ least_fault-found fault n (suc m) f lt before here =
     rw none (subst (λ k. fault k ≡ Some f) same here))
     (cases_lt n m)
 
-module _ (rules : FileRules) (bytes : List ℕ) where
-  -- the header of the file
-  abbrev header : Header
-  header = header_in rules.form (rows bytes)
+module _ {T : Type 0} (rules : FileRules) (header : Header) (HasRows : List Row → T → Type 0)
+    (all : List Row) where
+  -- the first rows have no fault and are in the table, and these are left
+  pub record TakesTo (count : ℕ) (table : T) (left : List Row) : Type 0 where
+    pub within : count ≤ length all
+    pub left_is : left ≡ drop count all
+    pub none : least_fault (fault_in rules header all) count ≡ None
+    pub has : HasRows (take count all) table
 
-  -- the rows before the one at an index
-  abbrev before : ℕ → List Row
-  before k = take k (data_rows bytes)
-
-  -- behind the header nothing has been read
-  pub IsReadTo-begin : (left : List Row) → first_row_fault rules.form (rows bytes) ≡ None
-      → left ≡ data_rows bytes → IsReadTo rules bytes 0 left
-  IsReadTo-begin left passed e = record {
-    header = passed;
-    left_is = e;
+  pub TakesTo-begin : (table : T) → HasRows [] table → TakesTo 0 table all
+  TakesTo-begin table empty = record {
     within = omega arith;
-    none = least_fault-begin (row_fault rules bytes);
+    left_is = refl;
+    none = least_fault-begin (fault_in rules header all);
+    has = empty;
   }
 
-  -- so many rows have been read
-  pub IsReadTo-length : (k : ℕ) (left : List Row) → IsReadTo rules bytes k left
-      → length (before k) ≡ k
-  IsReadTo-length k left r = length-take-le k (data_rows bytes) r.within
+  -- what taking the next row comes to
+  module _ (count : ℕ) (table new : T) (row : Row) (left : List Row) (found : Option FileFault)
+      (t : TakesTo count table (row ∷ left))
+      (taken : (earlier : List Row) → HasRows earlier table → length earlier ≡ count
+      → IsRowTaken (fault_behind rules header earlier row) (HasRows earlier new)
+      (HasRows (earlier ++ row ∷ []) new) found) where
+    size : length (take count all) ≡ count
+    size = length-take-le count all t.within
 
-  row_fault-at : (k : ℕ) (row : Row) (left : List Row) → HasHead (data_rows bytes) k row left
-      → row_fault rules bytes k ≡ fault_behind rules header (before k) row
-  row_fault-at k row left h = ap (option_and_then (fault_behind rules header (before k))) h.head
+    told : (f : Option FileFault) → found ≡ f
+        → IsRowTaken (fault_behind rules header (take count all) row) (HasRows (take count all) new)
+        (HasRows (take count all ++ row ∷ []) new) f
+    told f e = subst (IsRowTaken (fault_behind rules header (take count all) row)
+        (HasRows (take count all) new) (HasRows (take count all ++ row ∷ []) new)) e
+        (taken (take count all) t.has size)
 
-  -- a row without a fault is passed
-  pub IsReadTo-next : (k : ℕ) (row : Row) (left : List Row) → IsReadTo rules bytes k (row ∷ left)
-      → fault_behind rules header (before k) row ≡ None → IsReadTo rules bytes (k + 1) left
-  IsReadTo-next k row left r none =
-      let h = drop-head (data_rows bytes) k row left r.left_is in
+    head : HasHead all count row left
+    head = drop-head all count row left t.left_is
+
+    fault-here : fault_in rules header all count ≡ fault_behind rules header (take count all) row
+    fault-here = ap (option_and_then (fault_behind rules header (take count all))) head.head
+
+    -- with no fault it is passed
+    pub TakesTo-next : found ≡ None
+        → (count < rules.form.most_rows) × TakesTo (count + 1) new left
+    TakesTo-next e =
+        let passed = told None e in
+        let few = fault_behind-few rules header (take count all) row passed.0 in
+        let same = size in
+        let inside = head.within in (
+          omega arith,
+          record {
+            within = omega arith;
+            left_is = head.behind;
+            none = least_fault-next _ count t.none (fault-here ∙ passed.0);
+            has = subst (λ rows. HasRows rows new) (sym head.taken) passed.1;
+          },
+        )
+
+    -- with one reading stops
+    pub TakesTo-stops : (f : FileFault) → found ≡ Some f
+        → AreTaken rules None header HasRows all
+        (record { table = new; count = count; fault = Some f })
+    TakesTo-stops f e = record {
+      within = t.within;
+      has = (told (Some f) e).1;
+      passed = λ some. refl;
+      none = t.none;
+      here = fault-here ∙ (told (Some f) e).0;
+      whole = λ no. absurd (cc);
+    }
+
+  -- where no row is left all were taken
+  pub TakesTo-ends : (count : ℕ) (table : T) → TakesTo count table []
+      → AreTaken rules None header HasRows all
+      (record { table = table; count = count; fault = None })
+  TakesTo-ends count table t =
+      let sizes : 0 ≡ length all - count = ap length t.left_is ∙ length-drop count all in
+      let within = t.within in
       record {
-        header = r.header;
-        left_is = h.behind;
-        within = omega arith;
-        none = least_fault-next _ k r.none (row_fault-at k row left h ∙ none);
+        within = t.within;
+        has = t.has;
+        passed = λ some. refl;
+        none = t.none;
+        here = rw (slice_get_past all count (omega arith)) refl;
+        whole = λ none. omega arith;
       }
 
-  -- the rows read grow by the row passed
-  pub IsReadTo-take : (k : ℕ) (row : Row) (left : List Row) → IsReadTo rules bytes k (row ∷ left)
-      → before (k + 1) ≡ before k ++ row ∷ []
-  IsReadTo-take k row left r = (drop-head (data_rows bytes) k row left r.left_is).taken
+  -- the fault that was told is the least
+  pub AreTaken-least : (read : RowsRead T) → AreTaken rules None header HasRows all read
+      → least_fault (fault_in rules header all) (length all) ≡ read.fault
+  AreTaken-least read t = by read.fault t.here t.whole
+    where
+      by : (f : Option FileFault) → fault_in rules header all read.count ≡ f
+          → (f ≡ None → read.count ≡ length all)
+          → least_fault (fault_in rules header all) (length all) ≡ f
+      by None here whole =
+          subst (λ n. least_fault (fault_in rules header all) n ≡ None) (whole refl) t.none
+      by (Some f) here whole = ⊎_elim
+          (λ (inside : read.count < length all).
+          least_fault-found _ read.count (length all) f inside t.none here)
+          (λ (past : length all ≤ read.count).
+          let gone : fault_in rules header all read.count ≡ None =
+          rw (slice_get_past all read.count past) refl in
+          absurd (cc))
+          (cases_lt read.count (length all))
 
-  -- a row with a fault has the file's first, and reading stops there
-  pub IsReadTo-stops : (k : ℕ) (row : Row) (left : List Row) (f : FileFault)
-      → IsReadTo rules bytes k (row ∷ left) → fault_behind rules header (before k) row ≡ Some f
-      → (first_fault rules bytes ≡ Some f) × StopsAt rules bytes k f
-  IsReadTo-stops k row left f r found =
-      let h = drop-head (data_rows bytes) k row left r.left_is in
-      let here = row_fault-at k row left h ∙ found in (
-        rw r.header (least_fault-found _ k (length (data_rows bytes)) f h.within r.none here),
-        record { within = r.within; header = λ some. r.header; none = r.none; here = rw r.header here },
-      )
+  -- where none was told the table is that of all rows
+  pub AreTaken-whole : (of_header : Option FileFault) (read : RowsRead T)
+      → AreTaken rules of_header header HasRows all read → read.fault ≡ None
+      → HasRows all read.table
+  AreTaken-whole of_header read t none =
+      let size = t.whole none in
+      subst (λ rows. HasRows rows read.table) (take_all read.count all (omega arith)) t.has
 
-  -- a fault of the first row is the file's first
-  pub header-stops : (f : FileFault) → first_row_fault rules.form (rows bytes) ≡ Some f
-      → (first_fault rules bytes ≡ Some f) × StopsAt rules bytes 0 f
-  header-stops f found = (
-    first_of-some _ _ f found,
-    record {
+module _ {T : Type 0} (rules : FileRules) (bytes : List ℕ) (HasRows : List Row → T → Type 0) where
+  -- the rows behind a header without a fault
+  pub AreRowsRead-taken : (header : Header) (read : RowsRead T)
+      → first_row_fault rules.form (rows bytes) ≡ None → header ≡ header_in rules.form (rows bytes)
+      → AreTaken rules None header HasRows (data_rows bytes) read
+      → AreRowsRead rules bytes HasRows read
+  AreRowsRead-taken header read passed same taken =
+      let t = subst (λ h. AreTaken rules None h HasRows (data_rows bytes) read) same taken in
+      record {
+        first = rw passed (AreTaken-least rules (header_in rules.form (rows bytes)) HasRows
+            (data_rows bytes) read t);
+        taken = subst (λ front. AreTaken rules front (header_in rules.form (rows bytes)) HasRows
+            (data_rows bytes) read) (sym passed) t;
+      }
+
+  -- a fault of the first row
+  pub AreRowsRead-refused : (table : T) (f : FileFault)
+      → first_row_fault rules.form (rows bytes) ≡ Some f → HasRows [] table
+      → AreRowsRead rules bytes HasRows (record { table = table; count = 0; fault = Some f })
+  AreRowsRead-refused table f told empty = record {
+    first = first_of-some _ _ f told;
+    taken = record {
       within = omega arith;
-      header = λ some. absurd (omega arith);
+      has = empty;
+      passed = λ some. absurd (omega arith);
       none = least_fault-begin (row_fault rules bytes);
-      here = first_of-some _ _ f found;
-    },
-  )
-
-  -- where no row is left the file has no fault, and all rows were read
-  pub IsReadTo-ends : (k : ℕ) → IsReadTo rules bytes k []
-      → (first_fault rules bytes ≡ None) × (k ≡ length (data_rows bytes))
-  IsReadTo-ends k r =
-      let sizes : 0 ≡ length (data_rows bytes) - k = ap length r.left_is
-      ∙ length-drop k (data_rows bytes) in
-      let all : k ≡ length (data_rows bytes) = omega arith in
-      (rw r.header (subst (λ n. least_fault (row_fault rules bytes) n ≡ None) all r.none), all)
-
-  -- what taking the next row over comes to, under the file's header
-  module _ (k : ℕ) (row : Row) (left : List Row) (h : Header) (kept grown : Type 0)
-      (found : Option FileFault) (read : IsReadTo rules bytes k (row ∷ left)) (same : h ≡ header)
-      (taken : IsRowTaken (fault_behind rules h (before k) row) kept grown found) where
-    -- a fault is the file's first
-    pub row-stops : (f : FileFault) → found ≡ Some f
-        → (first_fault rules bytes ≡ Some f) × StopsAt rules bytes k f × kept
-    row-stops f e =
-        let told = subst (IsRowTaken (fault_behind rules h (before k) row) kept grown) e taken in
-        let stop = IsReadTo-stops k row left f read
-        (ap (λ h. fault_behind rules h (before k) row) (sym same) ∙ told.0) in
-        (stop.0, stop.1, told.1)
-
-    -- with none the row is passed
-    pub row-passes : found ≡ None
-        → (k < rules.form.most_rows) × IsReadTo rules bytes (k + 1) left × grown
-    row-passes e =
-        let told = subst (IsRowTaken (fault_behind rules h (before k) row) kept grown) e taken in
-        let few = fault_behind-few rules h (before k) row told.0 in
-        let size = IsReadTo-length k (row ∷ left) read in (
-          omega arith,
-          IsReadTo-next k row left read
-              (ap (λ h. fault_behind rules h (before k) row) (sym same) ∙ told.0),
-          told.1,
-        )
+      here = first_of-some _ _ f told;
+      whole = λ none. absurd (cc);
+    };
+  }

@@ -62,8 +62,9 @@ shape_fault form fields index row =
     (first_of (fault_if (nat_le form.most_rows index) (fault_at form.file row.0 0 TooManyRows))
     (fault_if (not (length (fields_of row) == fields)) (fault_at form.file row.0 0 FieldCount)))
 
--- what a kind of file may have: its form, what is wrong with the fields of a row by themselves under
--- one of its headers, and what is wrong with a row beside the earlier rows and the other files
+-- what a kind of file may have: its form, what is wrong with the fields of a row by themselves
+-- under one of its headers, and what is wrong with a row beside the earlier rows and the other
+-- files
 pub record FileRules : Type 0 where
   pub form : Form
   pub reading : ℕ → Row → Option FileFault
@@ -76,12 +77,15 @@ fault_behind rules header earlier row =
     first_of (shape_fault rules.form header.fields (length earlier) row)
     (first_of (rules.reading header.version row) (rules.meaning earlier row))
 
+-- the fault of the row of a list at an index, under a header
+abbrev pub fault_in : FileRules → Header → List Row → ℕ → Option FileFault
+fault_in rules header all index =
+    option_and_then (fault_behind rules header (take index all)) (slice_get all index)
+
 -- the fault of the data row at an index
 abbrev pub row_fault : FileRules → List ℕ → ℕ → Option FileFault
 row_fault rules bytes index =
-    option_and_then
-    (fault_behind rules (header_in rules.form (rows bytes)) (take index (data_rows bytes)))
-    (slice_get (data_rows bytes) index)
+    fault_in rules (header_in rules.form (rows bytes)) (data_rows bytes) index
 
 -- the fault of the least index below a number that has one
 unfoldable pub least_fault : (ℕ → Option FileFault) → ℕ → Option FileFault

@@ -9,10 +9,12 @@ use place_base::limits::LONGEST_LINE;
 use place_base::{FaultKind, FileFault, FileKind};
 use std::marker::Model;
 
-/// A header that was read: which one of the file's form, from 0, and how many fields it has.
+/// A header that was read.
 #[derive(Clone, Copy, Debug, PartialEq, Eq)]
 pub struct Header {
+    /// Which one of the file's form it is, from 0.
     pub version: usize,
+    /// How many fields it has.
     pub fields: u32,
 }
 

@@ -24,7 +24,7 @@ mod table_stop;
 pub use faults::{duplicate_at, fault_at, in_field};
 pub use fields::{number, type_name};
 pub use form::{FileForm, Header};
-pub use reading::{RowsRead, read_rows, read_table};
+pub use reading::{RowsRead, read_rows, read_table, take_rows};
 pub use row_buffer::RowBuffer;
 pub use row_table::RowTable;
 pub use row_texts::{Field, put_row_1, put_row_2, put_row_3, put_row_4};

@@ -2,7 +2,7 @@
 ghost use Rattle.std.specs.Prelude.{◌≡◌, ◌≤◌, ◌++◌, ◌∷◌, [], List, length, None, Some, IfOk, MatchResult};
 ghost use Rattle.record_files.specs.FirstFaults.{fault_behind, first_fault};
 ghost use Rattle.record_files.specs.Form.{IsHeaderOf};
-ghost use Rattle.record_files.specs.ReadTo.{AreRowsRead, IsFileRead, IsRowTaken};
+ghost use Rattle.record_files.specs.ReadTo.{AreRowsRead, AreTaken, IsFileRead, IsRowTaken};
 ghost use Rattle.record_files.specs.Rows.{Row, data_rows};
 
 use crate::form::{FileForm, Header};
@@ -13,11 +13,15 @@ use place_base::FileFault;
 use place_base::limits::LARGEST_FILE;
 use std::alloc::{AllocError, Global};
 
-/// The table of the rows before a file's first fault, and that fault; of all rows where there is
-/// none.
+/// The table of the first rows, how many they are, and the fault behind them; of all rows where
+/// there is none.
 #[derive(Drop)]
 pub struct RowsRead<T> {
+    /// The table of the rows before the fault.
     pub table: T,
+    /// How many these rows are.
+    pub count: u32,
+    /// The fault behind them.
     pub fault: Option<FileFault>,
 }
 
@@ -30,32 +34,50 @@ pub fn read_rows<B, T: RowTable<B> + Drop>(
 ) -> Result<RowsRead<T>, AllocError>
     requires size { length bytes.now ≤ LARGEST_FILE }
     requires empty { T.has_rows beside.now [] table }
-    ensures { IfOk result (λ read. AreRowsRead (T.rules beside.now) bytes.now
-        (λ rows. T.has_rows beside.now rows read.table) read.fault) }
+    ensures { IfOk result
+        (AreRowsRead (T.rules beside.now) bytes.now (T.has_rows beside.now)) }
+{
+    let mut records = Records::of_bytes(bytes);
+    match T::form(beside).read_header(&mut records) {
+        Ok(header) => take_rows(alloc, records, header, beside, table),
+        Err(fault) => Ok(RowsRead {
+            table,
+            count: 0,
+            fault: Some(fault),
+        }),
+    }
+}
+
+/// Reads the rows that are left behind a header into an empty table, up to the first with a fault.
+pub fn take_rows<B, T: RowTable<B> + Drop>(
+    alloc: Global,
+    mut records: Records<'_>,
+    header: Header,
+    beside: &B,
+    mut table: T,
+) -> Result<RowsRead<T>, AllocError>
+    requires header { IsHeaderOf (T.rules beside.now).form header }
+    requires empty { T.has_rows beside.now [] table }
+    ensures { IfOk result (AreTaken (T.rules beside.now) None header (T.has_rows beside.now)
+        records.entry) }
 {
     let form = T::form(beside);
-    let mut table = table;
-    let mut records = Records::of_bytes(bytes);
-    let header = match form.read_header(&mut records) {
-        Ok(header) => header,
-        Err(fault) => {
-            return Ok(RowsRead {
-                table,
-                fault: Some(fault),
-            });
-        }
-    };
     let mut count = 0;
     'rows: while let Some(row) = records.next() {
-        if let Some(fault) = read_row(alloc, &form, header, count, &row, beside, &mut table)? {
+        if let Some(fault) = take_row(alloc, &form, header, count, &row, beside, &mut table)? {
             return Ok(RowsRead {
                 table,
+                count,
                 fault: Some(fault),
             });
         }
         count += 1;
     }
-    Ok(RowsRead { table, fault: None })
+    Ok(RowsRead {
+        table,
+        count,
+        fault: None,
+    })
 }
 
 /// The table of a file, or the file's first fault.
@@ -78,7 +100,7 @@ pub fn read_table<B, T: RowTable<B> + Drop>(
 }
 
 // Reads a row behind so many into the table, or answers what is wrong with it.
-fn read_row<B, T: RowTable<B>>(
+fn take_row<B, T: RowTable<B>>(
     alloc: Global,
     form: &FileForm,
     header: Header,

@@ -67,7 +67,8 @@ impl RowBuffer {
         requires room { length self.old + 96 ≤ 4096 }
         requires short { IsShort a × IsShort b × IsShort c × IsShort d }
         ensures { self.new ≡ self.old
-            ++ row_text (text_of a.entry ∷ text_of b.entry ∷ text_of c.entry ∷ text_of d.entry ∷ []) }
+            ++ row_text
+            (text_of a.entry ∷ text_of b.entry ∷ text_of c.entry ∷ text_of d.entry ∷ []) }
     {
         self.put_field(a, COMMA);
         self.put_field(b, COMMA);

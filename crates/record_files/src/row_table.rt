@@ -47,7 +47,8 @@ pub trait RowTable<B> {
             × says row.now fields)
             (λ fault. (rules beside.now).reading header.version row.now ≡ Some fault) };
 
-    /// Adds a row with these fields to the table, or answers what is wrong with it beside the table.
+    /// Adds a row with these fields to the table, or answers what is wrong with it beside the
+    /// table.
     fn take(
         &mut self,
         alloc: Global,

@@ -8,11 +8,14 @@ use memchr::memchr;
 use place_base::limits::{BYTE_ORDER_MARK, COMMA, CR, LARGEST_FILE, LF};
 use std::marker::Model;
 
-/// A stretch of a file, from a byte up to another, that starts at a line with this number.
+/// A stretch of a file, from a byte up to another.
 #[derive(Clone, Copy, Debug, PartialEq, Eq)]
 pub struct RowPart {
+    /// The byte at which it starts.
     pub start: u32,
+    /// The byte up to which it goes.
     pub end: u32,
+    /// The number of its first line, from 1.
     pub line: u32,
 }
 

@@ -56,8 +56,8 @@ parts-preserved g c =
     c.parts.invariant in
     let takes = subst (TakesPart rules keeps has c.parts.table c.in-Some.part c.take_part.new.table)
     c.in_default-2.is (c.in_ok-fault.ensures {u = tt}) in
-    JoinsParts-next rules keeps has all c.parts.table c.take_part.new.table c.in-Some.part left joins
-    takes
+    JoinsParts-next rules keeps has all c.parts.table c.take_part.new.table c.in-Some.part left
+    joins takes
 
 pub returns : goal.returns
 returns g c =

@@ -33,8 +33,8 @@ returns-in-Some-2 g c = λ earlier more here all.
     (c.rows.invariant earlier more here kept) in
     let takes = subst (Takes rules keeps has c.rows.table c.in-Some.row c.take_ahead.new.self)
     c.in-Some-2.is (c.in_ok-fault.ensures {u = tt}) in (
-      AddsTo-stops rules keeps has earlier more c.rows.table c.take_ahead.new.self c.in-Some.row left
-          c.in-Some-2.fault adds takes,
+      AddsTo-stops rules keeps has earlier more c.rows.table c.take_ahead.new.self
+          c.in-Some.row left c.in-Some-2.fault adds takes,
       tt,
     )
 

@@ -22,8 +22,8 @@ types-preserved c = λ parts read.
     (c.in_ok-of_type.was ∙ ap (λ (turns : Option Turns). Ok turns) c.in-Some-2.is))
     (c.types.invariant parts read) in
     rw (c.in_ok-push.ensures.items, c.in_ok-push-2.ensures.items)
-    (CollectsTo-next parts all c.types.orders.items c.types.ranks.items c.in-Some-2.of_type left read
-    here)
+    (CollectsTo-next parts all c.types.orders.items c.types.ranks.items c.in-Some-2.of_type left
+    read here)
 
 pub returns : goal.returns
 returns c = λ types parts read.

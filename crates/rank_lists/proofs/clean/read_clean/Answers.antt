@@ -22,7 +22,8 @@ returns g c =
     (HasStandings (g.T.TypeFinder.names c.in_ok-known.known.types.now)
     (g.C.Finder.numbers c.in_ok-known.known.candidates.now)) bytes tables.items) in
     let known_names = g.T.TypeFinder.names c.in_ok-known.known.types.now in
-    let read = subst (λ (all : List (List ℕ)). AreRead own_rules (HasStandings all numbers) bytes parts)
+    let read =
+    subst (λ (all : List (List ℕ)). AreRead own_rules (HasStandings all numbers) bytes parts)
     (ap g.T.TypeFinder.names c.in_ok-known.ensures.types)
     (subst (λ (all : List ℕ). AreRead own_rules (HasStandings known_names all) bytes parts)
     (ap g.C.Finder.numbers c.in_ok-known.ensures.candidates)

@@ -20,9 +20,12 @@ returns c =
         permutation = subst P keys c.sort_unstable.ensures.permutation;
         rises = λ i j le lt. IsNonDecreasingBy-from_sort
             (λ x. x) sorted c.sort_unstable.ensures.sorted i j 0 le lt;
-        order_is = c.in_ok-turns.ensures.0 ∙ ap (map (λ key. key % INDEXES)) c.deref-2.ensures.value;
-        ranks_are = c.in_ok-turns.ensures.1 ∙ ap (map (λ key. key / INDEXES)) c.deref-2.ensures.value;
+        order_is =
+            c.in_ok-turns.ensures.0 ∙ ap (map (λ key. key % INDEXES)) c.deref-2.ensures.value;
+        ranks_are =
+            c.in_ok-turns.ensures.1 ∙ ap (map (λ key. key / INDEXES)) c.deref-2.ensures.value;
       };
-      candidates = subst Q (c.deref.ensures.value ∙ keys) (c.in_ok-are_distinct.ensures {u = tt} distinct);
+      candidates =
+          subst Q (c.deref.ensures.value ∙ keys) (c.in_ok-are_distinct.ensures {u = tt} distinct);
       differ = subst D c.items.ensures (c.neighbours_differ.ensures differ);
     }

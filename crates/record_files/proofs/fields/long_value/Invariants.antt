@@ -8,5 +8,6 @@ abbrev pub invariant-loop-byte : goal.invariant-loop-byte
 invariant-loop-byte l = record {
   small : l.sum ≤ 2 ^ 64;
   digits : all_digits l.field ≡ all_digits (drop l.byte-index l.field);
-  sum : min (value l.field) (2 ^ 64) ≡ min (digits_value_after 10 l.sum (drop l.byte-index l.field)) (2 ^ 64);
+  sum : min (value l.field) (2 ^ 64)
+      ≡ min (digits_value_after 10 l.sum (drop l.byte-index l.field)) (2 ^ 64);
 }

@@ -29,5 +29,6 @@ loop-byte-preserved c =
           (omega (arith, c.if-not-is_ascii_digit.ensures.cases));
       digits = c.loop-byte.invariant.digits ∙ digits-next xs i (omega arith) d;
       sum = c.loop-byte.invariant.sum ∙ value-next xs i c.loop-byte.sum (omega arith) d
-          ∙ ap (λ n. digits_value_after 10 (10 * c.loop-byte.sum + n) (drop (i + 1) xs)) (sym c.from.ensures);
+          ∙ ap (λ n. digits_value_after 10 (10 * c.loop-byte.sum + n) (drop (i + 1) xs))
+          (sym c.from.ensures);
     }

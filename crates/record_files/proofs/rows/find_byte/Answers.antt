@@ -11,8 +11,10 @@ same-is a b h = grind (arith, nat_tests)
 
 pub returns-in-Some-clause-cut : goal.returns-in-Some-clause-cut
 returns-in-Some-clause-cut c = λ lt.
-    split-cut c.args.sought c.args.bytes.now c.in-Some.at lt (is-same _ c.args.sought c.in-Some.ensures.1)
-    (λ k below here. c.in-Some.ensures.0.before k (omega arith) below (same-is _ c.args.sought here))
+    split-cut c.args.sought c.args.bytes.now c.in-Some.at lt
+    (is-same _ c.args.sought c.in-Some.ensures.1)
+    (λ k below here. c.in-Some.ensures.0.before k (omega arith) below
+    (same-is _ c.args.sought here))
 
 pub returns-in-None-clause-whole : goal.returns-in-None-clause-whole
 returns-in-None-clause-whole c = λ _.

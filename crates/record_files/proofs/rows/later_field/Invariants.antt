@@ -8,5 +8,6 @@ abbrev pub invariant-loop : goal.invariant-loop
 invariant-loop l = record {
   short : length l.rest ≤ 2 ^ 30;
   there : l.index - l.counter < length (split COMMA l.rest);
-  same : slice_get (split COMMA l.text) l.index ≡ slice_get (split COMMA l.rest) (l.index - l.counter);
+  same : slice_get (split COMMA l.text) l.index
+      ≡ slice_get (split COMMA l.rest) (l.index - l.counter);
 }

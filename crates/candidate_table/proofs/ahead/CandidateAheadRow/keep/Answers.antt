@@ -12,7 +12,8 @@ returns g c = λ row says.
     record {
       line = says.line;
       number = says.number;
-      few = subst (λ (codes : List ℕ). length codes ≤ MOST_ENTRIES) says.codes c.as_slice.ensures.few;
+      few = subst
+          (λ (codes : List ℕ). length codes ≤ MOST_ENTRIES) says.codes c.as_slice.ensures.few;
       list = subst (λ (line : ℕ). IsListFound programmes line (codes_in row) found) says.line
           (subst (λ (codes : List ℕ). IsListFound programmes c.args.fields.line codes found) codes
           c.in_ok-find_list.ensures);

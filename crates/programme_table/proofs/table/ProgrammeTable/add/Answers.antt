@@ -39,10 +39,12 @@ added c =
     ∙ sym (place-insert_key t.names name) in
     let code : c.from.result ≡ c.args.fields.now.code = c.from.ensures ∙ c.get.ensures.value in
     let absent : lookup (nat_eq c.from.result) c.reserve-2.new.self.entries ≡ None =
-    ap (λ (entries : List (ℕ × ℕ)). lookup (nat_eq c.from.result) entries) c.reserve-2.ensures.entries
+    ap (λ (entries : List (ℕ × ℕ)). lookup (nat_eq c.from.result) entries)
+    c.reserve-2.ensures.entries
     ∙ ap (λ (key : ℕ). lookup (nat_eq key) t.codes) code
     ∙ clash-new t c.args.fields.now (free c) in
-    let codes : c.insert.new.self.entries ≡ t.codes ++ (c.args.fields.now.code, c.args.fields.now.line) ∷ [] =
+    let codes : c.insert.new.self.entries
+    ≡ t.codes ++ (c.args.fields.now.code, c.args.fields.now.line) ∷ [] =
     (rw c.unwrap.ensures at c.insert.ensures.entries)
     ∙ insert_entry-new nat_eq c.reserve-2.new.self c.from.result c.args.fields.now.line absent
     ∙ ap (λ (entries : List (ℕ × ℕ)). entries ++ (c.from.result, c.args.fields.now.line) ∷ [])

@@ -14,8 +14,12 @@ returns-in_default g c = λ earlier row has says.
     ap (λ (text : List ℕ). position (bytes_eq text) names) (sym says.name)
     ∙ sym c.kind_of.ensures ∙ c.in_default.is in
     let none : standing_in names numbers row ≡ None =
-    ap (λ kind. standing_of kind (position (nat_eq (candidate_in row)) numbers) (rank_in row)) type in
-    (refl, HasStandings-unknown names numbers earlier row c.args.self.now _ has none refl refl has.last)
+    ap
+    (λ kind. standing_of kind (position (nat_eq (candidate_in row)) numbers) (rank_in row))
+    type in (
+      refl,
+      HasStandings-unknown names numbers earlier row c.args.self.now _ has none refl refl has.last,
+    )
 
 pub returns-in_default-index_of : goal.returns-in_default-index_of
 returns-in_default-index_of g c = λ earlier row has says.

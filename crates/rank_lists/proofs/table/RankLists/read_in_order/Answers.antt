@@ -5,31 +5,31 @@ use Rattle.rank_lists.proofs.table.RankLists.read_in_order.Goals as goal
 pub returns-in-Some : goal.returns-in-Some
 returns-in-Some g c =
     fault-of-duplicate (g.T.TypeFinder.names c.args.types.now)
-    (g.C.Finder.numbers c.args.candidates.now) c.args.bytes.now c.in_ok-read.read.table
-    c.in_ok-read.read.fault c.in_ok-duplicate.field-0 (c.in_ok-read.ensures {u = tt})
+    (g.C.Finder.numbers c.args.candidates.now) c.args.bytes.now c.in_ok-read.read
+    c.in_ok-duplicate.field-0 (c.in_ok-read.ensures {u = tt})
     (c.in_ok-duplicate.ensures {u = tt}) c.in-Some.duplicate c.in-Some.is
     ∙ ap (λ fault. Some fault) (sym c.fault.ensures)
 
 pub returns-in-Some-fault : goal.returns-in-Some-fault
 returns-in-Some-fault g c =
     fault-of-stop (g.T.TypeFinder.names c.args.types.now)
-    (g.C.Finder.numbers c.args.candidates.now) c.args.bytes.now c.in_ok-read.read.table
-    c.in_ok-read.read.fault c.in_ok-duplicate.field-0 (c.in_ok-read.ensures {u = tt})
+    (g.C.Finder.numbers c.args.candidates.now) c.args.bytes.now c.in_ok-read.read
+    c.in_ok-duplicate.field-0 (c.in_ok-read.ensures {u = tt})
     (c.in_ok-duplicate.ensures {u = tt}) c.in-Some-fault.fault c.in_default.is c.in-Some-fault.is
 
 pub of_turns-requires : goal.of_turns-requires
 of_turns-requires g c =
     (table-of-turns (g.T.TypeFinder.names c.args.types.now)
-    (g.C.Finder.numbers c.args.candidates.now) c.args.bytes.now c.in_ok-read.read.table
-    c.in_ok-read.read.fault c.in_ok-duplicate.field-0 (c.in_ok-read.ensures {u = tt})
+    (g.C.Finder.numbers c.args.candidates.now) c.args.bytes.now c.in_ok-read.read
+    c.in_ok-duplicate.field-0 (c.in_ok-read.ensures {u = tt})
     (c.in_ok-duplicate.ensures {u = tt}) c.count.result _ _ c.in_default.is c.in_default-fault.is
     c.count.ensures.length (omega (arith, c.count.type_inv)) (c.in_ok-turns.ensures {u = tt})).2
 
 pub returns : goal.returns
 returns g c =
     let read = table-of-turns (g.T.TypeFinder.names c.args.types.now)
-    (g.C.Finder.numbers c.args.candidates.now) c.args.bytes.now c.in_ok-read.read.table
-    c.in_ok-read.read.fault c.in_ok-duplicate.field-0 (c.in_ok-read.ensures {u = tt})
+    (g.C.Finder.numbers c.args.candidates.now) c.args.bytes.now c.in_ok-read.read
+    c.in_ok-duplicate.field-0 (c.in_ok-read.ensures {u = tt})
     (c.in_ok-duplicate.ensures {u = tt}) c.count.result _ _ c.in_default.is c.in_default-fault.is
     c.count.ensures.length (omega (arith, c.count.type_inv)) (c.in_ok-turns.ensures {u = tt}) in
     (read.0, c.of_turns.ensures ∙ read.1)

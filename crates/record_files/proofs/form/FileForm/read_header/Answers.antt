@@ -12,8 +12,10 @@ returns-clause-result c =
     let version : version_of form row ≡ Some c.in-Some-version_of.version =
     (λ j. position (bytes_eq (sym c.bytes.ensures j)) (Form.headers (sym c.self.view_is j)))
     ∙ sym c.version_of.ensures ∙ c.in-Some-version_of.is in
-    let short : long_fault form row ≡ None = sym c.long_fault.ensures ∙ c.in_default-long_fault.is in
-    let read = header-read form row c.next.new.self c.in-Some-version_of.version c.field_count.result
+    let short : long_fault form row ≡ None =
+    sym c.long_fault.ensures ∙ c.in_default-long_fault.is in
+    let read =
+    header-read form row c.next.new.self c.in-Some-version_of.version c.field_count.result
     short version c.field_count.ensures in
     subst (λ (all : List Row). (first_row_fault form all ≡ None)
     × (record { version = c.in-Some-version_of.version; fields = c.field_count.result }
