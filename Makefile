@@ -1,6 +1,6 @@
 # make          proves and builds the programs, with what they stand on
 # make install  copies the two binaries to $(DESTDIR)$(PREFIX)/bin; they need nothing of the kit when they run
-# make test     the whole gate: every proof, wrong body, test and program
+# make test     the whole gate: every proof, wrong body, test and program; and runs of the built programs
 
 PREFIX ?= /usr/local
 PLACE = crates/place_program/out/place_program

@@ -5,6 +5,9 @@ A size is one of small, middle, million, full and unlisted. Each market is made 
 worker and with four. For each run the wall time, the processor time, the peak memory and the wall time of each phase are
 printed, and the ratios to plain Rust, which has one thread. A phase ends where the program opens its next file, or writes
 its first byte; it is seen from outside, the same way for both programs.
+
+Where the variable OTHER names another build of the program, that runs too with one worker, in turn with this one and three
+times each, and the ratio of the least processor times of the two is printed.
 """
 import os
 import shutil
@@ -14,7 +17,8 @@ import time
 
 HERE = os.path.dirname(os.path.abspath(__file__))
 OUT = os.path.join(HERE, "out")
-PROGRAM = os.path.join(HERE, "..", "crates", "place_program", "out", "place_program")
+PROGRAM = os.environ.get("PROGRAM", os.path.join(HERE, "..", "crates", "place_program", "out", "place_program"))
+OTHER = os.environ.get("OTHER")
 PLAIN = os.path.join(OUT, "plain")
 FILES = ["programmes.csv", "candidates.csv", "ranks.csv"]
 # candidates, programmes, types, rank rows
@@ -102,6 +106,16 @@ def timed(command, files, *words, do="place"):
     return Run(printed, now, usage, phases, os.waitstatus_to_exitcode(status))
 
 
+def compare_builds(files):
+    """The ratio of this build to another, by the least processor time of three runs each, in turn."""
+    if not OTHER:
+        return
+    runs = [[timed(command, files, "--workers", "1") for command in (PROGRAM, OTHER)] for _ in range(3)]
+    this, other = (min(pair[at].cpu for pair in runs) for at in (0, 1))
+    same = len({run.text() for pair in runs for run in pair}) == 1
+    print("  processors, this build %.2f s to the other %.2f s: %.2f%s" % (this, other, this / other, "" if same else ", ANOTHER TEXT"))
+
+
 def main():
     if not os.path.exists(PROGRAM):
         sys.exit("bench: build the program first, as with ./place")
@@ -119,6 +133,7 @@ def main():
         for name, run in (("one worker", one), ("four workers", four), ("plain", plain)):
             print(run.line(name))
         print("  processors, one worker to plain %.2f" % (one.cpu / plain.cpu))
+        compare_builds(files)
         print("  wall, four workers to one %.2f, to plain %.2f" % (four.wall / one.wall, four.wall / plain.wall))
 
 

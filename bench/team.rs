@@ -100,28 +100,62 @@ impl Dict {
     }
 }
 
-/// The shared words: the claim number, the mark, the seat counts, the cells.
+/// The shared words: the claim number, the mark, the seat counts, the cells, and the flags of full programmes.
 struct Words {
     words: Vec<AtomicU64>,
     cells: usize,
+    flags: usize,
 }
 
 const CLAIM: usize = 0;
 const MARK: usize = 1;
 const SEATS: usize = 2;
+const FLAGS_PER_WORD: usize = 64;
+
+fn is_raised(flags: u64, programme: u32) -> bool {
+    flags >> (programme as usize % FLAGS_PER_WORD) & 1 == 1
+}
 
 impl Words {
     fn open(dict: &Dict) -> Words {
         let cells = SEATS + dict.fills.len();
-        let mut words = Vec::with_capacity(cells + dict.turns());
+        let flags = cells + dict.turns();
+        let flag_words = dict.fills.len().div_ceil(FLAGS_PER_WORD);
+        let mut words = Vec::with_capacity(flags + flag_words);
         words.extend([0, 0].map(AtomicU64::new));
         words.extend(dict.fills.iter().map(|fill| AtomicU64::new(u64::from(*fill))));
-        words.extend((0..dict.turns()).map(|_| AtomicU64::new(0)));
-        Words { words, cells }
+        words.extend((0..dict.turns() + flag_words).map(|_| AtomicU64::new(0)));
+        for (programme, (fill, quota)) in dict.fills.iter().zip(&dict.quotas).enumerate() {
+            if fill >= quota {
+                let word = words[flags + programme / FLAGS_PER_WORD].get_mut();
+                *word |= 1 << (programme % FLAGS_PER_WORD);
+            }
+        }
+        Words { words, cells, flags }
     }
 
     fn is_full(&self, dict: &Dict, programme: u32) -> bool {
         self.words[SEATS + programme as usize].load(SeqCst) >= u64::from(dict.quotas[programme as usize])
+    }
+
+    /// The first place of a list whose programme has a seat left: one load of a word of flags passes the entries of that
+    /// word which are raised, and a seat count is read only at a lowered flag.
+    fn open_place(&self, dict: &Dict, list: &[u32]) -> usize {
+        let mut place = 0;
+        while place < list.len() {
+            let word = list[place] as usize / FLAGS_PER_WORD;
+            let flags = self.words[self.flags + word].load(SeqCst);
+            while place < list.len() && list[place] as usize / FLAGS_PER_WORD == word && is_raised(flags, list[place]) {
+                place += 1;
+            }
+            if place < list.len() && list[place] as usize / FLAGS_PER_WORD == word {
+                if !self.is_full(dict, list[place]) {
+                    return place;
+                }
+                place += 1;
+            }
+        }
+        place
     }
 
     fn work(&self, dict: &Dict) {
@@ -130,10 +164,18 @@ impl Words {
             if turn >= dict.turns() {
                 return;
             }
-            let list = dict.list(turn);
-            let place = list.iter().position(|programme| !self.is_full(dict, *programme)).unwrap_or(list.len());
+            let place = self.open_place(dict, dict.list(turn));
             self.words[self.cells + turn].store(2 * place as u64 + 1, SeqCst);
             self.try_mark(dict);
+        }
+    }
+
+    /// Takes a seat, and raises the programme's flag where it was the last.
+    fn take_seat(&self, dict: &Dict, programme: u32) {
+        let before = self.words[SEATS + programme as usize].fetch_add(1, SeqCst);
+        if before + 1 >= u64::from(dict.quotas[programme as usize]) {
+            let at = programme as usize;
+            self.words[self.flags + at / FLAGS_PER_WORD].fetch_or(1 << (at % FLAGS_PER_WORD), SeqCst);
         }
     }
 
@@ -154,7 +196,7 @@ impl Words {
                 place += 1;
             }
             if let Some(programme) = list.get(place) {
-                self.words[SEATS + *programme as usize].fetch_add(1, SeqCst);
+                self.take_seat(dict, *programme);
             }
             self.words[self.cells + turn].store(2 * place as u64 + 2, SeqCst);
             turn += 1;

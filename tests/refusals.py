@@ -1,11 +1,12 @@
 #!/usr/bin/env python3
-"""Refuses in turn what the built program asks of the system, and looks at how it ends: refusals.py [PART..]
+"""Refuses in turn what the built programs ask of the system, and looks at how they end: refusals.py [PART..]
 
-Build the program first, as with ./place. The parts, all of them where none is named:
+Build the programs first, as with ./place and ./place-desk. The parts, all of them where none is named:
 
-    memory   each allocation of each command fails once, until a run asks for no more of them; needs a C compiler
+    memory   each allocation of each command fails once, until no run seen asked for so many; needs a C compiler
     limits   the address space is limited, from nothing up step by step, until the command is done; on a market of
-             3,000 candidates, since a small one is placed wherever the program begins
+             3,000 candidates, since a small one is placed wherever the program begins; below some limits the system
+             does not begin the program at all: those runs show nothing of it, and are told apart
     system   a full disk, a closed pipe, files that are missing, a directory or a pipe, words that are no text
 
 Each run has to end by its own status: done with the whole text, or the refusal with its line on standard error and
@@ -21,8 +22,9 @@ import threading
 
 HERE = os.path.dirname(os.path.abspath(__file__))
 ROOT = os.path.dirname(HERE)
-PROGRAM = os.path.join(ROOT, "crates", "place_program", "out", "place_program")
-WORKED = ("examples", os.path.join("examples", "three_rounds"))
+PLACE = os.path.join(ROOT, "crates", "place_program", "out", "place_program")
+DESK = os.path.join(ROOT, "crates", "desk_program", "out", "desk_program")
+WORKED = ("examples", os.path.join("examples", "freed_seat"))
 DONE, NO_WORDS, WORDS, FILE_FAULT, READ_FAULT, WRITE_FAULT, MEMORY, AUDIT_NO = range(8)
 WANT_OF_MEMORY = b"want of memory\n"
 LARGEST_LIMIT = 1 << 30
@@ -79,11 +81,11 @@ class Tally:
         print("%-44s %s%s" % (name, told, "" if wrong == 0 else "   WRONG: %d" % wrong), flush=True)
 
 
-def run(words, **how):
-    """Status, standard output and standard error of the program; a status below 0 is a signal."""
+def run(words, program=PLACE, **how):
+    """Status, standard output and standard error of a program; a status below 0 is a signal."""
     how.setdefault("stdout", subprocess.PIPE)
     how.setdefault("stderr", subprocess.PIPE)
-    ended = subprocess.run([PROGRAM, *words], stdin=subprocess.DEVNULL, timeout=SECONDS, **how)
+    ended = subprocess.run([program, *words], stdin=subprocess.DEVNULL, timeout=SECONDS, **how)
     return ended.returncode, ended.stdout, ended.stderr
 
 
@@ -92,7 +94,7 @@ def files_in(folder, *names):
 
 
 def made_market(room):
-    """A folder with a market of 3,000 candidates, 60 programmes and 4 types, and its placement."""
+    """A folder with a market of 3,000 candidates, 60 programmes and 4 types, its placement, and requests of all."""
     folder = os.path.join(room, "made")
     os.mkdir(folder)
     programmes = ["programme,type,quota"] + ["%d,T%d,%d" % (code, code % 4, 30 + code % 7) for code in range(1, 61)]
@@ -107,33 +109,33 @@ def made_market(room):
             file.write("\n".join(lines) + "\n")
     with open(os.path.join(folder, "placement.csv"), "wb") as file:
         file.write(run(["place", *files_in(folder, *names)])[1])
+    with open(os.path.join(folder, "requests.csv"), "w") as file:
+        file.write("candidate\n" + "".join("%d\n" % (number * 7 % 3_001) for number in range(1, 3_001)))
     return folder
 
 
-def commands(workers, folders, numbers):
-    """Each command that the program knows, on each of the markets and with these numbers of one to make, with the
-    status and the text of a free run."""
+def commands(workers, folders, numbers, desk):
+    """Each command of `place`, on each of the markets and with these numbers of one to make, and the desk on the files
+    of a folder: its name, program and words, and how a free run ends."""
     found = []
     for folder in folders:
         files = files_in(folder, "programmes", "candidates", "ranks")
         placement = files_in(folder, "placement")
         for words in (["place", *files], ["base", *files], ["reasons", *files], ["audit", *files, *placement]):
-            found.append((words[0] + " " + os.path.basename(folder), words))
-    found.append(("make", ["make", *numbers]))
-    for name, words in found:
-        words = words + ["--workers", str(workers)]
-        status, text, notes = run(words)
-        if (status, notes) == (WORDS, b"words UnknownCommand 1\n"):
-            print("%-44s is no command of this program" % name)
-        elif status in (DONE, AUDIT_NO) and notes == b"":
-            yield name + " by %d" % workers, words, status, text
-        else:
-            sys.exit("refusals: a free run of %s ended with status %d: %s" % (name, status, notes))
+            found.append((words[0] + " " + os.path.basename(folder), PLACE, words + ["--workers"]))
+    found.append(("make", PLACE, ["make", *numbers, "--workers"]))
+    found.append(("desk " + os.path.basename(desk), DESK, files_in(desk, "placement", "requests") + ["--clerks"]))
+    for name, program, words in found:
+        words = words + [str(workers)]
+        free = run(words, program)
+        if free[0] not in (DONE, AUDIT_NO) or (program == PLACE and free[2] != b""):
+            sys.exit("refusals: a free run of %s ended with status %d: %s" % (name, free[0], free[2]))
+        yield name + " by %d" % workers, program, words, free
 
 
-def answer_of(ended, status, text):
+def answer_of(ended, free):
     """What a run came to that may have been refused memory: None where it may not end so."""
-    if ended == (status, text, b""):
+    if ended == free:
         return "done"
     if ended == (MEMORY, b"", WANT_OF_MEMORY):
         return "want of memory"
@@ -157,58 +159,69 @@ def memory(tally, room):
         return
     counted = os.path.join(room, "counted")
 
-    def refusing(number, words):
+    def refusing(number, program, words):
         with open(counted, "wb") as file:
             file.write(bytes(8))
-        ended = run(words, env={"LD_PRELOAD": shim, "REFUSED": str(number), "COUNTED": counted})
+        ended = run(words, program, env={"LD_PRELOAD": shim, "REFUSED": str(number), "COUNTED": counted})
         with open(counted, "rb") as file:
             return ended, int.from_bytes(file.read(), sys.byteorder)
 
     for workers in (1, 7):
-        for name, words, status, text in commands(workers, WORKED, ["7", "300", "40", "5"]):
-            counts, wrong, number = {}, 0, 0
-            while True:
+        desk = os.path.join("examples", "desk")
+        for name, program, words, free in commands(workers, WORKED, ["7", "300", "40", "5"], desk):
+            counts, wrong, number, most = {}, 0, 0, 1
+            # how many calls there are differs a little from run to run, since threads make some
+            while number <= most:
                 number += 1
-                ended, calls = refusing(number, words)
+                ended, calls = refusing(number, program, words)
                 if calls == 0:
                     sys.exit("refusals: the program takes no memory through the C library")
-                answer = answer_of(ended, status, text)
-                if calls < number:
-                    wrong += answer != "done"
-                    break
-                if answer is None:
+                most = max(most, calls)
+                answer = answer_of(ended, free)
+                if calls < number and answer == "done":
+                    continue
+                # the words are there before any other memory is asked for
+                late = answer == "without words" and "want of memory" in counts
+                if calls < number or late or answer is None:
                     wrong += 1
                     print("  allocation %d: status %d, %r, %r" % (number, *ended))
                 counts[answer or "wrong"] = counts.get(answer or "wrong", 0) + 1
-            tally.refused += number - 1
-            tally.case("memory: " + name, "%d refused in turn: %s" % (number - 1, told(counts)), wrong)
+            tally.refused += sum(counts.values())
+            tally.case("memory: " + name, "%d refused in turn: %s" % (sum(counts.values()), told(counts)), wrong)
 
 
 def limits(tally, room):
-    def limited(limit, words):
+    def limited(limit, words, program):
         def set_limit():
             resource.setrlimit(resource.RLIMIT_AS, (limit, limit))
 
         try:
-            return run(words, preexec_fn=set_limit)
+            return run(words, program, preexec_fn=set_limit)
         except (OSError, subprocess.SubprocessError):
             return None
 
-    def begins(limit):
-        return limited(limit, []) == (WORDS, b"", b"words NoCommand 0\n")
+    def begins(limit, program):
+        line = b"words NoCommand 0\n" if program == PLACE else b"words WordCount 1\n"
+        return limited(limit, [], program) == (WORDS, b"", line)
+
+    def least(program):
+        """Below this the system does not even begin the program."""
+        low, high = 0, LARGEST_LIMIT
+        while high - low > STEP:
+            middle = (low + high) // 2
+            low, high = (low, middle) if begins(middle, program) else (middle, high)
+        return high
 
     made = made_market(room)
-    # below this the system does not even begin the program
-    low, high = 0, LARGEST_LIMIT
-    while high - low > STEP:
-        middle = (low + high) // 2
-        low, high = (low, middle) if begins(middle) else (middle, high)
+    begun = {program: least(program) for program in (PLACE, DESK)}
     for workers in (1, 7):
-        for name, words, status, text in commands(workers, [made], ["7", "3000", "60", "4"]):
+        for name, program, words, free in commands(workers, [made], ["7", "3000", "60", "4"], made):
             counts, wrong, limit, done_from = {}, 0, 0, 0
             while limit < LARGEST_LIMIT:
-                ended = limited(limit, words)
-                answer = "not begun" if limit < high and not begins(limit) else ended and answer_of(ended, status, text)
+                ended = limited(limit, words, program)
+                answer = ended and answer_of(ended, free)
+                if limit < begun[program] and not begins(limit, program):
+                    answer = None if ended and ended[1] else "not begun"
                 if answer is None:
                     wrong += 1
                     print("  limit %d KiB: %s" % (limit >> 10, ended))
@@ -255,7 +268,7 @@ def system(tally, room):
     def into_closed_pipe(words, read_first):
         reading, writing = os.pipe()
         child = subprocess.Popen(
-            [PROGRAM, *words], stdin=subprocess.DEVNULL, stdout=writing, stderr=subprocess.PIPE, pass_fds=()
+            [PLACE, *words], stdin=subprocess.DEVNULL, stdout=writing, stderr=subprocess.PIPE, pass_fds=()
         )
         os.close(writing)
         if read_first:
@@ -291,11 +304,21 @@ def system(tally, room):
     fed("ranks from a pipe without a byte", b"", 3, header)
     ends("a word that is no text", run([b"place", b"\xff"]), (NO_WORDS, b"", b""))
     ends("no words", run([]), (WORDS, b"", b"words NoCommand 0\n"))
+    desk = files_in(os.path.join("examples", "desk"), "placement", "requests")
+    registered = run(desk, DESK)[1]
+    with open("/dev/full", "wb") as full:
+        ends("the desk's text on a full disk", run(desk, DESK, stdout=full), write_fault)
+        ends("the desk's line on a full disk", run(desk, DESK, stderr=full), (DONE, registered, None))
+    for at, what in ((0, "a placement"), (1, "requests")):
+        words = list(desk)
+        words[at] = os.path.join(room, "missing")
+        ends("the desk, where %s cannot be opened" % what, run(words, DESK), read_fault)
+    ends("the desk without words", run([], DESK), (WORDS, b"", b"words WordCount 1\n"))
 
 
 def main():
-    if not os.path.exists(PROGRAM):
-        sys.exit("refusals: build the program first, as with ./place")
+    if not os.path.exists(PLACE) or not os.path.exists(DESK):
+        sys.exit("refusals: build the programs first, as with ./place and ./place-desk")
     parts = {"memory": memory, "limits": limits, "system": system}
     tally = Tally()
     with tempfile.TemporaryDirectory() as room:

@@ -1,4 +1,5 @@
 // The generator's words, and a market that was made from them by hand.
+
 use crate::make_market;
 use market::Prog;
 use rand_core::utils::NextWord;

@@ -1,4 +1,5 @@
 // Words on both sides of each rule.
+
 use super::{Command, WordsFault, read_words};
 use std::alloc::{AllocError, Global};
 use std::process::Abort;

@@ -27,7 +27,8 @@ pub enum Command {
     Base(u32),
     /// The reason of every list entry in the same placement, by this number of workers.
     Reasons(u32),
-    /// The audit of the placement in a fourth file, by this number of workers.
+    /// The audit of the placement in a fourth file. This number bounds the parts in which the three
+    /// files are read, and the threads that make their market.
     Audit(u32),
     /// The summary of a market that is made from numbers, and of its placement.
     Make {

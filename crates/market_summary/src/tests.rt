@@ -1,4 +1,5 @@
 // A summary that was written by hand.
+
 use crate::summary_text;
 use market::examples::three_rounds;
 use market::{Outcome, Placement};

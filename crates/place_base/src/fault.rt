@@ -4,13 +4,18 @@ ghost use Rattle.std.specs.Prelude.{◌≡◌};
 ghost use Rattle.place_base.specs.FaultKind.{fault_number, fault_name};
 ghost use Rattle.place_base.specs.FileKind.{file_name};
 
-/// The kinds of files. No command reads a placement or registrations yet.
+/// The kinds of files.
 #[derive(Clone, Copy, Debug, PartialEq, Eq)]
 pub enum FileKind {
+    /// Programmes with their score types and quotas.
     Programmes,
+    /// Candidates with their preference lists.
     Candidates,
+    /// The ranks of candidates in score types.
     Ranks,
+    /// What each candidate holds: the fourth file of an audit, and the first of the desk.
     Placement,
+    /// The requests that are served at the desk.
     Registrations,
 }
 
@@ -54,7 +59,7 @@ pub enum FaultKind {
     LineTooLong,
     /// The file has more than 2^30 bytes.
     FileTooLong,
-    /// A candidate of a placement or registrations file is not in the candidates file.
+    /// A candidate of a placement file is not in the candidates file.
     UnknownCandidate,
     /// A seat is not `G` or `R` beside a programme, or not `-` beside none.
     BadSeat,
@@ -107,11 +112,13 @@ impl FaultKind {
 /// A fault of a file, and where it stands.
 #[derive(Clone, Copy, Debug, PartialEq, Eq)]
 pub struct FileFault {
+    /// The file that has the fault.
     pub file: FileKind,
     /// The line, from 1; 0 where the whole file is meant.
     pub line: u32,
     /// The field, from 1; 0 where the whole row is meant.
     pub field: u8,
+    /// What is wrong there.
     pub kind: FaultKind,
     /// The line that a duplicate repeats, else 0.
     pub earlier: u32,

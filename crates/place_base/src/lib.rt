@@ -6,7 +6,7 @@
 mod fault;
 // Tables that find a number or a type name.
 mod finder;
-// The limits of the files, and the bytes that cut them.
+/// The limits of the files, and the bytes that cut them.
 pub mod limits;
 // Candidate numbers and programme codes.
 mod number;

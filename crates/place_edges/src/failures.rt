@@ -1,4 +1,5 @@
 // Which calls are told to fail.
+
 ghost use Rattle.std.specs.Prelude.{◌≡◌, ◌≤◌, ◌↔◌, ◌∷◌, ◌++◌, [], Contains, IsTrue, OnOk, OnErr};
 ghost use Rattle.place_edges.specs.Causes.{counted};
 

@@ -1,4 +1,5 @@
 // Files held in memory, and the one that is being read.
+
 ghost use Rattle.std.specs.Prelude.{◌≡◌, ◌<◌, ◌∷◌, [], min, length, take, Some, None, OnOk, OnErr, MatchOption, slice_get, unwrap_or, is_some};
 ghost use Rattle.std.specs.String.{string_bytes};
 ghost use Rattle.place_edges.specs.Shelf.{TakesCount, left_count};

@@ -1,4 +1,5 @@
 // A shelf in memory, which fails where it is told to.
+
 ghost use Rattle.std.specs.Prelude.{◌≡◌, ◌↔◌, ◌∷◌, ◌++◌, [], min, length, Some, None, true, OnOk, OnErr, IfOk, IsErr, Contains};
 ghost use Rattle.std.specs.Io.{ReadsAtMost};
 ghost use Rattle.std.specs.String.{string_bytes};

@@ -1,4 +1,5 @@
 // A sink in memory, which fails where it is told to.
+
 ghost use Rattle.std.specs.Prelude.{◌≡◌, ◌↔◌, ◌-◌, ◌<◌, ◌≤◌, ◌∷◌, ◌++◌, [], min, length, Some, OnOk, OnErr, IfOk, IsErr};
 ghost use Rattle.std.specs.Io.{WritesAtMost};
 ghost use Rattle.place_edges.specs.Causes.{HasCause, counted, faults_after};

@@ -1,4 +1,5 @@
 // The files and streams of the system. What they hold is not told.
+
 ghost use Rattle.std.specs.Prelude.{◌≡◌, ℕ, None, true};
 ghost use Rattle.std.specs.Io.{ReadsAtMost, WritesAtMost};
 ghost use Rattle.place_edges.specs.Causes.{HasCause, faults_after};

@@ -1,4 +1,5 @@
 // A shelf that holds the same byte many times.
+
 ghost use Rattle.std.specs.Prelude.{◌≡◌, Some, true};
 ghost use Rattle.place_edges.specs.RepeatShelf.{repeated};
 

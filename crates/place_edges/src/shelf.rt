@@ -1,4 +1,5 @@
 // What a shelf is.
+
 ghost use Rattle.std.specs.Prelude.{◌≡◌, ℕ, List, Option, Bool, IsTrue};
 ghost use Rattle.std.specs.Io.{ReadsAtMost};
 ghost use Rattle.place_edges.specs.Causes.{HasCause};

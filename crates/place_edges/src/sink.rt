@@ -1,4 +1,5 @@
 // What a sink is.
+
 ghost use Rattle.std.specs.Prelude.{ℕ, List, Option};
 ghost use Rattle.std.specs.Io.{WritesAtMost};
 ghost use Rattle.place_edges.specs.Causes.{HasCause};

@@ -1,4 +1,5 @@
 // A shelf and a sink that never fail.
+
 ghost use Rattle.std.specs.Prelude.{◌≡◌, ℕ, ◌∷◌, [], Some, None, true, OnOk, OnErr};
 ghost use Rattle.std.specs.String.{string_bytes};
 ghost use Rattle.place_edges.specs.HeldFiles.{files_or_empty};

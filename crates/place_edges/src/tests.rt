@@ -1,4 +1,5 @@
 // What the edges do at each call, in tables.
+
 use crate::real::take_from;
 use crate::{
     Failed, MemShelf, MemSink, ReadStop, RealShelf, RealSink, RepeatShelf, Shelf, Sink, SureShelf,

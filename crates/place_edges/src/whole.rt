@@ -1,4 +1,5 @@
 // A file read whole, and a text written whole.
+
 ghost use Rattle.std.specs.Prelude.{◌≡◌, ◌≤◌, IfOk, IsTrue, IsErrOf, vec_len};
 ghost use Rattle.place_edges.specs.Causes.{Rose};
 ghost use Rattle.place_edges.specs.Shelf.{HasBytes, HasMore, file_limit, tally_with};

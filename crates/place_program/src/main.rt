@@ -1,4 +1,4 @@
-//! Prints the placement of the files that its words name.
+//! Does what its words say over the system's files and streams.
 #![tactic(auto)]
 
 use gate_workers::OpenGate;

@@ -1,4 +1,5 @@
 // What a row says by itself.
+
 ghost use Rattle.std.specs.Prelude.{◌≡◌, ◌≤◌, length, None, Some, MatchResult};
 ghost use Rattle.record_files.specs.Rows.{fields_of};
 ghost use Rattle.placement_file.specs.Growth.{IsFieldsOf};

@@ -1,4 +1,5 @@
 // The requests of a registrations file.
+
 ghost use Rattle.std.specs.Prelude.{◌≡◌, ◌≤◌, length, IfOk};
 ghost use Rattle.record_files.specs.ReadTo.{IsFileRead};
 ghost use Rattle.placement_file.specs.Requests.{requests_fault, requests_in};

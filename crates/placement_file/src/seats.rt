@@ -1,4 +1,5 @@
 // A placement file that is read without other files.
+
 ghost use Rattle.std.specs.Prelude.{◌≡◌, ◌≤◌, ◌<◌, length, None, Some, MatchResult};
 ghost use Rattle.record_files.specs.ReadTo.{IsTableRead};
 ghost use Rattle.record_files.specs.Rows.{fields_of};

@@ -1,4 +1,5 @@
 // The rows of a placement file, candidate by candidate.
+
 ghost use Rattle.std.specs.Prelude.{◌≡◌, ◌≤◌, ◌<◌, ℕ, Option, length, map, replicate, None, Some, IfOk, MatchResult};
 ghost use Rattle.market.specs.Stability.{held_by};
 ghost use Rattle.record_files.specs.ReadTo.{IsFileRead};

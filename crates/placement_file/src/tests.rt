@@ -1,4 +1,5 @@
 // Files and texts beside the codes 101, 202 and 303 and the candidates 7, 10000000146 and 8.
+
 use super::{SeatList, placement_text, read_alone, read_placement, read_requests};
 use place_base::FaultKind::{
     self, BadSeat, Duplicate, FieldCount, Header, LineTooLong, NotNumber, OutOfRange,

@@ -1,4 +1,5 @@
 // The text of a placement.
+
 ghost use Rattle.std.specs.Prelude.{◌≡◌, ◌<◌, ◌++◌, ℕ, IfOk, OnOk, Option, length};
 ghost use Rattle.market.specs.Stability.{held_by};
 ghost use Rattle.placement_file.specs.Texts.{candidate_row, placement_text as text_of_placement};
