@@ -55,6 +55,7 @@ new_part_of round worker n share me table is number one = record {
   number = ap (λ (x : SeatKnows). x.number) is ∙ number;
   share = ap (λ (x : SeatKnows). x.share) is ∙ one;
   tries = ap (λ (x : SeatKnows). x.tries) is;
+  missed = ap (λ (x : SeatKnows). x.missed) is;
   took = ap (λ (x : SeatKnows). x.took) is;
   released = ap (λ (x : SeatKnows). x.released) is;
   flags = ap (λ (x : SeatKnows). x.flags) is;
