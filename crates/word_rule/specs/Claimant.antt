@@ -1,5 +1,5 @@
--- What each atomic step of a claimant tells, by the word found: that the event could be made at this
--- step, and what the seat is then.
+-- What each atomic step of a claimant tells, by the word found: that the event could be made at
+-- this step, and what the seat is then.
 use Rattle.std.specs.Prelude.{◌≡◌, ℕ, ◌/◌, ◌<◌, List, [], ◌∷◌, ◌++◌, nat_lt, slice_get, Option, Some, None, IsSome}
 use Rattle.market.specs.Dictatorships.{Dictatorship}
 use Rattle.interleaving_core.specs.declared.parts.Claiming.{Claiming}
