@@ -1,12 +1,11 @@
 -- The phase and the count that a seat's copies show are those that its condition speaks of. So
 -- what the condition says, and the ranges that every seat keeps, hold of the copies.
-use Rattle.std.proofs.Common.{◌≡◌, ℕ, ◌<◌, ◌≤◌, false, length, Option, Some, None, sym, refl, subst, ap, ◌∙◌, arith}
+use Rattle.std.proofs.Common.{◌≡◌, ℕ, ◌<◌, ◌≤◌, false, length, Some, sym, refl, subst, ap, ◌∙◌, arith}
 use Rattle.market.specs.Dictatorships.{Dictatorship, IsValidDictatorship, list_at}
 use Rattle.interleaving_core.specs.declared.parts.Cell.{Cell}
 use Rattle.interleaving_core.specs.declared.parts.Cell.TheVariants.{Empty, Posted, Committed}
 use Rattle.interleaving_core.specs.declared.parts.Phase.{Phase}
 use Rattle.interleaving_core.specs.declared.parts.Phase.TheVariants.{Idle, Halted, Scan, Ready, Seated, Raised}
-use Rattle.interleaving_core.specs.declared.parts.Holding.{Holding}
 use Rattle.interleaving_core.specs.Core.{turn_count, entry, is_committed, hold_at}
 use Rattle.interleaving_core.specs.Events.{Looks, Weighs, Seats, Seals, Releases, IsAllowed, CanSeal, phase_after_look}
 use Rattle.word_rule.specs.Layout.{cell_of}

@@ -3,8 +3,9 @@
 //! Where a turn takes a programme's last seat, the programme's flag is raised before the turn is
 //! committed.
 //!
-//! Each call on the mark moves its seat by one event of the core. What it answers is told by the word that it finds at that step, whatever other workers do
-//! before and after.
+//! Each call on the mark moves its seat by one event of the core, which could be made at this step.
+//! What it answers is told by the word that it finds there, whatever other workers do before and
+//! after.
 #![tactic(auto)]
 
 // The six calls of the mark's holder, and of who tries to take it.

@@ -55,8 +55,8 @@ fn ends(rt: &impl Abort, round: &SharedRound, me: &mut WorkSeat)
     }
 }
 
-// The seat looks at the flags of the next entries of its turn's list, and answers whether it came to
-// one that is lowered.
+// The seat looks at the flags of the next entries of its turn's list, and answers whether it came
+// to one that is lowered.
 fn looks_at_flags(rt: &impl Abort, round: &SharedRound, dict: &Dict, me: &mut WorkSeat) -> bool
     requires seat { IsSeatOf round.now me.old × (dict.now ≡ dict_of round.now) }
     ensures step { HasStepped round.now me.old me.new (knows me.old).core.owes }

@@ -1,9 +1,9 @@
 -- The claim that a seat's copy shows is the one that its condition speaks of: so its next entry is
 -- one of the round, and the seat's copy after a look is the claim that the look leads to.
-use Rattle.std.proofs.Common.{◌≡◌, ℕ, ◌<◌, Bool, false, length, Some, subst, ap, arith}
+use Rattle.std.proofs.Common.{◌≡◌, ◌<◌, false, length, Some, subst, ap, arith}
 use Rattle.market.specs.Dictatorships.{Dictatorship, list_at}
 use Rattle.interleaving_core.specs.declared.parts.Claiming.{Claiming}
-use Rattle.interleaving_core.specs.Core.{turn_count, entry, claim_at}
+use Rattle.interleaving_core.specs.Core.{turn_count, entry}
 use Rattle.interleaving_core.specs.Events.{ReadsFlags, IsAllowed}
 use Rattle.word_rule.specs.Rounds.{knows, dict_of, IsSeatOf}
 use Rattle.word_rule.specs.declared.seat.SharedRound.{SharedRound}

@@ -2,9 +2,9 @@
 //! the entries of its list that they show to be full; the mark's holder raises the flag of a
 //! programme that it has filled.
 //!
-//! Each call moves its seat by one event of the core, told by the word found at that step. A flag
-//! is raised only where its programme is full, and no seat count ever falls, so a flag that was
-//! found raised tells of a full programme for the whole round.
+//! Each call moves its seat by one event of the core, which could be made at this step, told by the
+//! word found there. A flag is raised only where its programme is full, and no seat count ever
+//! falls, so a flag that was found raised tells of a full programme for the whole round.
 #![tactic(auto)]
 
 // The two calls.

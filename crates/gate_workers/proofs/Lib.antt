@@ -1,2 +1,3 @@
 mod Turns
+mod Points
 mod Teams

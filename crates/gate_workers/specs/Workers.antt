@@ -14,8 +14,8 @@ use Rattle.claim_words.specs.Claimant.{MayClaim, MayPost}
 use Rattle.gate_workers.specs.declared.gate.GatePoint.{GatePoint}
 use Rattle.gate_workers.specs.declared.gate.GatePoint.TheVariants.{Claimed, BeforeRead, Posted, Took, Missed, Sealed, Released}
 
--- the seat has looked at flags and read seat counts: of what it knows of the core its claim alone is
--- another one
+-- the seat has looked at flags and read seat counts: of what it knows of the core its claim alone
+-- is another one
 pub record HasMoved (old new : WorkSeat) (claim : Option Claiming) : Type 0 where
   pub core : (knows new).core ≡ with_claim (knows old).core claim
   pub tries : (knows new).tries ≡ (knows old).tries
@@ -61,17 +61,28 @@ abbrev pub IsLastPosted : List OwnTurn → ℕ → Type 0
 IsLastPosted own k = (earlier : List OwnTurn) × (j : ℕ)
     × (own ≡ earlier ++ record { turn = k; place = Some j } ∷ [])
 
+-- the seat has tried the mark for the turn that it posted, does not hold it, and has not drawn
+-- again
+pub record HasMadeItsTry (x : SeatKnows) : Type 0 where
+  pub claim : x.core.claim ≡ None
+  pub hold : x.core.hold ≡ None
+  pub owes : x.core.owes ≡ false
+  pub working : x.core.done ≡ false
+  pub tried : 0 < x.tries
+
 -- the seat has come to this point: before a reading it has passed the entries before the place, met
--- none, and found the flag of the entry there lowered; at every other point the step is made
+-- none, and found the flag of the entry there lowered; at every other point the step is made, and
+-- none after it. So who committed turn k took the mark with a number of at most k; and of who made
+-- its try, the try missed the mark, or took it, and it has been given back
 abbrev pub HasCome : SeatKnows → GatePoint → Type 0
 HasCome x (Claimed k) = x.core.claim ≡ claim_at k 0 false false
 HasCome x (BeforeRead k j) =
     (x.core.claim ≡ claim_at k j true false) × (j < length (list_at x.dict k))
 HasCome x (Posted k) = (x.core.claim ≡ None) × (x.core.owes ≡ true) × IsLastPosted x.core.own k
 HasCome x (Took c) = (x.core.hold ≡ hold_at c Idle) × (x.took ≡ c)
-HasCome x Missed = (x.core.hold ≡ None) × (x.core.owes ≡ false)
-HasCome x (Sealed k) = x.core.hold ≡ hold_at (k + 1) Idle
-HasCome x (Released c) = (x.core.hold ≡ None) × (x.released ≡ c)
+HasCome x Missed = HasMadeItsTry x × (x.missed ≡ true)
+HasCome x (Sealed k) = (x.core.hold ≡ hold_at (k + 1) Idle) × (x.took ≤ k)
+HasCome x (Released c) = HasMadeItsTry x × (x.missed ≡ false) × (x.released ≡ c)
 
 -- it is a seat of this round that may draw
 pub record IsReady (round : SharedRound) (me : WorkSeat) : Type 0 where

@@ -1,7 +1,8 @@
 // The points of a worker's way, at which a gate may hold it.
 
 /// A point of a worker's way through its turns. `BeforeRead` stands before the reading of an
-/// entry; every other point stands after its step.
+/// entry; every other point stands after its step. A worker comes to a point only where its seat
+/// has made the steps before it; that it comes to each of them is how it is written.
 #[derive(Clone, Copy, PartialEq, Eq, Debug)]
 pub enum GatePoint {
     /// This turn was drawn.
@@ -20,7 +21,8 @@ pub enum GatePoint {
     Released(u32),
 }
 
-/// What each worker calls at each point of its way. It returns, and has no other effect on a run.
+/// What a worker is written to call at each point of its way. It returns, and no answer of a run
+/// depends on it.
 pub trait Gate: Sync {
     /// The worker with this number has come to this point.
     fn at(&self, worker: u32, point: GatePoint);

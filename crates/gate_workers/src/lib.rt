@@ -2,8 +2,8 @@
 //! runs a whole dictatorship on shared words.
 //!
 //! Whatever the schedule of the threads is, each turn is committed with the choice that the
-//! dictatorship makes for it. A gate is called at each point of a worker's way: it may hold the
-//! worker there, and so show that workers run side by side; no answer depends on it.
+//! dictatorship makes for it. A worker is written to call a gate at each point of its way: the gate
+//! may hold the worker there, and so show that workers run side by side; no answer depends on it.
 #![tactic(auto)]
 
 // The points of a worker's way, at which a gate may hold it.

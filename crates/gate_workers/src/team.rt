@@ -16,11 +16,11 @@ use std::thread;
 use std::thread::Threads;
 use word_rule::{SharedRound, Words, WorkSeat, close_round, join_all, open_round};
 
-/// Runs a dictatorship by a team of 1 to `MAX_WORKERS` workers, each in a thread of its own where
-/// one can be made, and gives the words of the closed round: every turn is committed, with the
-/// dictatorship's choice (`Words::choice`). All memory, that of the answer included, is taken
-/// before a worker starts. The counter rises by the number of turns, and by nothing where memory
-/// is refused.
+/// Runs a dictatorship by a team of 1 to `MAX_WORKERS` workers, and gives the words of the closed
+/// round: every turn is committed, with the dictatorship's choice (`Words::choice`). The counter
+/// rises by the number of turns, and by nothing where memory is refused. It is written to run each
+/// worker in a thread of its own where one can be made, and to take all memory, that of the answer
+/// included, before a worker starts.
 pub fn run_team<R: Threads + Sync, G: Gate, L: Ledger>(
     rt: &R,
     alloc: Global,

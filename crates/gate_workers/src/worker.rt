@@ -22,11 +22,11 @@ const SHORTEST_PAUSE: u32 = 64;
 // How often it spins at most, after many misses.
 const LONGEST_PAUSE: u32 = 16_384;
 
-/// Draws a turn, goes along its list up to the first entry that has a seat left, posts the place found
-/// and tries the mark once; who takes it commits turns until a look finds none, and gives it back.
-/// So on until no turn is left: the seat is then done, and has no claim, no debt and not the mark.
-/// Who misses the mark stands back for a while, and longer after the next miss, since who holds it is
-/// quickest alone.
+/// Draws a turn, goes along its list up to the first entry that has a seat left, posts the place
+/// found and tries the mark once; who takes it commits turns until a look finds none, and gives it
+/// back. So on until no turn is left: the seat is then done, and has no claim, no debt and not the
+/// mark. It is written to stand back for a while after a miss, and longer after the next one, since
+/// who holds the mark is quickest alone.
 pub fn work<G: Gate>(round: &SharedRound, dict: &Dict, me: &mut WorkSeat, gate: &G)
     requires seat { IsSeatOf round.now me.old }
     requires dict { dict.now ≡ dict_of round.now }
@@ -124,6 +124,7 @@ fn read_on<G: Gate>(
 fn try_mark<G: Gate>(round: &SharedRound, dict: &Dict, me: &mut WorkSeat, gate: &G) -> bool
     requires seat { IsSeatOf round.now me.old }
     requires dict { dict.now ≡ dict_of round.now }
+    requires working { (knows me.old).core.done ≡ false }
     requires may { MayTake me.old }
     ensures stays { Stays me.old me.new }
     ensures tried { HasTried me.old me.new }

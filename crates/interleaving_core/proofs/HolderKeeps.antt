@@ -151,7 +151,8 @@ weigh_keeps d c i v h j valid s at ok = by (is_open d c (entry d h j)) refl
         let there = now (entry d h n) (valid.list_entries h n was.0.0 (omega arith)) in
         omega arith)
         (λ _. omega arith) in
-        phase_step d c i v h (Scan j) (Ready j) s at ok.0 (λ p. refl) (λ p. refl) (was.0, inside, place)
+        phase_step d c i v h (Scan j) (Ready j) s at ok.0 (λ p. refl) (λ p. refl)
+        (was.0, inside, place)
     by false is =
         let full = ltb-false (seats_of c (entry d h j)) (quota_of d (entry d h j)) is in
         let inside = ok.1 in

@@ -97,7 +97,10 @@ with_hold v hold = record v { hold = hold }
 -- by whether the number drawn is a turn: it is claimed, or the worker is done
 abbrev pub after_claim_if : Bool → View → ℕ → View
 after_claim_if true v k =
-    record v { claim = claim_at k 0 false false; own = v.own ++ record { turn = k; place = None } ∷ [] }
+    record v {
+      claim = claim_at k 0 false false;
+      own = v.own ++ record { turn = k; place = None } ∷ [];
+    }
 after_claim_if false v k = record v { done = true }
 
 -- the view after drawing this number

@@ -1,5 +1,5 @@
--- Words of flags: a word has the flags of 64 programmes, one a bit.
-use Rattle.std.specs.Prelude.{ℕ, zero, suc, ◌+◌, ◌*◌, ◌/◌, ◌%◌, ◌^◌, ◌==◌, ◌&&◌, Bool, true, false, List, length, map, nat_lt, nat_le, slice_index}
+-- Words of flags: a word has the flags of `FLAGS_PER_WORD` programmes, one a bit.
+use Rattle.std.specs.Prelude.{ℕ, zero, suc, ◌+◌, ◌-◌, ◌*◌, ◌/◌, ◌%◌, ◌^◌, ◌==◌, ◌&&◌, Bool, true, false, List, length, map, nat_lt, nat_le, slice_index}
 use Rattle.std.specs.List.{range_with_len}
 use Rattle.std.specs.Int.{bit_at}
 use Rattle.std.specs.Int.RustNames.{bit_or}
@@ -8,7 +8,7 @@ use Rattle.interleaving_core.specs.declared.limits.TheConstants.{FLAGS_PER_WORD}
 
 -- how many words have a flag for each of so many programmes
 abbrev pub flag_word_count : ℕ → ℕ
-flag_word_count programmes = (programmes + 63) / FLAGS_PER_WORD
+flag_word_count programmes = (programmes + (FLAGS_PER_WORD - 1)) / FLAGS_PER_WORD
 
 -- which of these words has the flag of a programme
 abbrev pub flag_group : ℕ → ℕ

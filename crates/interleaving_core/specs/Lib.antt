@@ -1,4 +1,6 @@
 -- The definitions, in the order in which to read them.
+-- the limits in numbers
+pub mod Limits
 -- words of flags
 pub mod Flags
 -- a core state: what the shared words hold and what each worker knows

@@ -15,7 +15,7 @@ pub fn flag_word_count(programmes: u32) -> u32
     requires { programmes < 2 ^ 31 }
     ensures { result ≡ flag_word_count programmes }
 {
-    (programmes + 63) / FLAGS_PER_WORD
+    (programmes + (FLAGS_PER_WORD - 1)) / FLAGS_PER_WORD
 }
 
 /// Which of these words has the flag of a programme.

@@ -8,7 +8,7 @@
 //! order. Here several workers share the seat counts; a cell for each turn, which is empty,
 //! posted at a place of the turn's list, or committed at a place; a flag for each programme, 64 of
 //! them in a word, which is raised where the programme is full, but for the moment between the
-//! seat that filled it and the raising; a claim number, which says how many turns were drawn; and
+//! seat that filled it and the raising; a claim number, which says how many draws were made; and
 //! a mark, which at most one worker holds and which says how many turns are committed.
 //!
 //! # The eleven events
@@ -60,6 +60,8 @@
 
 // How many workers there may be, and how many flags a word has.
 mod limits;
+// The same in numbers.
+mod numbers;
 // Words of flags: where the flag of a programme stands, and what a look at a word passes.
 mod flag_words;
 // What a core state is made of: cells, claims, own turns, phases, holdings.
@@ -85,5 +87,6 @@ pub use flag_words::{
 };
 pub use law::any_run;
 pub use limits::{FLAGS_PER_WORD, MAX_WORKERS};
+pub use numbers::limits_in_numbers;
 pub use parts::{Cell, Claiming, Holding, OwnTurn, Phase};
 pub use state::CoreState;

@@ -22,7 +22,7 @@ use Rattle.word_rule.specs.Claimant.{flags_by, read_by, AreEarlier, TellsClaim, 
 use Rattle.word_rule.specs.declared.rule.RoundKey.{RoundKey}
 use Rattle.word_rule.proofs.CoreViews.{live_there, place, weight, sum_views, shared_sum}
 use Rattle.word_rule.proofs.Layouts.{shows_posted, reads_seats, reads_flags, writes_claim, writes_cell}
-use Rattle.word_rule.proofs.Keeps.{IsSameSeat, same_seat, live_after, seat_in_range, seat_fits, seats_in, event_keeps}
+use Rattle.word_rule.proofs.Keeps.{IsSameSeat, same_seat, may_make, live_after, seat_in_range, seat_fits, seats_in, event_keeps}
 
 -- no seat gives more done views than its share
 few_ends : (n : ℕ) (v : View) → sum_by done_bit (shared_views n v) ≤ n
@@ -155,6 +155,7 @@ module _ (key : RoundKey) where
         tt,
         kept,
         record {
+          before = record { action = Claims; is = refl; allowed = may };
           seat = refl;
           range = range;
           earlier = earlier d (table_core key s) x.core may.0 fit.own;
@@ -197,8 +198,17 @@ module _ (key : RoundKey) where
       let kept =
       event_keeps key s h id x y words (Reads k j) live same may (length-set s.words i found) leads
       (omega arith) (omega arith) (λ f. f) in
-      let range = seat_in_range key _ kept id y (live_after key s id x y live same) in
-      (y, keeps, tt, kept, record { seat = refl; range = range })
+      let range = seat_in_range key _ kept id y (live_after key s id x y live same) in (
+        y,
+        keeps,
+        tt,
+        kept,
+        record {
+          before = may_make key _ me (Reads k j) (h.each id x live) may;
+          seat = refl;
+          range = range;
+        },
+      )
 
   -- a look at the word that has the flag of the next entry
   pub flags_allowed : (slots id : ℕ) (me : SeatMe) (i k j : ℕ) → 0 < me.0.share
@@ -245,8 +255,17 @@ module _ (key : RoundKey) where
       let kept =
       event_keeps key s h id x y words (ReadsFlags k j) live same may (length-set s.words i found)
       leads (omega arith) (omega arith) reads in
-      let range = seat_in_range key _ kept id y (live_after key s id x y live same) in
-      (y, keeps, tt, kept, record { seat = refl; range = range })
+      let range = seat_in_range key _ kept id y (live_after key s id x y live same) in (
+        y,
+        keeps,
+        tt,
+        kept,
+        record {
+          before = may_make key _ me (ReadsFlags k j) (h.each id x live) may;
+          seat = refl;
+          range = range;
+        },
+      )
 
   -- a post of the place found to the turn's cell
   pub post_allowed : (slots id : ℕ) (me : SeatMe) (i k j word : ℕ) (looked met : Bool)
@@ -276,7 +295,16 @@ module _ (key : RoundKey) where
       get_or-set_other s.words i 1 word 0 (λ e. omega arith) in
       let told = (h.each id x live).behind in
       let kept =
-      event_keeps key s h id x y words (Posts k j looked met) live same may (length-set s.words i word)
-      leads (omega arith) (omega arith) (λ f. f) in
-      let range = seat_in_range key _ kept id y (live_after key s id x y live same) in
-      (y, keeps, tt, kept, record { seat = refl; range = range })
+      event_keeps key s h id x y words (Posts k j looked met) live same may
+      (length-set s.words i word) leads (omega arith) (omega arith) (λ f. f) in
+      let range = seat_in_range key _ kept id y (live_after key s id x y live same) in (
+        y,
+        keeps,
+        tt,
+        kept,
+        record {
+          before = may_make key _ me (Posts k j looked met) (h.each id x live) may;
+          seat = refl;
+          range = range;
+        },
+      )

@@ -27,7 +27,7 @@ use Rattle.word_rule.specs.Holder.{posted_place, tried, TellsTake, look_by, Tell
 use Rattle.word_rule.specs.declared.rule.RoundKey.{RoundKey}
 use Rattle.word_rule.proofs.CoreViews.{live_there, place, at_place, whose}
 use Rattle.word_rule.proofs.Layouts.{shows_committed, or_one, reads_seats, reads_cell, writes_mark, writes_seats, writes_cell, reads_flags, writes_flags}
-use Rattle.word_rule.proofs.Keeps.{IsSameSeat, same_seat, live_after, seat_in_range, seat_fits, seats_in, table_after, event_keeps}
+use Rattle.word_rule.proofs.Keeps.{IsSameSeat, same_seat, may_make, live_after, seat_in_range, seat_fits, seats_in, table_after, event_keeps}
 
 tried_core : (x : SeatKnows) (b : Bool) (n : ℕ) → (tried x b n).core ≡ after_take x.core b n
 tried_core x true n = refl
@@ -207,6 +207,7 @@ module _ (key : RoundKey) where
         tt,
         kept,
         record {
+          before = may_make key _ me Takes (h.each id x live) may;
           seat = refl;
           range = range;
           within = omega arith;
@@ -242,6 +243,7 @@ module _ (key : RoundKey) where
         tt,
         kept,
         record {
+          before = may_make key _ me (Looks k) (h.each id x live) may;
           seat = refl;
           range = range;
           uncommitted = ap is_committed (sym seen) ∙ h.sound.cells.above k (omega arith);
@@ -279,8 +281,17 @@ module _ (key : RoundKey) where
       (by ∙ ap seen_view seen) in
       let kept = load_keeps s h id i x v (Weighs k j) live same may leads in
       let range = seat_in_range key _ kept id (with_core x v)
-      (live_after key s id x (with_core x v) live same) in
-      (with_core x v, keeps, tt, kept, record { seat = refl; range = range })
+      (live_after key s id x (with_core x v) live same) in (
+        with_core x v,
+        keeps,
+        tt,
+        kept,
+        record {
+          before = may_make key _ me (Weighs k j) (h.each id x live) may;
+          seat = refl;
+          range = range;
+        },
+      )
 
   -- a seat taken of the entry at the holder's place
   pub seat_allowed : (slots id : ℕ) (me : SeatMe) (i k j : ℕ) → 0 < me.0.share
@@ -331,6 +342,7 @@ module _ (key : RoundKey) where
         tt,
         kept,
         record {
+          before = may_make key _ me (Seats k j) (h.each id x live) may;
           seat = refl;
           range = range;
           small = omega arith;
@@ -371,8 +383,17 @@ module _ (key : RoundKey) where
       let kept = mark_stays s h id x y (set s.words i word) (Raises k j) live same may
       (length-set s.words i word) leads
       (ap (λ (z : ℕ). z / 2) mark) refl (λ f. f) in
-      let range = seat_in_range key _ kept id y (live_after key s id x y live same) in
-      (y, keeps, tt, kept, record { seat = refl; range = range })
+      let range = seat_in_range key _ kept id y (live_after key s id x y live same) in (
+        y,
+        keeps,
+        tt,
+        kept,
+        record {
+          before = may_make key _ me (Raises k j) (h.each id x live) may;
+          seat = refl;
+          range = range;
+        },
+      )
 
   -- a commit of the holder's turn at its place
   pub seal_allowed : (slots id : ℕ) (me : SeatMe) (i k j word : ℕ) (phase : Phase) → 0 < me.0.share
@@ -400,8 +421,17 @@ module _ (key : RoundKey) where
       let kept = mark_stays s h id x y (set s.words i word) (Seals k j phase) live same may
       (length-set s.words i word) leads
       (ap (λ (z : ℕ). z / 2) mark) refl (λ f. f) in
-      let range = seat_in_range key _ kept id y (live_after key s id x y live same) in
-      (y, keeps, tt, kept, record { seat = refl; range = range })
+      let range = seat_in_range key _ kept id y (live_after key s id x y live same) in (
+        y,
+        keeps,
+        tt,
+        kept,
+        record {
+          before = may_make key _ me (Seals k j phase) (h.each id x live) may;
+          seat = refl;
+          range = range;
+        },
+      )
 
   -- a release with the number of committed turns
   pub release_allowed : (slots id : ℕ) (me : SeatMe) (k word : ℕ) (phase : Phase) → 0 < me.0.share
@@ -432,5 +462,14 @@ module _ (key : RoundKey) where
       let kept = event_keeps key s h id x y (set s.words 1 word) (Releases k phase) live same may
       (length-set s.words 1 word) leads
       (omega arith) (omega arith) (λ f. f) in
-      let range = seat_in_range key _ kept id y (live_after key s id x y live same) in
-      (y, keeps, tt, kept, record { seat = refl; range = range })
+      let range = seat_in_range key _ kept id y (live_after key s id x y live same) in (
+        y,
+        keeps,
+        tt,
+        kept,
+        record {
+          before = may_make key _ me (Releases k phase) (h.each id x live) may;
+          seat = refl;
+          range = range;
+        },
+      )

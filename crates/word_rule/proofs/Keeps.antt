@@ -7,13 +7,14 @@ use Rattle.std.specs.Prelude.{slice_get}
 use Rattle.atomic_table.specs.Table.{State}
 use Rattle.market.specs.Dictatorships.{Dictatorship}
 use Rattle.interleaving_core.specs.Core.{View, Core, entry, seats_of}
-use Rattle.interleaving_core.specs.Events.{Action, Claims, ReadsFlags, Reads, Posts, Takes, Looks, Weighs, Seats, Raises, Seals, Releases, IsAllowed, after, view_after}
+use Rattle.interleaving_core.specs.Events.{Action, event_of, Claims, ReadsFlags, Reads, Posts, Takes, Looks, Weighs, Seats, Raises, Seals, Releases, IsAllowed, after, view_after}
 use Rattle.interleaving_core.specs.Sound.{IsSoundView, IsSound}
 use Rattle.interleaving_core.proofs.Places.{at_set, sum_set}
 use Rattle.interleaving_core.proofs.Keeps as core
 use Rattle.word_rule.specs.Layout.{core_of}
-use Rattle.word_rule.specs.Views.{SeatKnows, with_core, core_views}
+use Rattle.word_rule.specs.Views.{SeatKnows, SeatMe, with_core, core_views}
 use Rattle.word_rule.specs.Copies.{IsInRange}
+use Rattle.word_rule.specs.Conditions.{MayMake}
 use Rattle.word_rule.specs.Rule.{IsLive, Belongs, IsSoundTable, HasReadFull, HasNotDrawn, share_of, table_core}
 use Rattle.word_rule.specs.declared.rule.RoundKey.{RoundKey}
 use Rattle.word_rule.proofs.CoreViews.{place, at_place, set_place}
@@ -33,6 +34,16 @@ pub same_seat : (x : SeatKnows) (v : View) → (1 < x.share → (x.core.done ≡
     → IsSameSeat x (with_core x v)
 same_seat x v alone =
     record { number = refl; share = refl; dict = refl; workers = refl; alone = alone }
+
+-- a seat of the round may make an event that its view of the core allows
+pub may_make : (key : RoundKey) (number : ℕ) (m : SeatMe) (a : Action) → Belongs key number m.0
+    → IsAllowed key.dict.value m.0.core a → MayMake m (event_of a)
+may_make key number m a mine may =
+    record {
+      action = a;
+      is = refl;
+      allowed = subst (λ (z : Dictatorship). IsAllowed z m.0.core a) (sym mine.dict) may;
+    }
 
 -- a view that fits a state speaks of the round's turns and places
 pub fits_in_range : (d : Dictatorship) (c : Core) (count : ℕ) (v : View) → count ≤ length d.lists

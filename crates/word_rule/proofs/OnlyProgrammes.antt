@@ -1,7 +1,7 @@
 -- Programmes of one seat each without a turn are a valid dictatorship.
-use Rattle.std.proofs.Common.{◌≡◌, ℕ, zero, suc, ◌<◌, ◌≤◌, List, [], ◌∷◌, length, get_or, replicate, refl, sym, ap, ◌∙◌, subst, arith}
+use Rattle.std.proofs.Common.{◌≡◌, ℕ, zero, suc, ◌≤◌, List, [], length, get_or, replicate, ap, ◌∙◌, arith}
 use Rattle.std.proofs.Math.ListN.{length-replicate}
-use Rattle.market.specs.Dictatorships.{Dictatorship, IsValidDictatorship, dictatorship}
+use Rattle.market.specs.Dictatorships.{IsValidDictatorship, dictatorship}
 
 -- so many equal numbers are at most that number
 replicate_most : (n x p : ℕ) → get_or (replicate n x) p 0 ≤ x

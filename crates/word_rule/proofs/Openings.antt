@@ -70,7 +70,8 @@ words_open d workers views valid fresh =
     }
 
 -- there are as many words as there should be
-pub first_words_long : (d : Dictatorship) → IsValidDictatorship d → length (first_words d) ≡ word_count d
+pub first_words_long : (d : Dictatorship) → IsValidDictatorship d
+    → length (first_words d) ≡ word_count d
 first_words_long d valid =
     let zeros : List ℕ = replicate (turn_count d) 0 in
     let flags : List ℕ = first_flags d in

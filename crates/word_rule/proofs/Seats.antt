@@ -1,6 +1,5 @@
 -- Lists of seats: the last one taken away, or one put behind the others.
-use Rattle.std.proofs.Common.{◌≡◌, ℕ, ◌+◌, ◌-◌, List, [], ◌∷◌, ◌++◌, length, take, Some, sym, refl, ap, subst, ◌∙◌, ⊎_elim, arith}
-use Rattle.std.specs.Prelude.{slice_get}
+use Rattle.std.proofs.Common.{◌≡◌, ℕ, ◌+◌, ◌-◌, List, [], ◌∷◌, ◌++◌, length, take, refl, ap, ◌∙◌, arith}
 use Rattle.std.proofs.lemmas.List.Sums.{sum_by-append, sum_by-cons}
 use Rattle.interleaving_core.proofs.Places.{each_last, each_snoc}
 use Rattle.word_rule.specs.Views.{SeatKnows}
@@ -55,6 +54,7 @@ new_part_of round worker n share me table is number one = record {
   number = ap (λ (x : SeatKnows). x.number) is ∙ number;
   share = ap (λ (x : SeatKnows). x.share) is ∙ one;
   tries = ap (λ (x : SeatKnows). x.tries) is;
+  missed = ap (λ (x : SeatKnows). x.missed) is;
   took = ap (λ (x : SeatKnows). x.took) is;
   released = ap (λ (x : SeatKnows). x.released) is;
   flags = ap (λ (x : SeatKnows). x.flags) is;

@@ -1,7 +1,7 @@
 -- While every view is still that of the opening, the table shows the opening state: the claim
 -- number is 0, so no cell is touched, no turn is committed, nobody holds the mark, and each seat
 -- count is its fill.
-use Rattle.std.proofs.Common.{◌≡◌, ℕ, zero, suc, ◌+◌, ◌*◌, ◌<◌, ◌≤◌, Bool, true, false, List, [], ◌∷◌, ◌++◌, length, get_or, replicate, nat_le, eqb, sym, refl, ap, ◌∙◌, arith}
+use Rattle.std.proofs.Common.{◌≡◌, ℕ, zero, suc, ◌+◌, ◌*◌, ◌<◌, Bool, true, false, List, [], ◌∷◌, ◌++◌, length, get_or, replicate, nat_le, eqb, sym, refl, ap, ◌∙◌, arith}
 use Rattle.std.specs.List.{sum_by}
 use Rattle.std.specs.Int.{bit_at}
 use Rattle.std.proofs.lemmas.Nat.Bits.{bit_at-lt, same_from_bits}
@@ -119,21 +119,22 @@ shows_opening key s h fresh =
     (λ group _. same_from_bits _ _ (λ b.
     elim (native.Mathlib.Decide.dec_le FLAGS_PER_WORD b) [
       | yes past ↦ sound.flags.narrow group b past ∙ sym (first_narrow d group b past)
-      | no near ↦ elim (native.Mathlib.Decide.dec_le (length d.quota) (FLAGS_PER_WORD * group + b)) [
-        | yes past ↦ sound.flags.unused group b (omega arith) past
-            ∙ sym (first_unused d group b (omega arith) past)
-        | no own ↦ (
-            let p : ℕ = FLAGS_PER_WORD * group + b in
-            let nobody : sum_by (late_bit d p) c.views ≡ 0 =
-            ap (sum_by (late_bit d p)) views
-            ∙ sum_replicate (late_bit d p) key.workers fresh_view refl in
-            let raised = sound.flags.raised p (omega arith) in
-            let full : bit (nat_le (get_or d.quota p 0) (get_or c.seats p 0))
-            ≡ bit (nat_le (get_or d.quota p 0) (get_or d.fill p 0)) =
-            ap (λ (l : List ℕ). bit (nat_le (get_or d.quota p 0) (get_or l p 0))) seats in
-            let first = ap bit (first_raised d p (omega arith)) in
-            same_bit c.flags (first_flags d) group b (omega arith) (omega arith))
-      ]
+      | no near ↦
+          elim (native.Mathlib.Decide.dec_le (length d.quota) (FLAGS_PER_WORD * group + b)) [
+            | yes past ↦ sound.flags.unused group b (omega arith) past
+                ∙ sym (first_unused d group b (omega arith) past)
+            | no own ↦ (
+                let p : ℕ = FLAGS_PER_WORD * group + b in
+                let nobody : sum_by (late_bit d p) c.views ≡ 0 =
+                ap (sum_by (late_bit d p)) views
+                ∙ sum_replicate (late_bit d p) key.workers fresh_view refl in
+                let raised = sound.flags.raised p (omega arith) in
+                let full : bit (nat_le (get_or d.quota p 0) (get_or c.seats p 0))
+                ≡ bit (nat_le (get_or d.quota p 0) (get_or d.fill p 0)) =
+                ap (λ (l : List ℕ). bit (nat_le (get_or d.quota p 0) (get_or l p 0))) seats in
+                let first = ap bit (first_raised d p (omega arith)) in
+                same_bit c.flags (first_flags d) group b (omega arith) (omega arith))
+          ]
     ])) in
     λ k. record {
       claim_number = drawn k;

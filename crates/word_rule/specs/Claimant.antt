@@ -1,13 +1,16 @@
--- What each atomic step of a claimant tells, by the word found.
+-- What each atomic step of a claimant tells, by the word found: that the event could be made at
+-- this step, and what the seat is then.
 use Rattle.std.specs.Prelude.{◌≡◌, ℕ, ◌/◌, ◌<◌, List, [], ◌∷◌, ◌++◌, nat_lt, slice_get, Option, Some, None, IsSome}
 use Rattle.market.specs.Dictatorships.{Dictatorship}
 use Rattle.interleaving_core.specs.declared.parts.Claiming.{Claiming}
 use Rattle.interleaving_core.specs.declared.parts.OwnTurn.{OwnTurn}
+use Rattle.interleaving_core.specs.declared.events.CoreEvent.TheVariants.{Claim, Flags, Read, Post}
 use Rattle.interleaving_core.specs.Flags.{flag_group}
 use Rattle.interleaving_core.specs.Core.{View, entry, quota_of}
 use Rattle.interleaving_core.specs.Events.{after_claim, after_flags, after_read, after_post}
 use Rattle.word_rule.specs.Views.{SeatKnows, SeatMe, me_with}
 use Rattle.word_rule.specs.Copies.{IsInRange}
+use Rattle.word_rule.specs.Conditions.{MayMake}
 
 -- own turns that rise, lie below the number just drawn, and were all posted
 pub record AreEarlier (own : List OwnTurn) (found : ℕ) : Type 0 where
@@ -18,6 +21,7 @@ pub record AreEarlier (own : List OwnTurn) (found : ℕ) : Type 0 where
 
 -- a draw: the number found is the turn claimed, or past all turns
 pub record TellsClaim (m : SeatMe) (found : ℕ) (n : SeatMe) : Type 0 where
+  pub before : MayMake m Claim
   pub seat : n ≡ me_with m (after_claim m.0.dict m.0.core found)
   pub range : IsInRange n.0.dict n.0.core
   pub earlier : AreEarlier m.0.core.own found
@@ -34,6 +38,7 @@ flags_by x (Some c) found =
 
 -- a look at flags, by the word found
 pub record TellsFlags (m : SeatMe) (found : ℕ) (n : SeatMe) : Type 0 where
+  pub before : MayMake m Flags
   pub seat : n ≡ (flags_by m.0 m.0.core.claim found, m.1)
   pub range : IsInRange n.0.dict n.0.core
 
@@ -46,10 +51,12 @@ read_by d v (Some x) found =
 
 -- a reading: by the seat count found the entry is met or passed
 pub record TellsRead (m : SeatMe) (found : ℕ) (n : SeatMe) : Type 0 where
+  pub before : MayMake m Read
   pub seat : n ≡ me_with m (read_by m.0.dict m.0.core m.0.core.claim found)
   pub range : IsInRange n.0.dict n.0.core
 
 -- a post: half the word stored is the place
 pub record TellsPost (m : SeatMe) (stored : ℕ) (n : SeatMe) : Type 0 where
+  pub before : MayMake m Post
   pub seat : n ≡ me_with m (after_post m.0.core (stored / 2))
   pub range : IsInRange n.0.dict n.0.core

@@ -1,4 +1,5 @@
--- What each atomic step of the mark's holder tells, by the word found.
+-- What each atomic step of the mark's holder tells, by the word found: that the event could be made
+-- at this step, and what the seat is then.
 use Rattle.std.specs.Prelude.{◌≡◌, ℕ, ◌+◌, ◌^◌, ◌<◌, ◌≤◌, Bool, true, false, nat_lt, nat_le, Option, Some, None, IsSome}
 use Rattle.market.specs.Dictatorships.{Dictatorship}
 use Rattle.interleaving_core.specs.declared.parts.Cell.{Cell}
@@ -6,11 +7,13 @@ use Rattle.interleaving_core.specs.declared.parts.Cell.TheVariants.{Posted}
 use Rattle.interleaving_core.specs.declared.parts.Phase.{Phase}
 use Rattle.interleaving_core.specs.declared.parts.Phase.TheVariants.{Idle, Halted, Scan, Ready, Seated, Raised}
 use Rattle.interleaving_core.specs.declared.parts.Holding.{Holding}
+use Rattle.interleaving_core.specs.declared.events.CoreEvent.TheVariants.{Take, Look, Weigh, Seat, Raise, Seal, Release}
 use Rattle.interleaving_core.specs.Core.{View, turn_count, entry, quota_of, is_committed, hold_at}
 use Rattle.interleaving_core.specs.Events.{with_hold, after_take, phase_after_look, phase_after_weigh}
 use Rattle.word_rule.specs.Layout.{is_held, mark_number, cell_of}
 use Rattle.word_rule.specs.Views.{SeatKnows, SeatMe, me_with, with_core}
 use Rattle.word_rule.specs.Copies.{IsInRange}
+use Rattle.word_rule.specs.Conditions.{MayMake}
 
 -- the place that a cell is posted at
 abbrev pub posted_place : Cell → Option ℕ
@@ -24,12 +27,19 @@ as_holder x committed phase = with_core x (with_hold x.core (hold_at committed p
 -- the seat after one more try on the mark: where the mark was held, the try alone is made; else the
 -- mark is this seat's, which keeps the number found
 abbrev pub tried : SeatKnows → Bool → ℕ → SeatKnows
-tried x true number = record x { core = after_take x.core true number; tries = x.tries + 1 }
+tried x true number =
+    record x { core = after_take x.core true number; tries = x.tries + 1; missed = true }
 tried x false number =
-    record x { core = after_take x.core false number; tries = x.tries + 1; took = number }
+    record x {
+      core = after_take x.core false number;
+      tries = x.tries + 1;
+      missed = false;
+      took = number;
+    }
 
 -- a try on the mark; a seat with every share finds it free
 pub record TellsTake (m : SeatMe) (found : ℕ) (n : SeatMe) : Type 0 where
+  pub before : MayMake m Take
   pub seat : n ≡ (tried m.0 (is_held found) (mark_number found), m.1)
   pub range : IsInRange n.0.dict n.0.core
   pub within : mark_number found ≤ turn_count m.0.dict
@@ -42,6 +52,7 @@ look_by v (Some h) found = with_hold v (hold_at h.committed (phase_after_look (c
 
 -- a look: the cell found is not committed, and a done seat with every share finds it posted
 pub record TellsLook (m : SeatMe) (found : ℕ) (n : SeatMe) : Type 0 where
+  pub before : MayMake m Look
   pub seat : n ≡ me_with m (look_by m.0.core m.0.core.hold found)
   pub range : IsInRange n.0.dict n.0.core
   pub uncommitted : is_committed (cell_of found) ≡ false
@@ -65,6 +76,7 @@ weigh_by d v (Some h) found =
 
 -- a weighing
 pub record TellsWeigh (m : SeatMe) (found : ℕ) (n : SeatMe) : Type 0 where
+  pub before : MayMake m Weigh
   pub seat : n ≡ me_with m (weigh_by m.0.dict m.0.core m.0.core.hold found)
   pub range : IsInRange n.0.dict n.0.core
 
@@ -86,6 +98,7 @@ seat_by d v (Some h) found =
 
 -- a seat taken; the count found is far from a word's end
 pub record TellsSeat (m : SeatMe) (found : ℕ) (n : SeatMe) : Type 0 where
+  pub before : MayMake m Seat
   pub seat : n ≡ me_with m (seat_by m.0.dict m.0.core m.0.core.hold found)
   pub range : IsInRange n.0.dict n.0.core
   pub small : found < 2 ^ 32
@@ -107,6 +120,7 @@ raise_by v (Some h) = with_hold v (hold_at h.committed (raise_phase h.phase))
 
 -- a flag raised
 pub record TellsRaise (m : SeatMe) (n : SeatMe) : Type 0 where
+  pub before : MayMake m Raise
   pub seat : n ≡ me_with m (raise_by m.0.core m.0.core.hold)
   pub range : IsInRange n.0.dict n.0.core
 
@@ -117,6 +131,7 @@ seal_by v (Some h) = with_hold v (hold_at (h.committed + 1) Idle)
 
 -- a commit
 pub record TellsSeal (m : SeatMe) (n : SeatMe) : Type 0 where
+  pub before : MayMake m Seal
   pub seat : n ≡ me_with m (seal_by m.0.core m.0.core.hold)
   pub range : IsInRange n.0.dict n.0.core
 
@@ -126,5 +141,6 @@ released_with x number = record x { core = with_hold x.core None; released = num
 
 -- a release: half the word stored is the number
 pub record TellsRelease (m : SeatMe) (stored : ℕ) (n : SeatMe) : Type 0 where
+  pub before : MayMake m Release
   pub seat : n ≡ (released_with m.0 (mark_number stored), m.1)
   pub range : IsInRange n.0.dict n.0.core

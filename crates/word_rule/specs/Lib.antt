@@ -7,6 +7,8 @@ pub mod Views
 pub mod Copies
 -- the one rule: words and views together are one sound core state
 pub mod Rule
+-- when a seat may make an event
+pub mod Conditions
 -- what each atomic step of a claimant tells
 pub mod Claimant
 -- what each atomic step of the mark's holder tells

@@ -1,5 +1,5 @@
 -- A round and its seats, as clauses speak of them.
-use Rattle.std.specs.Prelude.{◌≡◌, ℕ, true, List, [], slice_get, Some, None}
+use Rattle.std.specs.Prelude.{◌≡◌, ℕ, true, false, List, [], slice_get, Some, None}
 use Rattle.std.specs.List.{sum_by}
 use Rattle.atomic_table.specs.Table.{State}
 use Rattle.market.specs.Dictatorships.{Dictatorship}
@@ -44,6 +44,7 @@ pub record IsNew (round : SharedRound) (worker : ℕ) (me : WorkSeat) : Type 0 w
   pub number : (knows me).number ≡ worker
   pub share : (knows me).share ≡ 1
   pub tries : (knows me).tries ≡ 0
+  pub missed : (knows me).missed ≡ false
   pub took : (knows me).took ≡ 0
   pub released : (knows me).released ≡ 0
   pub flags : (knows me).flags ≡ []

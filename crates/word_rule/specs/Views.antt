@@ -5,15 +5,16 @@ use Rattle.market.specs.Dictatorships.{Dictatorship}
 use Rattle.interleaving_core.specs.Core.{View, fresh_view}
 
 -- a worker's view of the core; the seat's number and its share, which is how many workers it stands
--- for; how many tries on the mark it has made, held or not; the number of its last try that found
--- the mark free, and the number that its last release wrote; the words of flags that it has read,
--- each with the group of programmes whose flags it has; and the round's dictatorship and number of
--- workers
+-- for; how many tries on the mark it has made, held or not, and whether its last one found the mark
+-- held; the number of its last try that found the mark free, and the number that its last release
+-- wrote; the words of flags that it has read, each with the group of programmes whose flags it has;
+-- and the round's dictatorship and number of workers
 pub record SeatKnows : Type 0 where
   pub core : View
   pub number : ℕ
   pub share : ℕ
   pub tries : ℕ
+  pub missed : Bool
   pub took : ℕ
   pub released : ℕ
   pub flags : List (ℕ × ℕ)
@@ -47,6 +48,7 @@ first_seat d workers =
       number = 0;
       share = workers;
       tries = 0;
+      missed = false;
       took = 0;
       released = 0;
       flags = [];
@@ -70,6 +72,7 @@ new_part x =
       number = x.number + 1;
       share = x.share - 1;
       tries = 0;
+      missed = false;
       took = 0;
       released = 0;
       flags = [];

@@ -95,7 +95,8 @@ fn push_empty_cells(words: &mut Vec<u64>, turns: u32)
 
 // The flags of exactly the full programmes are raised.
 fn push_first_flags(words: &mut Vec<u64>, dict: &Dict)
-    requires { vec_len words.old + flag_word_count (length dict.now.quota) ≤ vec_capacity words.old }
+    requires { vec_len words.old + flag_word_count (length dict.now.quota)
+        ≤ vec_capacity words.old }
     ensures { words.new.items ≡ words.old.items ++ first_flags dict.now }
 {
     for group in 0..flag_word_count(dict.programmes()) {

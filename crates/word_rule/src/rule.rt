@@ -22,7 +22,9 @@ impl Model for SeatView {
 /// What a round's table is made with: the dictatorship, and the number of workers.
 #[derive(Drop)]
 pub struct RoundKey {
+    /// The dictatorship, as clauses see it: it takes no bytes.
     pub dict: Snapshot<Dict>,
+    /// How many workers there are.
     pub workers: u32,
 }
 

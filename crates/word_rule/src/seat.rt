@@ -14,8 +14,11 @@ use interleaving_core::{Claiming as ClaimCopy, Phase as PhaseCopy};
 /// workers share it.
 #[derive(Drop)]
 pub struct SharedRound {
+    /// The words, under the rule.
     pub table: RoundTable,
+    /// How many turns the round's dictatorship has.
     pub turns: u32,
+    /// How many programmes it has.
     pub programmes: u32,
     ghost turns_are: { turns ≡ turn_count table.shared.key.dict.value },
     ghost programmes_are: { programmes ≡ programme_count table.shared.key.dict.value },
@@ -30,10 +33,15 @@ pub struct SharedRound {
 /// committed turns. The copies are those of the view in every value of this type.
 #[derive(Drop)]
 pub struct WorkSeat {
+    /// The seat at the table, with its view.
     pub seat: RoundSeat,
+    /// The worker's number.
     pub number: u32,
+    /// The turn that the worker has drawn and not yet posted, if there is one.
     pub claim: Option<ClaimCopy>,
+    /// How far it is with the first turn that is not committed, if it holds the mark.
     pub phase: Option<PhaseCopy>,
+    /// How many turns are committed, where it holds the mark.
     pub committed: u32,
     ghost number_is: { number ≡ seat.me.0.number },
     ghost claim_is: { claim ≡ seat.me.0.core.claim },

@@ -47,8 +47,8 @@ fn a_round_opens_for_each_number_of_workers(rt: HostRuntime) -> Result<(), Fail>
             assert_eq!(rt; seat.worker(), number);
             moves_to_workers(&round, seat);
         }
-        // nothing is drawn, the mark is free, the seats taken are counted, both cells are empty, and
-        // the flag of the last programme is raised
+        // nothing is drawn, the mark is free, the seats taken are counted, both cells are empty,
+        // and the flag of the last programme is raised
         assert_eq!(rt;
             words_of(alloc, &round)?.as_slice(),
             &[0, 0, 1, 0, 3, 0, 0, 4][..]

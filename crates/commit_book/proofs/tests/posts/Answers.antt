@@ -13,7 +13,8 @@ list-places-requires g c =
     let me = c.args.me.now in
     let x = c.in-Some.claim in
     let same = c.requires.seat.0.dict ∙ sym c.requires.seat.1 in
-    let turn = me.in_range.claimed x.turn x.passed x.looked x.met (sym me.claim_is ∙ c.in-Some.is) in
+    let claim = sym me.claim_is ∙ c.in-Some.is in
+    let turn = me.in_range.claimed x.turn x.passed x.looked x.met claim in
     let turns = ap (λ (d : Dictatorship). turn_count d) same in
     omega arith
 
@@ -34,4 +35,10 @@ post-requires-clause-may g c =
           inr (omega arith)
       | else-not-claim-via-else-not-claim w ↦ inl (is_met x.met w.if-not-claim.false)
     ] in
-    record { turn = x.turn; place = x.passed; looked = x.looked; met = x.met; allowed = (claim, ends) }
+    record {
+      turn = x.turn;
+      place = x.passed;
+      looked = x.looked;
+      met = x.met;
+      allowed = (claim, ends);
+    }

@@ -9,7 +9,8 @@ list-places-requires g c =
     let me = c.args.me.now in
     let x = c.in-Some.claim in
     let same = c.requires.seat.0.dict ∙ sym c.requires.seat.1 in
-    let turn = me.in_range.claimed x.turn x.passed x.looked x.met (sym me.claim_is ∙ c.in-Some.is) in
+    let claim = sym me.claim_is ∙ c.in-Some.is in
+    let turn = me.in_range.claimed x.turn x.passed x.looked x.met claim in
     let turns = ap (λ (d : Dictatorship). turn_count d) same in
     omega arith
 
@@ -18,7 +19,8 @@ overflow_cast-claim g c =
     let me = c.args.me.now in
     let x = c.in-Some.claim in
     let same = c.requires.seat.0.dict ∙ sym c.requires.seat.1 in
-    let passed = me.in_range.passed x.turn x.passed x.looked x.met (sym me.claim_is ∙ c.in-Some.is) in
+    let claim = sym me.claim_is ∙ c.in-Some.is in
+    let passed = me.in_range.passed x.turn x.passed x.looked x.met claim in
     let places = ap (λ (d : Dictatorship). length (list_at d x.turn)) same in
     let list = ap length c.list-places.ensures in
     let most = c.list-places.type_inv.0 in

@@ -1,4 +1,4 @@
-use Rattle.std.proofs.Common.{◌≡◌, ◌-◌, false}
+use Rattle.std.proofs.Common.{◌≡◌, ◌-◌, ◌≤◌, false}
 use Rattle.interleaving_core.specs.declared.parts.Phase.TheVariants.{Idle}
 use Rattle.interleaving_core.specs.Core.{turn_count}
 use Rattle.word_rule.specs.Rounds.{Stays, knows}
@@ -11,6 +11,7 @@ invariant-loop-place g l = record {
   stays : Stays l.fn.me l.me;
   view : knows l.me
       ≡ as_holder (tried (knows l.fn.me) false (knows l.me).took) l.me.committed Idle;
+  within : (knows l.me).took ≤ l.me.committed;
 }
 
 abbrev pub decreases-loop-place : goal.decreases-loop-place

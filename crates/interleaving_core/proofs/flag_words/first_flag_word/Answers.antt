@@ -21,9 +21,11 @@ loop-bit-preserved c =
             w.word-is
             ∙ (ap (λ (m : ℕ). bit_or c.loop-bit.word m)
             (w.flag_mask-word.ensures ∙ ap (λ (n : ℕ). 2 ^ n) bit)
-            ∙ word_more c.args.dict.now c.args.group c.loop-bit.bit c.loop-bit.word true v.word w.if-begins_full.ensures)
+            ∙ word_more c.args.dict.now c.args.group c.loop-bit.bit c.loop-bit.word true v.word
+            w.if-begins_full.ensures)
         | else-begins_full w ↦
             w.word-is
-            ∙ word_more c.args.dict.now c.args.group c.loop-bit.bit c.loop-bit.word false v.word w.if-begins_full.ensures
+            ∙ word_more c.args.dict.now c.args.group c.loop-bit.bit c.loop-bit.word false v.word
+            w.if-begins_full.ensures
       ];
     }
