@@ -12,7 +12,7 @@ use Rattle.place_edges.specs.Sink.{Appended}
 use Rattle.programme_table.specs.Table.{codes_of}
 use Rattle.candidate_table.specs.Table.{numbers_of}
 use Rattle.run_frame.specs.Files.{Reads}
-use Rattle.run_frame.specs.Meetings.{Meets}
+use Rattle.run_frame.specs.Meetings.{IsDecided, Meets}
 use Rattle.run_frame.specs.Stops.{too_long}
 use Rattle.run_frame.specs.declared.stop.FileStop.{FileStop}
 use Rattle.run_frame.specs.declared.stop.FileStop.TheVariants.{Fault, ReadFault, Memory}
@@ -22,9 +22,9 @@ use Rattle.run_frame.proofs.Answering.{answered-stop, opened-no-stop}
 use Rattle.run_frame.proofs.Endings as frame
 use Rattle.run_frame.proofs.Endings.{AreApart, answered-finished, stopped, whole-run, words-cause, write-cause}
 use Rattle.run_frame.proofs.JudgedTables.{judged-ok}
-use Rattle.place_run.specs.Runs.{HasCause, IsAnswering, IsComplete, IsFinished, LeavesSink, PlacesWhole, PrintsReports, PrintsSummary, PrintsVerdict, PrintsWorstStable, ReadsNothing, RunsWithoutFile, endings}
+use Rattle.place_run.specs.Runs.{AreFilesRead, HasCause, IsAnswering, IsComplete, IsFinished, LeavesSink, PlacesWhole, PrintsReports, PrintsSummary, PrintsVerdict, PrintsWorstStable, ReadsNothing, RunsWithoutFile, endings}
 use Rattle.place_run.specs.Answers.{Answer, done}
-use Rattle.place_run.specs.Says.{KeepsPromise, audited_said, behind_tables, named, says, tables_said}
+use Rattle.place_run.specs.Says.{KeepsPromise, audited_said, behind_tables, files_read, named, says, tables_said}
 use Rattle.place_run.specs.Statuses.{ended, status_of}
 use Rattle.place_run.specs.Stops.{is_free}
 use Rattle.place_run.specs.Tables.{HasNoFault, Tables, ThreeFiles, candidates_said, codes_in, numbers_in, programmes_said, ranks_said, tables_in}
@@ -213,11 +213,12 @@ three-said reads three read faultless =
     (rw read.ranks (rw (says-ranks three faultless) refl)))))
 
 places-whole : (told : Option Files) (words : List (List ℕ)) (status : Status)
-    (old new : Option (List ℕ))
-    → IsWhole endings told (named words) (says (command_of words)) status old new
+    (old new : Option (List ℕ)) (before now : ℕ)
+    → IsWhole endings told (named words) (says (command_of words)) (files_read (command_of words))
+    status old new before now
     → PlacesWhole told words status old new
-places-whole None words status old new whole = tt
-places-whole (Some files) words status old new (reads, held, whole) =
+places-whole None words status old new before now whole = tt
+places-whole (Some files) words status old new before now (reads, held, whole) =
     λ three workers accepted read faultless.
     let seen : AreThree reads three = record {
       programmes = sym (held file.Programmes) ∙ read.programmes;
@@ -229,9 +230,9 @@ places-whole (Some files) words status old new (reads, held, whole) =
     ∙ ap (λ v. answered (λ tables. done (placement_of tables)) v)
     (three-said reads three seen faultless) in
     ⊎_elim (λ refused. inl refused)
-    (λ other. let same : other.0 ≡ Ok (done (placement_of (tables_in three))) = cc (other.1, said)
+    (λ other. let same : other.1 ≡ Ok (done (placement_of (tables_in three))) = cc (other.2, said)
     in
-    let all = subst (λ v. IsDone endings v status old new) same other.2 in
+    let all = subst (λ v. IsDone endings v status old new) same other.3 in
     inr (all.0, subst (λ v. Appended old new v) (printed-in three) all.1))
     whole
 
@@ -250,22 +251,32 @@ module _ {K : Type 0} (written : K → Option (List ℕ)) (faults : K → ℕ) (
       (subst (λ v. IfOk v (KeepsPromise (command_of words) answers.reading.reads)) is
       answers.promise)
 
-  pub worst-done : PrintsWorstStable told words status (written old) (written new)
+  -- where there is an answer, the files of the bytes that it is about were read once each
+  read-once : (ready : Answer) → answer ≡ Ok ready
+      → AreFilesRead told words answers.reading.reads tally_before tally_now
+  read-once ready is = record {
+    held = answers.reading.held;
+    taken = answers.reading.taken (subst (λ v. IsDecided is_free v) (sym is) tt);
+  }
+
+  pub worst-done : PrintsWorstStable told words status (written old) (written new) tally_before
+      tally_now
   worst-done = λ workers accepted well.
       let end = ended-finished written faults answer status old new ending.Done finished well in (
         answers.reading.reads,
-        answers.reading.held,
+        read-once end.ready end.is,
         end.ready.text,
         kept (Ok (Place workers)) accepted end.ready end.is,
         end.wrote,
       )
 
-  pub reports-done : PrintsReports told words status (written old) (written new)
+  pub reports-done : PrintsReports told words status (written old) (written new) tally_before
+      tally_now
   reports-done = record {
     bases = λ workers accepted well.
         let end = ended-finished written faults answer status old new ending.Done finished well in (
           answers.reading.reads,
-          answers.reading.held,
+          read-once end.ready end.is,
           end.ready.text,
           kept (Ok (Base workers)) accepted end.ready end.is,
           end.wrote,
@@ -273,18 +284,19 @@ module _ {K : Type 0} (written : K → Option (List ℕ)) (faults : K → ℕ) (
     reasons = λ workers accepted well.
         let end = ended-finished written faults answer status old new ending.Done finished well in (
           answers.reading.reads,
-          answers.reading.held,
+          read-once end.ready end.is,
           end.ready.text,
           kept (Ok (Reasons workers)) accepted end.ready end.is,
           end.wrote,
         );
   }
 
-  pub verdict-done : PrintsVerdict told words status (written old) (written new)
+  pub verdict-done : PrintsVerdict told words status (written old) (written new) tally_before
+      tally_now
   verdict-done = λ workers accepted ending same.
       let end = ended-finished written faults answer status old new ending finished same in (
         answers.reading.reads,
-        answers.reading.held,
+        read-once end.ready end.is,
         end.ready,
         end.ends_so,
         kept (Ok (Audit workers)) accepted end.ready end.is,
@@ -311,13 +323,14 @@ module _ {K : Type 0} (written : K → Option (List ℕ)) (faults : K → ℕ) (
       )
 
   pub complete-run : (Rose before now → ⊥) → (Rose (faults old) (faults new) → ⊥)
-      → IsComplete told words status (written old) (written new)
+      → IsComplete told words status (written old) (written new) tally_before tally_now
   complete-run no_read no_write =
       let whole = whole-run are-apart written faults status old new answers.reading frees finished
       no_read no_write in
       record {
         whole = whole;
-        places = places-whole told words status (written old) (written new) whole;
+        places = places-whole told words status (written old) (written new) tally_before tally_now
+            whole;
       }
 
   -- a status that is a stop's is that of the answer

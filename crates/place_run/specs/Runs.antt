@@ -9,7 +9,7 @@ use Rattle.market.specs.Mechanism.{mechanism_placement}
 use Rattle.place_edges.specs.Causes.{Rose}
 use Rattle.place_edges.specs.Shelf.{Files, GaveMore, file_limit}
 use Rattle.place_edges.specs.Sink.{Appended}
-use Rattle.run_frame.specs.Files.{AreHeld, AreRead, Reads}
+use Rattle.run_frame.specs.Files.{AreRead, AreReadOnce, Reads}
 use Rattle.run_frame.specs.Runs as frame
 use Rattle.run_frame.specs.Runs.{Endings, IsWhole, WordsCause}
 use Rattle.run_frame.specs.Stops.{too_long}
@@ -82,44 +82,51 @@ pub record IsAnsweredRun {K : Type 0} (written : K → Option (List ℕ)) (fault
   pub answers : IsAnswering told words (command_of words) answer before now tally_before tally_now
   pub finished : frame.IsFinished endings written faults answer status old new
 
--- where the words are `place` and the run is done, such a text was appended, and nothing else
+-- these bytes were read: they are those held, if that is told, and each file of the command was
+-- read once
+abbrev pub AreFilesRead : Option Files → List (List ℕ) → Reads → ℕ → ℕ → Type 0
+AreFilesRead told words reads before now =
+    AreReadOnce told (named words) (files_read (command_of words)) reads before now
+
+-- where the words are `place` and the run is done, such a text of the files that were read was
+-- appended, and nothing else
 abbrev pub PrintsWorstStable : Option Files → List (List ℕ) → Status
-    → Option (List ℕ) → Option (List ℕ) → Type 0
-PrintsWorstStable told words status old new =
+    → Option (List ℕ) → Option (List ℕ) → ℕ → ℕ → Type 0
+PrintsWorstStable told words status old new before now =
     (workers : ℕ) → command_of words ≡ Ok (Place workers) → status ≡ ends.Done
-    → (reads : Reads) × AreHeld told (named words) reads
+    → (reads : Reads) × AreFilesRead told words reads before now
     × (text : List ℕ) × IsWorstStableText reads text × Appended old new text
 
 -- where the words are `base` and the run is done, the base ranks of that placement were appended
 abbrev pub PrintsBases : Option Files → List (List ℕ) → Status → Option (List ℕ)
-    → Option (List ℕ) → Type 0
-PrintsBases told words status old new =
+    → Option (List ℕ) → ℕ → ℕ → Type 0
+PrintsBases told words status old new before now =
     (workers : ℕ) → command_of words ≡ Ok (Base workers) → status ≡ ends.Done
-    → (reads : Reads) × AreHeld told (named words) reads
+    → (reads : Reads) × AreFilesRead told words reads before now
     × (text : List ℕ) × IsBaseText reads text × Appended old new text
 
 -- where the words are `reasons` and the run is done, the reasons in that placement were appended
 abbrev pub PrintsReasons : Option Files → List (List ℕ) → Status → Option (List ℕ)
-    → Option (List ℕ) → Type 0
-PrintsReasons told words status old new =
+    → Option (List ℕ) → ℕ → ℕ → Type 0
+PrintsReasons told words status old new before now =
     (workers : ℕ) → command_of words ≡ Ok (Reasons workers) → status ≡ ends.Done
-    → (reads : Reads) × AreHeld told (named words) reads
+    → (reads : Reads) × AreFilesRead told words reads before now
     × (text : List ℕ) × IsReasonsText reads text × Appended old new text
 
 -- both, and nothing else was appended
 pub record PrintsReports (told : Option Files) (words : List (List ℕ)) (status : Status)
-    (old new : Option (List ℕ)) : Type 0 where
-  pub bases : PrintsBases told words status old new
-  pub reasons : PrintsReasons told words status old new
+    (old new : Option (List ℕ)) (before now : ℕ) : Type 0 where
+  pub bases : PrintsBases told words status old new before now
+  pub reasons : PrintsReasons told words status old new before now
 
--- where the words are `audit` and the run ends with the verdict, this is that of the audit, and
--- nothing else was appended
+-- where the words are `audit` and the run ends with the verdict, this is that of the audit of the
+-- files that were read, and nothing else was appended
 abbrev pub PrintsVerdict : Option Files → List (List ℕ) → Status → Option (List ℕ)
-    → Option (List ℕ) → Type 0
-PrintsVerdict told words status old new =
+    → Option (List ℕ) → ℕ → ℕ → Type 0
+PrintsVerdict told words status old new before now =
     (workers : ℕ) → command_of words ≡ Ok (Audit workers)
     → (ending : Ending) → status ≡ ended ending
-    → (reads : Reads) × AreHeld told (named words) reads
+    → (reads : Reads) × AreFilesRead told words reads before now
     × (answer : Answer) × (answer.ending ≡ ending) × IsAudit reads answer
     × Appended old new answer.text
 
@@ -143,10 +150,11 @@ PlacesWhole told words status old new = IfSome told (λ files.
     × Appended old new (placement_text (codes_in three) (numbers_in three)
     (mechanism_placement (problem_of (tables_in three))))))
 
--- all that is said over the bytes held is done, and files without a fault are placed
+-- all that is said over the bytes that were read is done, and held files without a fault are placed
 pub record IsComplete (told : Option Files) (words : List (List ℕ)) (status : Status)
-    (old new : Option (List ℕ)) : Type 0 where
-  pub whole : IsWhole endings told (named words) (says (command_of words)) status old new
+    (old new : Option (List ℕ)) (before now : ℕ) : Type 0 where
+  pub whole : IsWhole endings told (named words) (says (command_of words))
+      (files_read (command_of words)) status old new before now
   pub places : PlacesWhole told words status old new
 
 -- a run that ends with its text has no line

@@ -48,23 +48,24 @@ pub fn run_words<R: Threads + Sync, H: Shelf, K: Sink, N: Sink, G: Gate>(
         out.old out.new (H.faults shelf.old) (H.faults shelf.new)
         (H.tally shelf.old) (H.tally shelf.new) }
 
-    // Where the words are `place` and the run is done, the text is that of the mechanism's
-    // placement in the market of the three files. It is stable there, and in every stable placement
-    // there each candidate holds the printed programme or one listed higher.
+    // Where the words are `place` and the run is done, each of the three files was read once, and
+    // the text is that of the mechanism's placement in the market of what was read. It is stable
+    // there, and in every stable placement there each candidate holds the printed programme or one
+    // listed higher.
     ensures worst { PrintsWorstStable (H.files shelf.old) (texts words.now) result
-        (K.written out.old) (K.written out.new) }
+        (K.written out.old) (K.written out.new) (H.tally shelf.old) (H.tally shelf.new) }
 
-    // Where the words are `base` or `reasons` and the run is done, the text is that of the same
-    // placement. A programme that the reasons call full has as many holders as its quota, each with
-    // a better rank than the candidate.
+    // Where the words are `base` or `reasons` and the run is done, each of the three files was read
+    // once, and the text is that of the same placement. A programme that the reasons call full has
+    // as many holders as its quota, each with a better rank than the candidate.
     ensures reports { PrintsReports (H.files shelf.old) (texts words.now) result
-        (K.written out.old) (K.written out.new) }
+        (K.written out.old) (K.written out.new) (H.tally shelf.old) (H.tally shelf.new) }
 
-    // Where the words are `audit` and the run ends with its text, this is the first verdict on the
-    // placement of the fourth file in the market of the three. The status is Done exactly where
-    // that placement is stable there, and else AuditNo.
+    // Where the words are `audit` and the run ends with its text, each of the four files was read
+    // once, and the text is the first verdict on the placement of the fourth in the market of the
+    // three. The status is Done exactly where that placement is stable there, and else AuditNo.
     ensures verdict { PrintsVerdict (H.files shelf.old) (texts words.now) result
-        (K.written out.old) (K.written out.new) }
+        (K.written out.old) (K.written out.new) (H.tally shelf.old) (H.tally shelf.new) }
 
     // Where the words are `make` and the run is done, the text is the summary of the market of these
     // numbers and of the mechanism's placement in it. That is stable there, and in every stable
@@ -83,13 +84,16 @@ pub fn run_words<R: Threads + Sync, H: Shelf, K: Sink, N: Sink, G: Gate>(
         (H.faults shelf.old) (H.faults shelf.new) (H.tally shelf.old) (H.tally shelf.new)
         (K.faults out.old) (K.faults out.new) }
 
-    // Where no read and no write failed, all that is said is done, or memory was refused. So files
-    // without a fault are placed; and over a shelf and a sink that never fail it is always so.
+    // Where no read and no write failed, all that is said is done and each file up to the one that
+    // decides was read once, or memory was refused. So files without a fault are placed; and over a
+    // shelf and a sink that never fail it is always so.
     ensures complete { ¬ Rose (H.faults shelf.old) (H.faults shelf.new)
         → ¬ Rose (K.faults out.old) (K.faults out.new) → IsComplete (H.files shelf.old)
-        (texts words.now) result (K.written out.old) (K.written out.new) }
+        (texts words.now) result (K.written out.old) (K.written out.new)
+        (H.tally shelf.old) (H.tally shelf.new) }
     ensures sure { IsConstant H.faults → IsConstant K.faults → IsComplete (H.files shelf.old)
-        (texts words.now) result (K.written out.old) (K.written out.new) }
+        (texts words.now) result (K.written out.old) (K.written out.new)
+        (H.tally shelf.old) (H.tally shelf.new) }
 
     // What is held and granted stays. Where the words are refused, or ask for a made market, no file
     // is opened and no read fails: only memory and a failed write can keep a summary from being done.

@@ -12,14 +12,14 @@ use Rattle.run_frame.proofs.Endings as frame
 use Rattle.run_frame.proofs.Endings.{AreApart, answered-finished, stopped, whole-run, words-cause, write-cause}
 use Rattle.run_frame.specs.Files.{Reads}
 use Rattle.run_frame.specs.Lines.{IsNoted}
-use Rattle.run_frame.specs.Meetings.{Meets}
+use Rattle.run_frame.specs.Meetings.{IsDecided, Meets}
 use Rattle.run_frame.specs.Runs.{IsDone, IsWhole}
 use Rattle.run_frame.specs.Stops.{too_long}
 use Rattle.run_frame.specs.declared.stop.FileStop.{FileStop}
 use Rattle.run_frame.specs.declared.stop.FileStop.TheVariants.{Fault, ReadFault, Memory}
 use Rattle.registration_desk.specs.Reports.{DeskReport, report_on}
 use Rattle.registration_desk.specs.Runs.{AreTwo, HasCause, IsAnswering, IsComplete, IsFinished, LeavesSink, PrintsRegistered, ServesWhole, endings, line_in}
-use Rattle.registration_desk.specs.Says.{DeskFiles, both_said, named, numbers_said, reported, says}
+use Rattle.registration_desk.specs.Says.{DeskFiles, both_said, files_read, named, numbers_said, reported, says}
 use Rattle.registration_desk.specs.Statuses.{is_free, status_line, status_of}
 use Rattle.registration_desk.specs.Words.{clerks_of}
 use Rattle.registration_desk.specs.declared.status.DeskStatus.{DeskStatus}
@@ -97,11 +97,12 @@ says-report (Err refused) reads report e = cc e
 says-report (Ok clerks) reads report e = said-report (both_said reads) report e
 
 serves-whole : (told : Option Files) (words : List (List ℕ)) (status : DeskStatus)
-    (old new : Option (List ℕ))
-    → IsWhole endings told (named words) (says (clerks_of words)) status old new
+    (old new : Option (List ℕ)) (before now : ℕ)
+    → IsWhole endings told (named words) (says (clerks_of words)) (files_read (clerks_of words))
+    status old new before now
     → ServesWhole told words status old new
-serves-whole None words status old new whole = tt
-serves-whole (Some files) words status old new (reads, held, whole) =
+serves-whole None words status old new before now whole = tt
+serves-whole (Some files) words status old new before now (reads, held, whole) =
     λ two clerks accepted read faultless.
     let seen : AreTwo reads two = record {
       placement = sym (held file.Placement) ∙ read.placement;
@@ -111,8 +112,8 @@ serves-whole (Some files) words status old new (reads, held, whole) =
     let said : says (clerks_of words) reads ≡ Some (Ok report) =
     ap (λ v. says v reads) accepted ∙ ap reported (two-said reads two seen faultless) in
     ⊎_elim (λ refused. inl refused)
-    (λ other. let same : other.0 ≡ Ok report = cc (other.1, said) in
-    inr (subst (λ v. IsDone endings v status old new) same other.2))
+    (λ other. let same : other.1 ≡ Ok report = cc (other.2, said) in
+    inr (subst (λ v. IsDone endings v status old new) same other.3))
     whole
 
 -- the clauses of a run, from its report and how that was written
@@ -125,7 +126,7 @@ module _ {K : Type 0} (written : K → Option (List ℕ)) (faults : K → ℕ) (
       → IsNoted
       (status_line (numbers_said answer) status) notes_old notes_new notes_before notes_now
       → PrintsRegistered told words status (written old) (written new) notes_old notes_new
-      notes_before notes_now
+      notes_before notes_now tally_before tally_now
   registered-run notes_old notes_new notes_before notes_now noted = λ well.
       let done = answered-finished are-apart written faults answer status old new finished
       (λ stop is. undone stop (sym well ∙ is)) (λ is. cc (sym well ∙ is)) in
@@ -141,7 +142,10 @@ module _ {K : Type 0} (written : K → Option (List ℕ)) (faults : K → ℕ) (
       ∙ (λ j. status_line (is j).numbers ends.Done) in
       record {
         reads = answers.reads;
-        held = answers.held;
+        once = record {
+          held = answers.held;
+          taken = answers.taken (subst (λ v. IsDecided is_free v) (sym done.1) tt);
+        };
         two = served.two;
         read = served.read;
         no_fault = served.no_fault;
@@ -150,13 +154,14 @@ module _ {K : Type 0} (written : K → Option (List ℕ)) (faults : K → ℕ) (
       }
 
   pub complete-run : (Rose before now → ⊥) → (Rose (faults old) (faults new) → ⊥)
-      → IsComplete told words status (written old) (written new)
+      → IsComplete told words status (written old) (written new) tally_before tally_now
   complete-run no_read no_write =
       let whole = whole-run are-apart written faults status old new answers frees finished no_read
       no_write in
       record {
         whole = whole;
-        serves = serves-whole told words status (written old) (written new) whole;
+        serves = serves-whole told words status (written old) (written new) tally_before tally_now
+            whole;
       }
 
   -- a status that is a stop's is that of the answer

@@ -7,7 +7,7 @@ use Rattle.place_edges.specs.Shelf.{Files, GaveMore, file_limit}
 use Rattle.place_edges.specs.Sink.{Appended}
 use Rattle.placement_file.specs.Requests.{requests_fault, requests_in}
 use Rattle.placement_file.specs.SeatLists.{seats_fault, seats_in}
-use Rattle.run_frame.specs.Files.{AreHeld, AreRead, Reads}
+use Rattle.run_frame.specs.Files.{AreRead, AreReadOnce, Reads}
 use Rattle.run_frame.specs.Lines.{IsNoted}
 use Rattle.run_frame.specs.Runs as frame
 use Rattle.run_frame.specs.Runs.{Endings, IsWhole, WordsCause}
@@ -94,11 +94,13 @@ text_in two = registered_text (seats_in two.placement) (requests_in two.requests
 abbrev pub line_in : TwoFiles → List ℕ
 line_in two = numbers_line (numbers_of (seats_in two.placement) (requests_in two.requests))
 
--- two files without a fault were read; their text was appended, and their line noted
+-- two files without a fault were read, each once; their text was appended, and their line noted
 pub record IsRegistered (told : Option Files) (words : List (List ℕ))
-    (old new notes_old notes_new : Option (List ℕ)) (before now : ℕ) : Type 0 where
+    (old new notes_old notes_new : Option (List ℕ)) (before now tally_before tally_now : ℕ)
+    : Type 0 where
   pub reads : Reads
-  pub held : AreHeld told (named words) reads
+  pub once : AreReadOnce told (named words) (files_read (clerks_of words)) reads tally_before
+      tally_now
   pub two : TwoFiles
   pub read : AreTwo reads two
   pub no_fault : HasNoFault two
@@ -107,9 +109,11 @@ pub record IsRegistered (told : Option Files) (words : List (List ℕ))
 
 -- where the run is done, it is so
 abbrev pub PrintsRegistered : Option Files → List (List ℕ) → DeskStatus
-    → Option (List ℕ) → Option (List ℕ) → Option (List ℕ) → Option (List ℕ) → ℕ → ℕ → Type 0
-PrintsRegistered told words status old new notes_old notes_new before now =
+    → Option (List ℕ) → Option (List ℕ) → Option (List ℕ) → Option (List ℕ) → ℕ → ℕ → ℕ → ℕ
+    → Type 0
+PrintsRegistered told words status old new notes_old notes_new before now tally_before tally_now =
     status ≡ ends.Done → IsRegistered told words old new notes_old notes_new before now
+    tally_before tally_now
 
 -- where the words are accepted and two held files have no fault, their text was appended whole, or
 -- memory was refused
@@ -120,10 +124,11 @@ ServesWhole told words status old new = IfSome told (λ files.
     → AreTwo (λ kind. files (named words kind)) two → HasNoFault two
     → (status ≡ ends.Memory) ⊎ ((status ≡ ends.Done) × Appended old new (text_in two)))
 
--- all that is said over the bytes held is done, and files without a fault are served
+-- all that is said over the bytes that were read is done, and held files without a fault are served
 pub record IsComplete (told : Option Files) (words : List (List ℕ)) (status : DeskStatus)
-    (old new : Option (List ℕ)) : Type 0 where
-  pub whole : IsWhole endings told (named words) (says (clerks_of words)) status old new
+    (old new : Option (List ℕ)) (before now : ℕ) : Type 0 where
+  pub whole : IsWhole endings told (named words) (says (clerks_of words))
+      (files_read (clerks_of words)) status old new before now
   pub serves : ServesWhole told words status old new
 
 -- the words were refused

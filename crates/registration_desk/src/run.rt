@@ -53,11 +53,12 @@ pub fn run_desk<R: Threads + Wait + Sync, H: Shelf, K: Sink, N: Sink, G: DeskGat
         (texts words.now) result out.old out.new notes.old notes.new
         (H.faults shelf.old) (H.faults shelf.new) (H.tally shelf.old) (H.tally shelf.new) }
 
-    // Where the run is done, neither file has a fault. The text has a row for each placed candidate
-    // whom a request names, and the line has the numbers of the requests.
+    // Where the run is done, each of the two files was read once, and neither has a fault. The text
+    // has a row for each placed candidate whom a request names, and the line has the numbers of the
+    // requests.
     ensures registered { PrintsRegistered (H.files shelf.old) (texts words.now) result
         (K.written out.old) (K.written out.new) (N.written notes.old) (N.written notes.new)
-        (N.faults notes.old) (N.faults notes.new) }
+        (N.faults notes.old) (N.faults notes.new) (H.tally shelf.old) (H.tally shelf.new) }
 
     // After a refusal `out` is as it was.
     ensures sink { LeavesSink K.written K.faults result out.old out.new }
@@ -67,13 +68,16 @@ pub fn run_desk<R: Threads + Wait + Sync, H: Shelf, K: Sink, N: Sink, G: DeskGat
         (H.faults shelf.old) (H.faults shelf.new) (H.tally shelf.old) (H.tally shelf.new)
         (K.faults out.old) (K.faults out.new) }
 
-    // Where no read and no write failed, all that is said is done, or memory was refused. So files
-    // without a fault are served; and over a shelf and a sink that never fail it is always so.
+    // Where no read and no write failed, all that is said is done and each file up to the one that
+    // decides was read once, or memory was refused. So files without a fault are served; and over a
+    // shelf and a sink that never fail it is always so.
     ensures complete { ¬ Rose (H.faults shelf.old) (H.faults shelf.new)
         → ¬ Rose (K.faults out.old) (K.faults out.new) → IsComplete (H.files shelf.old)
-        (texts words.now) result (K.written out.old) (K.written out.new) }
+        (texts words.now) result (K.written out.old) (K.written out.new)
+        (H.tally shelf.old) (H.tally shelf.new) }
     ensures sure { IsConstant H.faults → IsConstant K.faults → IsComplete (H.files shelf.old)
-        (texts words.now) result (K.written out.old) (K.written out.new) }
+        (texts words.now) result (K.written out.old) (K.written out.new)
+        (H.tally shelf.old) (H.tally shelf.new) }
 
     // What is held and granted stays. Where the words are refused, no file is opened.
     ensures files { H.files shelf.new ≡ H.files shelf.old }

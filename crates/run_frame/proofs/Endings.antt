@@ -1,12 +1,12 @@
 -- What follows from how a run ends, where the statuses of its ends are apart.
 use Rattle.std.proofs.Common.{◌≡◌, ◌⊎◌, ◌≤◌, ◌∙◌, ℕ, List, [], sym, ap, subst, take, inl, inr, refl, arith, Option, Some, Result, Ok, Err, ⊎_elim}
-use Rattle.std.specs.Prelude.{Bool, IsFalse, IsTrue}
+use Rattle.std.specs.Prelude.{Bool, true, false, IsFalse, IsTrue}
 use Rattle.place_base.specs.declared.fault.FileKind.{FileKind}
 use Rattle.place_edges.specs.Causes.{Rose}
 use Rattle.place_edges.specs.Shelf.{Files}
 use Rattle.place_edges.specs.Sink.{Appended}
 use Rattle.run_frame.specs.Files.{AreRead, Reads}
-use Rattle.run_frame.specs.Meetings.{Meets}
+use Rattle.run_frame.specs.Meetings.{IsDecided, Meets}
 use Rattle.run_frame.specs.Runs.{Endings, IsConstant, IsDone, IsFinished, IsWhole, LeavesSink, StaysInFront, WordsCause}
 use Rattle.run_frame.specs.declared.stop.FileStop.{FileStop}
 use Rattle.run_frame.specs.declared.stop.FileStop.TheVariants.{ReadFault}
@@ -31,6 +31,11 @@ pub decided-said : {T S : Type 0} (free : S → Bool) (said : Option (Result T S
     → IsFalse (free stop) → Meets free said (Err stop) → said ≡ Some (Err stop)
 decided-said free said stop decided (inl allowed) = cc (allowed, decided)
 decided-said free said stop decided (inr e) = e
+
+-- a stop is free, or it decides
+free-or-decided : (free : Bool) → IsTrue free ⊎ IsFalse free
+free-or-decided true = inl refl
+free-or-decided false = inr refl
 
 module _ {A S E K : Type 0} {ends : Endings A S E} (apart : AreApart ends)
     (written : K → Option (List ℕ)) (faults : K → ℕ) where
@@ -104,31 +109,33 @@ module _ {A S E K : Type 0} {ends : Endings A S E} (apart : AreApart ends)
             finished).0;
       }
 
-  -- where no write failed, what is said was done, or memory was refused
+  -- where no write failed, what is said was done and the answer is no free stop, or memory was
+  -- refused
   done-finished : (free : S → Bool) (unread : S) (said : Option (Result A S))
       (answer : Result A S) (status : E) (old new : K)
       → ((stop : S) → IsTrue (free stop) → (stop ≡ unread) ⊎ (ends.stopped stop ≡ ends.memory))
       → Meets free said answer → IsFinished ends written faults answer status old new
       → (answer ≡ Err unread → ⊥) → (Rose (faults old) (faults new) → ⊥)
       → (status ≡ ends.memory)
-      ⊎ ((all : Result A S) × (said ≡ Some all) × IsDone ends all status (written old)
-      (written new))
+      ⊎ (IsDecided free answer × (all : Result A S) × (said ≡ Some all)
+      × IsDone ends all status (written old) (written new))
   done-finished free unread said (Ok answer) status old new frees meets (inl (well, wrote)) read
-      write = inr (Ok answer, meets, (well, wrote))
+      write = inr (tt, Ok answer, meets, (well, wrote))
   done-finished free unread said (Ok answer) status old new frees meets (inr (fault, wrote, rose))
       read write = absurd (write rose)
-  done-finished free unread said (Err stop) status old new frees (inr e) (is, same) read write =
-      inr (
+  done-finished free unread said (Err stop) status old new frees meets (is, same) read write =
+      ⊎_elim
+      (λ allowed. ⊎_elim (λ (e : stop ≡ unread). absurd (read (ap (λ v. Err v) e)))
+      (λ (refused : ends.stopped stop ≡ ends.memory). inl (is ∙ refused)) (frees stop allowed))
+      (λ decided. inr (
+        decided,
         Err stop,
-        e,
+        decided-said free said stop decided meets,
         (is, appended-nothing (written old) (written new) (ap written same)),
-      )
-  done-finished free unread said (Err stop) status old new frees (inl allowed) (is, same) read
-      write =
-      ⊎_elim (λ (e : stop ≡ unread). absurd (read (ap (λ v. Err v) e)))
-      (λ (refused : ends.stopped stop ≡ ends.memory). inl (is ∙ refused)) (frees stop allowed)
+      ))
+      (free-or-decided (free stop))
 
-  -- the same of files that were read
+  -- the same of files that were read, each once where the answer is no free stop
   pub whole-run : {told : Option Files} {names : FileKind → List ℕ} {free : S → Bool}
       {stop : FileStop → S} {first : Option FileKind} {said : Reads → Option (Result A S)}
       {files : Reads → List (List ℕ)} {answer : Result A S}
@@ -138,11 +145,13 @@ module _ {A S E K : Type 0} {ends : Endings A S E} (apart : AreApart ends)
       → (one ≡ stop ReadFault) ⊎ (ends.stopped one ≡ ends.memory))
       → IsFinished ends written faults answer status old new
       → (Rose before now → ⊥) → (Rose (faults old) (faults new) → ⊥)
-      → IsWhole ends told names said status (written old) (written new)
+      → IsWhole ends told names said files status (written old) (written new) tally_before tally_now
   whole-run {free = free} {stop = stop} {said = said} {answer = answer} status old new reading frees
       finished no_read no_write = (
         reading.reads,
         reading.held,
-        done-finished free (stop ReadFault) (said reading.reads) answer status old new frees
-            reading.meets finished (λ unread. no_read (reading.causes.read unread)) no_write,
+        ⊎_elim (λ refused. inl refused)
+            (λ well. inr (reading.taken well.0, well.1, well.2, well.3))
+            (done-finished free (stop ReadFault) (said reading.reads) answer status old new frees
+            reading.meets finished (λ unread. no_read (reading.causes.read unread)) no_write),
       )

@@ -89,6 +89,13 @@ abbrev pub AreHeld : Option Files → (FileKind → List ℕ) → Reads → Type
 AreHeld told names reads =
     IfSome told (λ files. (kind : FileKind) → files (names kind) ≡ reads kind)
 
+-- The bytes are those held under the files' names, if that is told; and the files that are read of
+-- them were read once each, one after the other.
+pub record AreReadOnce (told : Option Files) (names : FileKind → List ℕ)
+    (files : Reads → List (List ℕ)) (reads : Reads) (before now : ℕ) : Type 0 where
+  pub held : AreHeld told names reads
+  pub taken : AreTaken (files reads) before now
+
 -- the reading of the first file has begun, if there is one
 abbrev pub FirstHasBegun : Option FileKind → Reads → ℕ → ℕ → Type 0
 FirstHasBegun None reads before now = ⊤

@@ -4,7 +4,7 @@ use Rattle.place_base.specs.declared.fault.FileKind.{FileKind}
 use Rattle.place_edges.specs.Causes.{Rose}
 use Rattle.place_edges.specs.Shelf.{Files}
 use Rattle.place_edges.specs.Sink.{Appended, AppendedPrefix}
-use Rattle.run_frame.specs.Files.{AreHeld, Reads}
+use Rattle.run_frame.specs.Files.{AreHeld, AreTaken, Reads}
 
 -- The text of a program's answer, and the status of each end: where the text was written whole,
 -- where there is a stop in place of an answer, where a write failed, and where memory was refused.
@@ -33,13 +33,16 @@ IsDone ends (Ok answer) status old new =
     (status ≡ ends.done answer) × Appended old new (ends.text answer)
 IsDone ends (Err stop) status old new = (status ≡ ends.stopped stop) × Appended old new []
 
--- all that is said over the bytes held is done, or memory was refused
+-- All that is said over the bytes that were read is done, and the files that are read of them were
+-- read once each; or memory was refused.
 abbrev pub IsWhole : {A S E : Type 0} → Endings A S E → Option Files → (FileKind → List ℕ)
-    → (Reads → Option (Result A S)) → E → Option (List ℕ) → Option (List ℕ) → Type 0
-IsWhole {A} {S} ends told names says status old new =
+    → (Reads → Option (Result A S)) → (Reads → List (List ℕ)) → E
+    → Option (List ℕ) → Option (List ℕ) → ℕ → ℕ → Type 0
+IsWhole {A} {S} ends told names says files status old new before now =
     (reads : Reads) × AreHeld told names reads
     × ((status ≡ ends.memory)
-    ⊎ ((said : Result A S) × (says reads ≡ Some said) × IsDone ends said status old new))
+    ⊎ (AreTaken (files reads) before now
+    × (said : Result A S) × (says reads ≡ Some said) × IsDone ends said status old new))
 
 -- words are refused exactly where they give no command, and with that refusal
 pub record WordsCause {C W E : Type 0} (refusal : W → E) (command : Result C W) (status : E)
