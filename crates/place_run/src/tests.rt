@@ -26,7 +26,8 @@ use self::audits::{AUDITS, Audit, EXCHANGE, FAULTY_PLACEMENTS};
 use self::faulty_files::FAULTY;
 use self::gates::{Draws, DrawsInPairs};
 use self::worked_markets::{
-    CHAIN_CANDIDATES, CHAIN_PLACED, CHAIN_PROGRAMMES, CHAIN_RANKS, MARKETS, Worked,
+    CHAIN_BASE, CHAIN_CANDIDATES, CHAIN_PLACED, CHAIN_PROGRAMMES, CHAIN_RANKS, CHAIN_REASONS,
+    MARKETS, Worked,
 };
 use crate::inputs::Inputs;
 use crate::problem::Problem;
@@ -58,14 +59,18 @@ const PLACE_BY: [&[&str]; 5] = [
     &["place", "p", "c", "r", "--workers", "64"],
 ];
 
-// The reports by one worker and by the most.
-const BASE_BY: [&[&str]; 2] = [
+// The reports by one worker, by two, by seven, and by the most.
+const BASE_BY: [&[&str]; 4] = [
     &["base", "p", "c", "r", "--workers", "1"],
+    &["base", "p", "c", "r", "--workers", "2"],
+    &["base", "p", "c", "r", "--workers", "7"],
     &["base", "p", "c", "r", "--workers", "64"],
 ];
 
-const REASONS_BY: [&[&str]; 2] = [
+const REASONS_BY: [&[&str]; 4] = [
     &["reasons", "p", "c", "r", "--workers", "1"],
+    &["reasons", "p", "c", "r", "--workers", "2"],
+    &["reasons", "p", "c", "r", "--workers", "7"],
     &["reasons", "p", "c", "r", "--workers", "64"],
 ];
 
@@ -308,9 +313,7 @@ fn have_reasons(
 }
 
 #[test]
-fn the_same_placement_is_reported_by_one_worker_and_by_sixty_four(
-    rt: HostRuntime,
-) -> Result<(), Fail> {
+fn the_same_placement_is_reported_by_any_number_of_workers(rt: HostRuntime) -> Result<(), Fail> {
     for texts in BASE_BY {
         have_bases(&rt, rt.alloc(), texts, &MARKETS)?;
     }
@@ -437,21 +440,33 @@ const CHAIN: [(&str, &[u8]); 3] = [
     ("r", CHAIN_RANKS),
 ];
 
-#[test]
-fn two_workers_draw_the_turns_of_three_rounds_side_by_side(rt: HostRuntime) -> Result<(), Fail> {
-    let alloc = rt.alloc();
+// What two workers print of the three rounds.
+const CHAIN_BY_TWO: [(&[&str], &[u8]); 3] = [
+    (&BY_TWO, CHAIN_PLACED),
+    (&["base", "p", "c", "r", "--workers", "2"], CHAIN_BASE),
+    (&["reasons", "p", "c", "r", "--workers", "2"], CHAIN_REASONS),
+];
+
+// Two workers draw the turns of the three rounds side by side, and print this.
+fn are_drawn_side_by_side(
+    rt: &(impl Threads + Sync + Abort),
+    alloc: Global,
+    texts: &[&str],
+    printed: &[u8],
+) -> Result<(), Fail> {
     let gate = DrawsInPairs::none();
     let shelf = shelf(alloc, &CHAIN)?;
-    ends(
-        &rt,
-        alloc,
-        &BY_TWO,
-        shelf,
-        &gate,
-        (0, CHAIN_PLACED, b"", 0, 9),
-    )?;
+    ends(rt, alloc, texts, shelf, &gate, (0, printed, b"", 0, 9))?;
     assert_eq!(rt; gate.several(), 11);
     assert!(rt; !gate.has_given_up());
+    Ok(())
+}
+
+#[test]
+fn two_workers_draw_the_turns_of_three_rounds_side_by_side(rt: HostRuntime) -> Result<(), Fail> {
+    for (texts, printed) in CHAIN_BY_TWO {
+        are_drawn_side_by_side(&rt, rt.alloc(), texts, printed)?;
+    }
     Ok(())
 }
 

@@ -11,6 +11,12 @@ pub(super) const CHAIN_RANKS: &[u8] =
 
 pub(super) const CHAIN_PLACED: &[u8] = b"candidate,programme\n1,11\n2,21\n3,12\n";
 
+pub(super) const CHAIN_BASE: &[u8] = b"programme,quota,held,base\n11,1,1,1\n12,1,1,3\n21,1,1,2\n";
+
+pub(super) const CHAIN_REASONS: &[u8] =
+    b"candidate,programme,reason,base\n1,11,PLACED,-\n1,21,BELOW,-\n2,21,PLACED,-\n\
+    2,11,BELOW,-\n2,12,BELOW,-\n3,12,PLACED,-\n";
+
 // A market as its three files, what `place`, `base` and `reasons` print of it, and how many rounds,
 // cuts and turns it takes.
 #[derive(Clone, Copy)]
@@ -56,9 +62,8 @@ pub(super) const MARKETS: [Worked; 14] = [
         candidates: CHAIN_CANDIDATES,
         ranks: CHAIN_RANKS,
         placed: CHAIN_PLACED,
-        base: b"programme,quota,held,base\n11,1,1,1\n12,1,1,3\n21,1,1,2\n",
-        reasons: b"candidate,programme,reason,base\n1,11,PLACED,-\n1,21,BELOW,-\n2,21,PLACED,-\n\
-            2,11,BELOW,-\n2,12,BELOW,-\n3,12,PLACED,-\n",
+        base: CHAIN_BASE,
+        reasons: CHAIN_REASONS,
         counts: (3, 2, 11),
     },
     // Headers alone.
