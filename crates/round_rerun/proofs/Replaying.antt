@@ -1,15 +1,17 @@
 -- The rounds so far, where each round runs again only what the last cut changed.
-use Rattle.std.proofs.Common.{◌≡◌, ℕ, zero, suc, ◌+◌, ◌-◌, ◌*◌, ◌<◌, ◌≤◌, List, [], length, Option, Some, None, refl, sym, ap, ◌∙◌, subst, arith, get_or, replicate}
-use Rattle.std.specs.Prelude.{slice_index_or, unwrap_or}
+use Rattle.std.proofs.Common.{◌≡◌, ℕ, zero, suc, ◌+◌, ◌-◌, ◌*◌, ◌<◌, ◌≤◌, List, [], length, Option, Some, None, refl, sym, ap, ◌∙◌, subst, ⊎_elim, arith, get_or, replicate}
+use Rattle.std.specs.Prelude.{slice_index_or, unwrap_or, Result, Ok, Err}
+use Rattle.std.specs.Result.{IfErr}
+use Rattle.std.proofs.lemmas.Bool.{cases_lt}
 use Rattle.std.proofs.lemmas.List.{get_or-replicate}
 use Rattle.market.specs.declared.limits.TheConstants.{MAX_TYPES, MAX_CANDIDATES}
 use Rattle.market.specs.Problems.{Problem, IsValid, order_of}
 use Rattle.market.specs.Counting.{sum_below}
-use Rattle.market.specs.Mechanism.{tentative, whole_cuts, cuts_after, several_count, best_programmes, entries_left, mechanism_placement, mechanism_rounds, mechanism_cuts, cuts_in, several_in}
+use Rattle.market.specs.Mechanism.{tentative, whole_cuts, cuts_after, several_count, best_programmes, entries_left, mechanism_placement, mechanism_rounds, mechanism_cuts, cuts_in, several_in, cutting_rounds}
 use Rattle.market.specs.Choices.{IsRound, programme_in, empty_table, best_programmes_in}
 use Rattle.market.specs.Reruns.{first_changed, changed_turn, first_run, round_turns, placement_turns, IsRunUpto}
 use Rattle.market.proofs.Counts.{sum_same}
-use Rattle.market.proofs.Plain.{IsRoundsUpto, IsRoundsUpto-none, IsRoundsUpto-more, rounds-last, rounds-fall, sum_next}
+use Rattle.market.proofs.Plain.{IsRoundsUpto, IsRoundsUpto-none, IsRoundsUpto-more, rounds-le, rounds-last, rounds-fall, sum_next}
 use Rattle.market.proofs.Reruns.{first-le}
 use Rattle.market.proofs.Replays.{round-cuts, round-count, round-best_programmes, round-changed, run-none, run-kept, empty_table-count}
 use Rattle.round_rerun.specs.Runs.{first_of, run_turns}
@@ -122,6 +124,37 @@ replay-more m v r cuts next total count table more firsts then' done n u round e
       counted = replay-done m r cuts total table firsts done n u en;
       few = omega arith;
     }
+
+-- what holds whatever the result is holds where it is an error
+pub err_too : {T E : Type 0} (r : Result T E) (P : Type 0) → P → IfErr r (λ _. P)
+err_too (Ok x) P p = tt
+err_too (Err e) P p = p
+
+-- fewer terms have a sum that is no larger
+pub sum_fewer : (f : ℕ → ℕ) (k n : ℕ) → k ≤ n → sum_below f k ≤ sum_below f n
+sum_fewer f k zero l =
+    let none : k ≡ 0 = omega arith in
+    let same = ap (sum_below f) none in
+    omega arith
+sum_fewer f k (suc n) l =
+    ⊎_elim
+    (λ (less : k < suc n). let few = sum_fewer f k n (omega arith) in omega arith)
+    (λ (past : suc n ≤ k).
+    let all : k ≡ suc n = omega arith in
+    let same = ap (sum_below f) all in
+    omega arith)
+    (cases_lt k (suc n))
+
+-- the turns run so far, and those of this round, are no more than the placement has
+pub replay-short : (m : Problem) (r : ℕ) (cuts : List ℕ) (total : ℕ) (table : List (List (Option
+    ℕ))) (firsts : List (Option ℕ)) (done : ℕ) → IsReplayUpto m r cuts total table firsts done
+    → done + run_turns m firsts ≤ placement_turns m
+unfolding placement_turns mechanism_rounds
+replay-short m r cuts total table firsts done u =
+    let this = replay-done m r cuts total table firsts done (run_turns m firsts) u refl in
+    let past = rounds-le m r total cuts u.rounds in
+    let fewer = sum_fewer (round_turns m) (r + 1) (cutting_rounds m + 1) (omega arith) in
+    omega arith
 
 -- the next round starts with fewer entries
 pub replay-fall : (m : Problem) → IsValid m → (cuts next : List ℕ) (count : ℕ) (more : List (List

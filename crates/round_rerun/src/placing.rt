@@ -1,6 +1,7 @@
 // The rounds of a placement.
 
 ghost use Rattle.std.specs.Prelude.{◌≡◌, ℕ, ◌+◌, ◌*◌, ◌<◌, ◌≤◌, [], length, slice_index_or, IfOk};
+ghost use Rattle.std.specs.Result.{IfErr};
 ghost use Rattle.std.specs.Thread.{IsSync};
 ghost use Rattle.interleaving_core.specs.declared.limits.TheConstants.{MAX_WORKERS};
 ghost use Rattle.market.specs.declared.limits.TheConstants.{MAX_TYPES, MAX_CANDIDATES};
@@ -8,7 +9,7 @@ ghost use Rattle.market.specs.Problems.{IsValid, order_of};
 ghost use Rattle.market.specs.Mechanism.{IsCuts, mechanism_placement, mechanism_rounds, mechanism_cuts};
 ghost use Rattle.market.specs.Choices.{IsRound};
 ghost use Rattle.market.specs.Reruns.{IsRunUpto, placement_turns};
-ghost use Rattle.round_rerun.specs.Runs.{first_of, run_turns};
+ghost use Rattle.round_rerun.specs.Runs.{first_of, run_turns, HasRisenWithin};
 
 use crate::rerun::run_touched;
 use gate_workers::{Gate, OpenGate};
@@ -38,6 +39,7 @@ impl<'g, G: Gate> Rounds<'g, G> {
     /// The mechanism's placement, at any gate: the contract of `Placer::place`, which `Rounds` has
     /// as a trait over the open gate alone. The counter rises by the turns that were run: all in
     /// the first round, and then of each type those from the first one that the last cuts changed.
+    /// Where memory is refused, it has risen by at most as many turns as the placement has.
     pub fn run<R: Threads + Sync, L: Ledger>(
         &self,
         rt: &R,
@@ -51,6 +53,8 @@ impl<'g, G: Gate> Rounds<'g, G> {
         ensures cuts { IfOk result (λ outcome. outcome.cuts ≡ mechanism_cuts market.now) }
         ensures reruns { IfOk result (λ outcome. outcome.turns ≡ placement_turns market.now) }
         ensures turns { IfOk result (λ outcome. turns.new ≡ turns.old + outcome.turns) }
+        ensures refused { IfErr result (λ _. HasRisenWithin turns.old turns.new
+            (placement_turns market.now)) }
     {
         place_rounds(rt, alloc, self.workers, self.gate, market, turns)
     }
@@ -95,6 +99,8 @@ fn place_rounds<R: Threads + Sync, G: Gate, L: Ledger>(
     ensures cuts { IfOk result (λ outcome. outcome.cuts ≡ mechanism_cuts market.now) }
     ensures reruns { IfOk result (λ outcome. outcome.turns ≡ placement_turns market.now) }
     ensures turns { IfOk result (λ outcome. turns.new ≡ turns.old + outcome.turns) }
+    ensures refused { IfErr result (λ _. HasRisenWithin turns.old turns.new
+        (placement_turns market.now)) }
 {
     let mut cuts = Cuts::whole(alloc, market)?;
     let mut tentative = Tentative::none(alloc, market)?;
@@ -153,6 +159,8 @@ fn run_round<R: Threads + Sync, G: Gate, L: Ledger>(
     ensures count { IfOk result (λ n. n ≡ run_turns market.now touched.now.first) }
     ensures few { IfOk result (λ n. n ≤ MAX_TYPES * MAX_CANDIDATES) }
     ensures turns { IfOk result (λ n. turns.new ≡ turns.old + n) }
+    ensures refused { IfErr result (λ _. HasRisenWithin turns.old turns.new
+        (run_turns market.now touched.now.first)) }
     ensures valid { IsValid market.now }
 {
     let mut done: u64 = 0;

@@ -1,6 +1,7 @@
 // One type of a round, from a turn on.
 
 ghost use Rattle.std.specs.Prelude.{◌≡◌, ℕ, ◌+◌, ◌-◌, ◌<◌, ◌≤◌, [], length, slice_index, slice_index_or, IfOk, Option, unwrap_or};
+ghost use Rattle.std.specs.Result.{IfErr};
 ghost use Rattle.interleaving_core.specs.declared.limits.TheConstants.{MAX_WORKERS};
 ghost use Rattle.market.specs.Problems.{order_of, kind_of};
 ghost use Rattle.market.specs.Mechanism.{IsCuts};
@@ -14,7 +15,7 @@ use std::sync::ledger::Ledger;
 use std::thread::Threads;
 
 /// Runs the turns of a type that is touched from its first turn to run on, and says how many they
-/// are. Of a type that is not touched nothing is run.
+/// are. Of a type that is not touched nothing is run. Where memory is refused, nothing is counted.
 pub fn run_touched<R: Threads + Sync, G: Gate, L: Ledger>(
     rt: &R,
     alloc: Global,
@@ -44,6 +45,7 @@ pub fn run_touched<R: Threads + Sync, G: Gate, L: Ledger>(
     ensures count { IfOk result (λ n. n ≡ length (order_of market.now kind)
         - unwrap_or first (length (order_of market.now kind))) }
     ensures turns { IfOk result (λ n. turns.new ≡ turns.old + n) }
+    ensures refused { IfErr result (λ _. turns.new ≡ turns.old) }
 {
     match first {
         Some(from) => run_type(
@@ -79,6 +81,7 @@ fn run_type<R: Threads + Sync, G: Gate, L: Ledger>(
         → slice_index_or tentative.new t [] ≡ slice_index_or tentative.old t []) }
     ensures count { IfOk result (λ n. n ≡ length (order_of market.now kind) - from) }
     ensures turns { IfOk result (λ n. turns.new ≡ turns.old + n) }
+    ensures refused { IfErr result (λ _. turns.new ≡ turns.old) }
 {
     // Its clause says that the market is valid.
     let _ = market.type_count();

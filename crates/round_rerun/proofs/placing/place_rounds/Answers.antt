@@ -1,7 +1,9 @@
 use Rattle.std.proofs.Common.{◌∙◌, arith}
 use Rattle.market.proofs.Plain.{rounds_small, total_small}
 use Rattle.market.proofs.Replays.{round-within, round-count}
-use Rattle.round_rerun.proofs.Replaying.{replay-none, replay-within, replay-more, replay-fall, replay-last}
+use Rattle.market.specs.Reruns.{placement_turns}
+use Rattle.round_rerun.specs.Runs.{HasRisenWithin}
+use Rattle.round_rerun.proofs.Replaying.{replay-none, replay-within, replay-more, replay-fall, replay-short, replay-last, err_too}
 use Rattle.round_rerun.proofs.placing.place_rounds.Goals as goal
 
 pub rounds-init : goal.rounds-init
@@ -91,3 +93,25 @@ rounds-preserved g c = record {
       c.cut_lists-touched.ensures.first c.if-count-eq0.false;
   steps = omega (arith, c.rounds.invariant.steps, c.in_ok-done.ensures.turns);
 }
+
+pub returns-in_err-done-clause-refused : goal.returns-in_err-done-clause-refused
+returns-in_err-done-clause-refused g c =
+    let short = replay-short c.args.market.now c.rounds.rounds c.rounds.cuts c.rounds.total
+    c.rounds.tentative c.rounds.touched.first c.rounds.done c.rounds.invariant.replay in
+    let steps = c.rounds.invariant.steps in
+    let least = c.in_err-done.ensures.refused.0 in
+    let most = c.in_err-done.ensures.refused.1 in
+    let risen : HasRisenWithin c.args.turns.now c.run_round.new.turns
+    (placement_turns c.args.market.now) = (omega arith, omega arith) in
+    err_too _ _ risen
+
+pub returns-in_err-held-clause-refused : goal.returns-in_err-held-clause-refused
+returns-in_err-held-clause-refused g c =
+    let short = replay-short c.args.market.now c.rounds.rounds c.rounds.cuts c.rounds.total
+    c.rounds.tentative c.rounds.touched.first c.rounds.done c.rounds.invariant.replay in
+    let steps = c.rounds.invariant.steps in
+    let turns = c.in_ok-done.ensures.turns in
+    let count = c.in_ok-done.ensures.count in
+    let risen : HasRisenWithin c.args.turns.now c.run_round.new.turns
+    (placement_turns c.args.market.now) = (omega arith, omega arith) in
+    err_too _ _ risen

@@ -7,7 +7,8 @@ use Rattle.market.specs.Reruns.{IsRunUpto}
 use Rattle.market.proofs.Dicts.{order-le}
 use Rattle.market.proofs.Plain.{sum_next}
 use Rattle.market.proofs.Replays.{round-rows}
-use Rattle.round_rerun.specs.Runs.{first_of, run_turns}
+use Rattle.round_rerun.specs.Runs.{first_of, run_turns, HasRisenWithin}
+use Rattle.round_rerun.proofs.Replaying.{err_too, sum_fewer}
 use Rattle.round_rerun.proofs.placing.run_round.Goals as goal
 
 pub loop-kind-preserved : goal.loop-kind-preserved
@@ -58,3 +59,18 @@ returns-clause-count g c =
     let n = c.type_count-kind-end.ensures.count in
     c.loop-kind.invariant.count ∙ ap (sum_below (λ t. length (order_of m t) - first_of m
     c.args.touched.now.first t)) (omega arith)
+
+pub returns-in_err-ran-clause-refused : goal.returns-in_err-ran-clause-refused
+unfolding run_turns
+returns-in_err-ran-clause-refused g c =
+    let m = c.args.market.now in
+    let f = λ (t : ℕ). length (order_of m t) - first_of m c.args.touched.now.first t in
+    let n = c.type_count-kind-end.ensures.count in
+    let below = c.loop-kind-test.true in
+    let few = sum_fewer f c.loop-kind.kind m.types (omega arith) in
+    let count = c.loop-kind.invariant.count in
+    let steps = c.loop-kind.invariant.steps in
+    let same = c.in_err-ran.ensures.refused in
+    let risen : HasRisenWithin c.args.turns.now c.run_touched.new.turns
+    (run_turns m c.args.touched.now.first) = (omega arith, omega arith) in
+    err_too _ _ risen
