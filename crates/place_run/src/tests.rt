@@ -58,14 +58,18 @@ const PLACE_BY: [&[&str]; 5] = [
     &["place", "p", "c", "r", "--workers", "64"],
 ];
 
-// The reports by one worker and by the most.
-const BASE_BY: [&[&str]; 2] = [
+// The reports by one worker, by two, by seven, and by the most.
+const BASE_BY: [&[&str]; 4] = [
     &["base", "p", "c", "r", "--workers", "1"],
+    &["base", "p", "c", "r", "--workers", "2"],
+    &["base", "p", "c", "r", "--workers", "7"],
     &["base", "p", "c", "r", "--workers", "64"],
 ];
 
-const REASONS_BY: [&[&str]; 2] = [
+const REASONS_BY: [&[&str]; 4] = [
     &["reasons", "p", "c", "r", "--workers", "1"],
+    &["reasons", "p", "c", "r", "--workers", "2"],
+    &["reasons", "p", "c", "r", "--workers", "7"],
     &["reasons", "p", "c", "r", "--workers", "64"],
 ];
 
@@ -308,9 +312,7 @@ fn have_reasons(
 }
 
 #[test]
-fn the_same_placement_is_reported_by_one_worker_and_by_sixty_four(
-    rt: HostRuntime,
-) -> Result<(), Fail> {
+fn the_same_placement_is_reported_by_any_number_of_workers(rt: HostRuntime) -> Result<(), Fail> {
     for texts in BASE_BY {
         have_bases(&rt, rt.alloc(), texts, &MARKETS)?;
     }

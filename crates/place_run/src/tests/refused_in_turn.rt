@@ -2,7 +2,9 @@
 ghost use Rattle.std.specs.Prelude.{◌<◌};
 
 use super::worked_markets::{MARKETS, Worked};
-use super::{PLACE, PROGRAMMES, Ran, files_with, run_on, shelf};
+use super::{
+    CANDIDATES, FREED_SEAT, PLACE, PLACED, PROGRAMMES, RANKS, Ran, files_with, run_on, shelf,
+};
 use gate_workers::OpenGate;
 use place_edges::{MemShelf, MemSink};
 use std::alloc::{AllocError, Global};
@@ -132,55 +134,119 @@ fn a_put_that_fails_leaves_exactly_what_was_put_before_it(rt: HostRuntime) -> Re
     Ok(())
 }
 
-// Files that are refused: the number of the status, and its line.
-const LINES: [(&[(&str, &[u8])], u8, &[u8]); 2] = [
-    (
-        &[("p", PROGRAMMES), ("c", b"candidate,list\nx,101\n")],
-        3,
-        b"fault candidates line 2 field 1 F03 NotNumber earlier 0\n",
-    ),
-    (&[("p", PROGRAMMES)], 4, b"read fault\n"),
+// A run whose notes fail: its words and files, the put of `out` that fails too (the number 0 is no
+// put's), the number of the status, what is on `out`, and the line, of which a run that ends with
+// its text has nothing.
+#[derive(Clone, Copy)]
+struct Noted {
+    texts: &'static [&'static str],
+    files: &'static [(&'static str, &'static [u8])],
+    put: u64,
+    code: u8,
+    out: &'static [u8],
+    line: &'static [u8],
+}
+
+const NOTED: [Noted; 6] = [
+    Noted {
+        texts: &PLACE,
+        files: &[("p", PROGRAMMES), ("c", b"candidate,list\nx,101\n")],
+        put: 0,
+        code: 3,
+        out: b"",
+        line: b"fault candidates line 2 field 1 F03 NotNumber earlier 0\n",
+    },
+    Noted {
+        texts: &PLACE,
+        files: &[("p", PROGRAMMES)],
+        put: 0,
+        code: 4,
+        out: b"",
+        line: b"read fault\n",
+    },
+    Noted {
+        texts: &["plan"],
+        files: &[],
+        put: 0,
+        code: 2,
+        out: b"",
+        line: b"words UnknownCommand 1\n",
+    },
+    // The first piece of the text is put.
+    Noted {
+        texts: &PLACE,
+        files: &FREED_SEAT,
+        put: 2,
+        code: 5,
+        out: b"candidate,progra",
+        line: b"write fault\n",
+    },
+    Noted {
+        texts: &PLACE,
+        files: &FREED_SEAT,
+        put: 0,
+        code: 0,
+        out: PLACED,
+        line: b"",
+    },
+    // Nobody holds a seat.
+    Noted {
+        texts: &["audit", "p", "c", "r", "h"],
+        files: &[
+            ("p", PROGRAMMES),
+            ("c", CANDIDATES),
+            ("r", RANKS),
+            ("h", b"candidate,programme\n"),
+        ],
+        put: 0,
+        code: 7,
+        out: b"BLOCKING,1,101\n",
+        line: b"",
+    },
 ];
 
-// Where this put of the line fails, the status stays, and a prefix of the line was noted.
+// Where this put of notes fails, and so many did, status and `out` are the run's, and this front of
+// the line was noted.
 fn notes_fail_at_put(
     rt: &(impl Threads + Sync + Abort),
     alloc: Global,
-    files: &[(&str, &[u8])],
-    code: u8,
+    run: &Noted,
     put: u64,
+    faults: u64,
     front: &[u8],
 ) -> Result<(), Fail> {
-    let mut shelf = shelf(alloc, files)?;
-    let ran = run_failing(rt, alloc, &PLACE, &mut shelf, 16, 0, put)?;
+    let mut shelf = shelf(alloc, run.files)?;
+    let ran = run_failing(rt, alloc, run.texts, &mut shelf, 16, run.put, put)?;
     let ended = (
         ran.status.code(),
-        ran.notes.faults(),
         ran.out.bytes(),
         ran.notes.bytes(),
+        ran.notes.faults(),
     );
-    assert_eq!(rt; ended, (code, 1, b"".as_slice(), front));
+    assert_eq!(rt; ended, (run.code, run.out, front, faults));
     Ok(())
 }
 
-// Each put of the line fails in turn.
+// Each put of the line fails in turn, and a put behind the line is none.
 fn notes_fail_at_each_put(
     rt: &(impl Threads + Sync + Abort),
     alloc: Global,
-    files: &[(&str, &[u8])],
-    code: u8,
-    line: &[u8],
+    run: &Noted,
 ) -> Result<(), Fail> {
+    let line = run.line;
     for at in 0..line.len() {
-        notes_fail_at_put(rt, alloc, files, code, at as u64 + 1, &line[..at])?;
+        notes_fail_at_put(rt, alloc, run, at as u64 + 1, 1, &line[..at])?;
     }
-    Ok(())
+    let behind = (line.len() as u64).saturating_add(1);
+    notes_fail_at_put(rt, alloc, run, behind, 0, line)
 }
 
 #[test]
-fn notes_that_fail_at_any_put_have_a_prefix_of_the_line(rt: HostRuntime) -> Result<(), Fail> {
-    for (files, code, line) in LINES {
-        notes_fail_at_each_put(&rt, rt.alloc(), files, code, line)?;
+fn notes_that_fail_at_any_put_have_a_prefix_of_the_line_and_change_nothing_else(
+    rt: HostRuntime,
+) -> Result<(), Fail> {
+    for run in NOTED {
+        notes_fail_at_each_put(&rt, rt.alloc(), &run)?;
     }
     Ok(())
 }
