@@ -309,10 +309,10 @@ def system(tally, room):
     with open("/dev/full", "wb") as full:
         ends("the desk's text on a full disk", run(desk, DESK, stdout=full), write_fault)
         ends("the desk's line on a full disk", run(desk, DESK, stderr=full), (DONE, registered, None))
-    for at, what in ((0, "a placement"), (1, "requests")):
+    for at, what in ((0, "placement"), (1, "requests")):
         words = list(desk)
         words[at] = os.path.join(room, "missing")
-        ends("the desk, where %s cannot be opened" % what, run(words, DESK), read_fault)
+        ends("the desk, its %s missing" % what, run(words, DESK), read_fault)
     ends("the desk without words", run([], DESK), (WORDS, b"", b"words WordCount 1\n"))
 
 
