@@ -16,7 +16,7 @@ import sys
 import time
 
 HERE = os.path.dirname(os.path.abspath(__file__))
-OUT = os.path.join(HERE, "out")
+OUT = os.path.realpath(os.path.join(HERE, "out"))
 PROGRAM = os.environ.get("PROGRAM", os.path.join(HERE, "..", "crates", "place_program", "out", "place_program"))
 OTHER = os.environ.get("OTHER")
 PLAIN = os.path.join(OUT, "plain")
