@@ -16,8 +16,10 @@ pub mod Markets
 pub mod Verdicts
 -- texts that grow by a row
 pub mod RowTexts
--- texts that are written in parts
+-- a text that is written in two parts
 pub mod WrittenTexts
+-- texts that pass through a buffer
+pub mod QueuedTexts
 -- what a run leaves of a sink
 pub mod Finishing
 -- the parts of a line

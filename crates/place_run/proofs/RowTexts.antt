@@ -95,8 +95,3 @@ reason-row programmes candidates m held i place number code reason word base kno
 -- a number of 64 bits has at most 20 digits
 pub number-short : (number : ℕ) → number < 2 ^ 64 → length (decimal number) ≤ 20
 number-short number small = length-decimal-le 20 number (omega arith) (omega arith) small
-
--- a row of four short fields has at most 84 bytes
-pub row-short : (a b c d : List ℕ) → length a ≤ 20 → length b ≤ 20 → length c ≤ 20
-    → length d ≤ 20 → length (row_text (a ∷ b ∷ c ∷ d ∷ [])) ≤ 84
-row-short a b c d one two three four = grind (arith, common_steps)

@@ -1,4 +1,4 @@
--- A text that is written in two parts, and one that is written number by number.
+-- A text that is written in two parts.
 use Rattle.std.proofs.Common.{◌≡◌, ℕ, ◌+◌, ◌<◌, ◌≤◌, List, [], ◌∷◌, ◌++◌, length, take, get_or, sym, ap, ◌∙◌, subst, arith, Option, Result, Ok, Err, length-append}
 use Rattle.std.specs.List.{flat_map, range_with_len}
 use Rattle.std.proofs.Math.Seq.{take-append-add}
@@ -50,24 +50,3 @@ written-two first second (Err error) old mid new before between now wrote later 
       failed = omega (arith, later, rest.failed);
       later = omega (arith, later, rest.later);
     }
-
--- one number more
-pub texts-more : (text : ℕ → List ℕ) (count n : ℕ) (old mid new : Option (List ℕ)) → n < count
-    → Appended old mid (texts_before text count n) → Appended mid new (text n)
-    → Appended old new (texts_before text count (n + 1))
-texts-more text count n old mid new within before more =
-    subst (λ v. Appended old new v) (texts-next text [] count n within)
-    (appended-two old mid new (texts_before text count n) (text n) before more)
-
--- where the text of a number was not written whole, neither were all of them
-pub texts-unwritten : {T E : Type 0} (text : ℕ → List ℕ) (count n : ℕ) (error : E)
-    (old mid new : Option (List ℕ)) (before between now : ℕ) → n < count
-    → Appended old mid (texts_before text count n) → before ≤ between
-    → IsWritten {T = T} (text n) (Err error) mid new between now
-    → IsWritten {T = T} (flat_map text (range_with_len 0 count)) (Err error) old new before now
-texts-unwritten {T} {E} text count n error old mid new before between now within wrote later written =
-    let xs = range_with_len 0 count in
-    let few : n < length xs = omega (arith, length-range_with_len 0 count) in
-    let at : get_or xs n 0 ≡ n = get_or-range_with_len 0 count n 0 within ∙ omega arith in
-    unwritten-at text xs n 0 error old mid new before between now few wrote later
-    (subst (λ v. IsWritten {T = T} (text v) (Err error) mid new between now) (sym at) written)

@@ -20,7 +20,7 @@ pub(crate) struct Answer {
 enum Text {
     // One that stands in memory whole.
     Whole(Vec<u8>),
-    // One that is made a candidate at a time while it is written.
+    // One that is made a row at a time while it is written.
     Reasons(ReasonRows),
 }
 

@@ -1,6 +1,6 @@
-// The reasons of a placement, as a text that is made a candidate at a time while it is written.
+// The reasons of a placement, as a text that is made a row at a time while it is written.
 
-ghost use Rattle.std.specs.Prelude.{◌≡◌, ◌+◌, ◌++◌, ◌<◌, ◌≤◌, length};
+ghost use Rattle.std.specs.Prelude.{◌≡◌, ◌+◌, ◌++◌, ◌<◌, ◌≤◌, [], IfOk, length};
 ghost use Rattle.std.specs.List.{flat_map, range_with_len};
 ghost use Rattle.market.specs.Problems.{list_of};
 ghost use Rattle.place_edges.specs.Sink.{IsWritten};
@@ -9,6 +9,7 @@ ghost use Rattle.programme_table.specs.Table.{codes_of};
 ghost use Rattle.record_files.specs.Texts.{IsShort, text_of};
 ghost use Rattle.reports.specs.BaseTables.{IsBaseTable};
 ghost use Rattle.place_run.specs.Placings.{IsNamedPlacement};
+ghost use Rattle.place_run.specs.Texts.{IsQueued};
 ghost use Rattle.place_run.specs.commands.Reasons.{candidate_rows, entry_row, reason_base as base_of, reason_word as word_of, reasons_text};
 
 use crate::placing::Placed;
@@ -61,7 +62,8 @@ impl ReasonRows {
     }
 }
 
-// Writes the reasons of a placement with these base ranks: a header, and then the rows.
+// Writes the reasons of a placement with these base ranks: a header, and then the rows. They pass
+// through a buffer, so that the sink gets many rows at once.
 fn write_reasons<K: Sink>(placed: &Placed, bases: &BaseRanks, out: &mut K) -> Result<(), Failed>
     requires named { IsNamedPlacement placed.now.problem placed.now.placement }
     requires bases { IsBaseTable placed.now.problem.market placed.now.placement bases.now }
@@ -76,12 +78,12 @@ fn write_reasons<K: Sink>(placed: &Placed, bases: &BaseRanks, out: &mut K) -> Re
         Field::Text(b"reason"),
         Field::Text(b"base"),
     );
-    write_whole(out, rows.bytes())?;
-    write_rows(placed, bases, &mut rows, out)
+    queue_rows(placed, bases, &mut rows, out)?;
+    write_whole(out, rows.bytes())
 }
 
-// Writes the rows of a candidate after the other, each candidate's from the buffer.
-fn write_rows<K: Sink>(
+// Queues the rows of a candidate after the other.
+fn queue_rows<K: Sink>(
     placed: &Placed,
     bases: &BaseRanks,
     rows: &mut RowBuffer,
@@ -89,32 +91,56 @@ fn write_rows<K: Sink>(
 ) -> Result<(), Failed>
     requires named { IsNamedPlacement placed.now.problem placed.now.placement }
     requires bases { IsBaseTable placed.now.problem.market placed.now.placement bases.now }
-    ensures { IsWritten (flat_map (candidate_rows (codes_of placed.now.problem.programmes.rows)
+    ensures { IsQueued (flat_map (candidate_rows (codes_of placed.now.problem.programmes.rows)
         (numbers_of placed.now.problem.numbers) placed.now.problem.market placed.now.placement)
         (range_with_len 0 (length placed.now.problem.market.lists)))
-        result (K.written out.old) (K.written out.new) (K.faults out.old) (K.faults out.new) }
+        result rows.old rows.new (K.written out.old) (K.written out.new)
+        (K.faults out.old) (K.faults out.new) }
 {
     for candidate in 0..placed.problem.market.candidate_count() {
-        fill(rows, placed, bases, candidate);
-        write_whole(out, rows.bytes())?;
+        queue_candidate(placed, bases, candidate, rows, out)?;
     }
     Ok(())
 }
 
-// Puts the rows of a candidate into the buffer, in place of what it has.
-fn fill(rows: &mut RowBuffer, placed: &Placed, bases: &BaseRanks, candidate: u32)
+// Queues the rows of a candidate.
+fn queue_candidate<K: Sink>(
+    placed: &Placed,
+    bases: &BaseRanks,
+    candidate: u32,
+    rows: &mut RowBuffer,
+    out: &mut K,
+) -> Result<(), Failed>
     requires named { IsNamedPlacement placed.now.problem placed.now.placement }
     requires bases { IsBaseTable placed.now.problem.market placed.now.placement bases.now }
     requires candidate { candidate < length placed.now.problem.market.lists }
-    ensures { rows.new ≡ candidate_rows (codes_of placed.now.problem.programmes.rows)
+    ensures { IsQueued (candidate_rows (codes_of placed.now.problem.programmes.rows)
         (numbers_of placed.now.problem.numbers) placed.now.problem.market placed.now.placement
-        candidate }
+        candidate) result rows.old rows.new (K.written out.old) (K.written out.new)
+        (K.faults out.old) (K.faults out.new) }
 {
-    rows.clear();
     let places = placed.problem.market.list(candidate).len() as u32;
     for place in 0..places {
+        make_room(rows, out)?;
         put_entry(rows, placed, bases, candidate, place);
     }
+    Ok(())
+}
+
+// How many bytes are free where a row is put.
+const ROW: u32 = 96;
+
+// Writes what is queued where the buffer has no room for a row.
+fn make_room<K: Sink>(rows: &mut RowBuffer, out: &mut K) -> Result<(), Failed>
+    ensures queued { IsQueued [] result rows.old rows.new (K.written out.old) (K.written out.new)
+        (K.faults out.old) (K.faults out.new) }
+    ensures room { IfOk result (λ _. length rows.new + 96 ≤ 4096) }
+{
+    if rows.room() < ROW {
+        write_whole(out, rows.bytes())?;
+        rows.clear();
+    }
+    Ok(())
 }
 
 // Appends the row of the entry at a place of a candidate's list.
@@ -124,10 +150,9 @@ fn put_entry(rows: &mut RowBuffer, placed: &Placed, bases: &BaseRanks, candidate
     requires bases { IsBaseTable placed.now.problem.market placed.now.placement bases.now }
     requires candidate { candidate < length placed.now.problem.market.lists }
     requires place { place < length (list_of placed.now.problem.market candidate) }
-    ensures text { rows.new ≡ rows.old ++ entry_row (codes_of placed.now.problem.programmes.rows)
+    ensures { rows.new ≡ rows.old ++ entry_row (codes_of placed.now.problem.programmes.rows)
         (numbers_of placed.now.problem.numbers) placed.now.problem.market placed.now.placement
         candidate place }
-    ensures len { length rows.new ≤ length rows.old + 84 }
 {
     let problem = &placed.problem;
     let programme = problem.market.list(candidate)[place as usize];

@@ -1,9 +1,10 @@
 // Files at their limits, and many candidates.
+use super::refused_in_turn::run_failing;
 use super::{FREED_SEAT, PLACE, PLACED, counts_of, ends, run, shelf, words};
 use crate::run_words;
 use gate_workers::OpenGate;
 use place_edges::{MemShelf, MemSink, RepeatShelf};
-use record_files::{Field, put_row_2, put_row_3};
+use record_files::{Field, put_row_2, put_row_3, put_row_4};
 use std::alloc::{AllocError, Global};
 use std::test::Fail;
 
@@ -233,5 +234,46 @@ fn five_thousand_candidates_are_placed_by_twenty_thousand_ranks(
     // the ranks are taken in more than one piece
     let placed = (0, text.as_slice(), b"".as_slice(), 0, 12);
     ends(&rt, alloc, &PLACE, many_files(alloc)?, &OpenGate, placed)?;
+    Ok(())
+}
+
+// The rows of the reasons of a candidate of a group, who holds the first programme of its list.
+fn put_reasons(text: &mut Vec<u8>, candidate: u64, group: u64) -> Result<(), AllocError> {
+    let candidate = Field::Number(candidate);
+    for place in 0..4 {
+        let code = Field::Number((group + place) % 4 + 1);
+        let reason: &[u8] = if place == 0 { b"PLACED" } else { b"BELOW" };
+        put_row_4(
+            text,
+            candidate,
+            code,
+            Field::Text(reason),
+            Field::Text(b"-"),
+        )?;
+    }
+    Ok(())
+}
+
+// The reasons of all candidates: many times what is written at once.
+fn many_reasons(alloc: Global) -> Result<Vec<u8>, AllocError> {
+    let mut text = b"candidate,programme,reason,base\n".to_vec(alloc)?;
+    for index in 0..5_000 {
+        put_reasons(&mut text, index + 1, index / 1_250)?;
+    }
+    Ok(text)
+}
+
+#[test]
+fn many_reasons_are_written_whole_or_up_to_the_put_that_fails(rt: HostRuntime) -> Result<(), Fail> {
+    let alloc = rt.alloc();
+    let text = many_reasons(alloc)?;
+    for (put, code, pieces) in [(0, 0, text.len() / 4_000), (2, 5, 1), (3, 5, 2)] {
+        let mut shelf = many_files(alloc)?;
+        let words = ["reasons", "p", "c", "r"];
+        let ran = run_failing(&rt, alloc, &words, &mut shelf, 4_096, put, 0)?;
+        let written = ran.out.bytes();
+        let ended = (ran.status.code(), written.len() / 4_000);
+        assert_eq!(rt; (ended, text.starts_with(written)), ((code, pieces), true));
+    }
     Ok(())
 }

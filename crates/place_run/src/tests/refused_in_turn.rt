@@ -16,7 +16,7 @@ use std::thread::Threads;
 fn sink(alloc: Global, piece: usize, put: u64) -> Result<MemSink, AllocError>
     requires { 0 < piece }
 {
-    let mut sink = MemSink::new(alloc, piece, 65_536)?;
+    let mut sink = MemSink::new(alloc, piece, 1 << 20)?;
     sink.fail_at(put)?;
     Ok(sink)
 }
@@ -47,32 +47,25 @@ pub(super) fn run_failing(
 }
 
 // The words of each command over the files of the freed seat, or of a market that is made, and the
-// parts in which it writes its text: the reasons have a header, and then the rows of a candidate
-// after the other.
-const TEXTS: [(&[&str], &[&[u8]]); 5] = [
+// text that it writes.
+const TEXTS: [(&[&str], &[u8]); 5] = [
     (
         &["place", "p", "c", "r"],
-        &[b"candidate,programme\n1,101\n2,201\n"],
+        b"candidate,programme\n1,101\n2,201\n",
     ),
     (
         &["base", "p", "c", "r"],
-        &[b"programme,quota,held,base\n101,1,1,1\n201,1,1,2\n"],
+        b"programme,quota,held,base\n101,1,1,1\n201,1,1,2\n",
     ),
     (
         &["reasons", "p", "c", "r"],
-        &[
-            b"candidate,programme,reason,base\n",
-            b"1,101,PLACED,-\n1,201,BELOW,-\n",
-            b"2,201,PLACED,-\n",
-        ],
+        b"candidate,programme,reason,base\n1,101,PLACED,-\n1,201,BELOW,-\n2,201,PLACED,-\n",
     ),
-    (&["audit", "p", "c", "r", "h"], &[b"STABLE\n"]),
+    (&["audit", "p", "c", "r", "h"], b"STABLE\n"),
     (
         &["make", "1", "0", "0", "1"],
-        &[
-            b"candidates 0\nprogrammes 0\ntypes 1\nentries 0\nrounds 1\ncuts 0\nturns 0\n\
+        b"candidates 0\nprogrammes 0\ntypes 1\nentries 0\nrounds 1\ncuts 0\nturns 0\n\
 placed 0\nseats 0\n",
-        ],
     ),
 ];
 
@@ -105,7 +98,7 @@ fn fail_at_each_put(
     rt: &(impl Threads + Sync + Abort),
     alloc: Global,
     texts: &[&str],
-    parts: &[&[u8]],
+    text: &[u8],
     market: &Worked,
     piece: usize,
 ) -> Result<(), Fail>
@@ -113,12 +106,10 @@ fn fail_at_each_put(
 {
     let mut front = Vec::new(alloc);
     let mut put = 1u64;
-    for part in parts {
-        for bytes in part.chunks(piece) {
-            fails_at_put(rt, alloc, texts, market, piece, put, &front)?;
-            front.extend_from_slice(bytes)?;
-            put = put.saturating_add(1);
-        }
+    for bytes in text.chunks(piece) {
+        fails_at_put(rt, alloc, texts, market, piece, put, &front)?;
+        front.extend_from_slice(bytes)?;
+        put = put.saturating_add(1);
     }
     Ok(())
 }
@@ -126,10 +117,10 @@ fn fail_at_each_put(
 #[test]
 fn a_put_that_fails_leaves_exactly_what_was_put_before_it(rt: HostRuntime) -> Result<(), Fail> {
     let alloc = rt.alloc();
-    for (texts, parts) in TEXTS {
-        fail_at_each_put(&rt, alloc, texts, parts, &MARKETS[1], 1)?;
-        fail_at_each_put(&rt, alloc, texts, parts, &MARKETS[1], 16)?;
-        fail_at_each_put(&rt, alloc, texts, parts, &MARKETS[1], 4096)?;
+    for (texts, text) in TEXTS {
+        fail_at_each_put(&rt, alloc, texts, text, &MARKETS[1], 1)?;
+        fail_at_each_put(&rt, alloc, texts, text, &MARKETS[1], 16)?;
+        fail_at_each_put(&rt, alloc, texts, text, &MARKETS[1], 4096)?;
     }
     Ok(())
 }

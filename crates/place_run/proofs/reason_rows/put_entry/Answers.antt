@@ -4,11 +4,11 @@ use Rattle.candidate_table.specs.Table.{numbers_of}
 use Rattle.programme_table.specs.Table.{codes_of}
 use Rattle.record_files.specs.Texts.{row_text, text_of}
 use Rattle.reports.specs.Reasons.{entry_at}
-use Rattle.place_run.proofs.RowTexts.{number-short, reason-row, row-short}
+use Rattle.place_run.proofs.RowTexts.{reason-row}
 use Rattle.place_run.proofs.reason_rows.put_entry.Goals as goal
 
-pub returns-clause-text : goal.returns-clause-text
-returns-clause-text c =
+pub returns : goal.returns
+returns c =
     let problem = c.args.placed.now.problem in
     let m = problem.market in
     let i = c.args.candidate in
@@ -26,23 +26,3 @@ returns-clause-text c =
     c.reason-reason.result c.as_bytes.result.now (text_of c.reason_base.result) known listed
     c.number_at.ensures coded c.reason-reason.ensures
     (c.as_bytes.ensures.value ∙ c.reason_word.ensures.word) c.reason_base.ensures.text)
-
-pub returns-clause-len : goal.returns-clause-len
-returns-clause-len c =
-    let number = decimal c.number_at.result in
-    let code = decimal c.number_at-2.result in
-    let word = c.as_bytes.result.now in
-    let base = text_of c.reason_base.result in
-    let worded = ap length c.as_bytes.ensures.value in
-    let few : length word ≤ 20 = omega (arith, worded, c.reason_word.ensures.short) in
-    let short = row-short number code word base
-    (number-short c.number_at.result (omega (arith, c.number_at.type_inv)))
-    (number-short c.number_at-2.result (omega (arith, c.number_at-2.type_inv))) few
-    c.reason_base.ensures.len in
-    let sizes = ap length c.put_row_4.ensures in
-    omega (
-      arith,
-      sizes,
-      short,
-      length-append c.args.rows.now (row_text (number ∷ code ∷ word ∷ base ∷ [])),
-    )

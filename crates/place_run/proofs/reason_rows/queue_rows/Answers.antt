@@ -1,16 +1,17 @@
 use Rattle.std.proofs.Common.{◌<◌, ◌≤◌, Err, length, subst, ◌∙◌, arith}
-use Rattle.std.specs.List.{flat_map, range_with_len}
 use Rattle.candidate_table.specs.Table.{numbers_of}
-use Rattle.place_edges.specs.Sink.{Appended, IsWritten}
 use Rattle.programme_table.specs.Table.{codes_of}
 use Rattle.run_frame.proofs.Parts.{at-error}
+use Rattle.place_run.specs.Texts.{AreQueued, IsQueued}
 use Rattle.place_run.specs.commands.Reasons.{candidate_rows}
+use Rattle.place_run.proofs.QueuedTexts.{queued-more, texts-unqueued, unqueued-of, unwritten-of}
 use Rattle.place_run.proofs.RowTexts.{texts-all}
-use Rattle.place_run.proofs.WrittenTexts.{texts-more, texts-unwritten}
-use Rattle.place_run.proofs.reason_rows.write_rows.Goals as goal
+use Rattle.place_run.proofs.reason_rows.queue_rows.Goals as goal
+use Rattle.std.specs.List.{flat_map, range_with_len}
+use Rattle.place_edges.specs.Sink.{IsWritten}
 
-pub returns-in_err-write_whole : goal.returns-in_err-write_whole
-returns-in_err-write_whole g c =
+pub returns-in_err-queue_candidate : goal.returns-in_err-queue_candidate
+returns-in_err-queue_candidate g c =
     let problem = c.args.placed.now.problem in
     let count = length problem.market.lists in
     let text = candidate_rows (codes_of problem.programmes.rows) (numbers_of problem.numbers)
@@ -18,16 +19,16 @@ returns-in_err-write_whole g c =
     let counted = c.candidate_count-candidate-end.ensures.count in
     let within : c.loop-candidate.candidate < count = omega
     (arith, counted, c.loop-candidate-test.true) in
-    at-error (λ r. IsWritten (flat_map text (range_with_len 0 count)) r
-    (g.K.Sink.written c.args.out.now) (g.K.Sink.written c.write_whole.new.sink)
-    (g.K.Sink.faults c.args.out.now) (g.K.Sink.faults c.write_whole.new.sink))
-    c.from_residual.result c.in_err-write_whole.field-0.0 c.from_residual.ensures.1
-    (texts-unwritten text count c.loop-candidate.candidate _ _ _ _ _ _ _ within
-    c.loop-candidate.invariant.so_far c.loop-candidate.invariant.later
-    (subst (λ v. IsWritten v (Err c.in_err-write_whole.field-0.0)
-    (g.K.Sink.written c.loop-candidate.out) (g.K.Sink.written c.write_whole.new.sink)
-    (g.K.Sink.faults c.loop-candidate.out) (g.K.Sink.faults c.write_whole.new.sink))
-    (c.bytes.ensures.text ∙ c.fill.ensures) c.in_err-write_whole.ensures))
+    let error = c.in_err-queue_candidate.field-0.0 in
+    at-error (λ r. IsQueued (flat_map text (range_with_len 0 count)) r c.args.rows.now
+    c.queue_candidate.new.rows (g.K.Sink.written c.args.out.now)
+    (g.K.Sink.written c.queue_candidate.new.out)
+    (g.K.Sink.faults c.args.out.now) (g.K.Sink.faults c.queue_candidate.new.out))
+    c.from_residual.result error c.from_residual.ensures.1
+    (unqueued-of _ error _ _ _ _ _ _ (texts-unqueued text count c.loop-candidate.candidate error
+    _ _ _ _ _ _ _ _ within c.loop-candidate.invariant.so_far c.loop-candidate.invariant.later
+    (unwritten-of (text c.loop-candidate.candidate) error _ _ _ _ _ _
+    c.in_err-queue_candidate.ensures)))
 
 pub loop-candidate-preserved : goal.loop-candidate-preserved
 loop-candidate-preserved g c =
@@ -38,13 +39,11 @@ loop-candidate-preserved g c =
     let counted = c.candidate_count-candidate-end.ensures.count in
     let within : c.loop-candidate.candidate < count = omega
     (arith, counted, c.loop-candidate-test.true) in
+    let queued = c.in_ok-queue_candidate.ensures in
     record {
-      later = omega (arith, c.loop-candidate.invariant.later, c.in_ok-write_whole.ensures.later);
-      so_far = texts-more text count c.loop-candidate.candidate _ _ _ within
-          c.loop-candidate.invariant.so_far
-          (subst (λ v. Appended (g.K.Sink.written c.loop-candidate.out)
-          (g.K.Sink.written c.write_whole.new.sink) v) (c.bytes.ensures.text ∙ c.fill.ensures)
-          c.in_ok-write_whole.ensures.whole);
+      later = omega (arith, c.loop-candidate.invariant.later, queued.later);
+      so_far = queued-more text count c.loop-candidate.candidate _ _ _ _ _ _ within
+          c.loop-candidate.invariant.so_far queued.whole;
     }
 
 pub returns : goal.returns
@@ -57,8 +56,8 @@ returns g c =
     let all : count ≤ c.loop-candidate.candidate = omega
     (arith, counted, c.loop-candidate-test.false) in
     record {
-      whole = subst (λ v. Appended (g.K.Sink.written c.args.out.now)
-          (g.K.Sink.written c.loop-candidate.out) v)
+      whole = subst (λ v. AreQueued v c.args.rows.now c.loop-candidate.rows
+          (g.K.Sink.written c.args.out.now) (g.K.Sink.written c.loop-candidate.out))
           (texts-all text count c.loop-candidate.candidate all) c.loop-candidate.invariant.so_far;
       prefix = tt;
       failed = tt;
