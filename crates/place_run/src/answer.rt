@@ -9,10 +9,19 @@ use place_edges::{Failed, Sink, write_whole};
 use std::marker::Model;
 
 // An answer: how the run ends, and a text. All its memory is taken when it is made.
-#[derive(Drop)]
 pub(crate) struct Answer {
     ending: Ending,
     text: Text,
+}
+
+// By hand, so that letting one go is one call in the proof of whoever holds it.
+impl Drop for Answer {
+    fn drop(self) {
+        let Self {
+            ending: _,
+            text: _text,
+        } = self;
+    }
 }
 
 // The kinds of text.

@@ -29,11 +29,21 @@ use std::marker::Model;
 use std::thread::Threads;
 
 // The three tables of a market. Each speaks only of what those before it hold.
-#[derive(Drop)]
 pub(crate) struct Inputs {
     programmes: ProgrammeTable,
     candidates: CandidateTable,
     ranks: RankLists,
+}
+
+// By hand, so that letting one go is one call in the proof of whoever holds it.
+impl Drop for Inputs {
+    fn drop(self) {
+        let Self {
+            programmes: _programmes,
+            candidates: _candidates,
+            ranks: _ranks,
+        } = self;
+    }
 }
 
 impl Model for Inputs {
@@ -117,7 +127,12 @@ impl Inputs {
         ensures types { length self.ranks.orders ≡ length self.programmes.names }
         ensures numbers { self.ranks.candidates ≡ length self.candidates.numbers }
     {
-        (self.programmes, self.candidates, self.ranks)
+        let Self {
+            programmes,
+            candidates,
+            ranks,
+        } = self;
+        (programmes, candidates, ranks)
     }
 }
 
