@@ -20,10 +20,19 @@ use std::marker::Model;
 use std::thread::Threads;
 
 /// The candidates of a file in file order, with their preference lists as indexes of programmes.
-#[derive(Drop)]
 pub struct CandidateTable {
     numbers: CandidateNumbers,
     lists: Vec<List>,
+}
+
+// By hand, so that letting one go is one call in the proof of whoever holds it.
+impl Drop for CandidateTable {
+    fn drop(self) {
+        let Self {
+            numbers: _numbers,
+            lists: _lists,
+        } = self;
+    }
 }
 
 impl Model for CandidateTable {
@@ -77,7 +86,8 @@ impl CandidateTable {
         ensures paired { length self.lists ≡ length self.numbers }
         ensures few { length self.lists ≤ MOST_CANDIDATES }
     {
-        (self.numbers, self.lists)
+        let Self { numbers, lists } = self;
+        (numbers, lists)
     }
 
     // A table of no candidates.

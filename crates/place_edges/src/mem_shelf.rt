@@ -16,11 +16,21 @@ use std::marker::Model;
 
 /// Files held in memory. A call fails exactly where it is told to, and an open also where the name
 /// is not held.
-#[derive(Drop)]
 pub struct MemShelf {
     held: HeldFiles,
     failures: Failures,
     tally: u64,
+}
+
+// By hand, so that letting one go is one call in the proof of whoever holds it.
+impl Drop for MemShelf {
+    fn drop(self) {
+        let Self {
+            held: _held,
+            failures: _failures,
+            tally: _,
+        } = self;
+    }
 }
 
 impl Model for MemShelf {

@@ -13,12 +13,23 @@ use std::marker::Model;
 
 /// Bytes written to memory that is taken at the start. A put fails exactly where it is told to, and
 /// where there are bytes and no room is left.
-#[derive(Drop)]
 pub struct MemSink {
     bytes: Vec<u8>,
     failures: Failures,
     piece: usize,
     room: usize,
+}
+
+// By hand, so that letting one go is one call in the proof of whoever holds it.
+impl Drop for MemSink {
+    fn drop(self) {
+        let Self {
+            bytes: _bytes,
+            failures: _failures,
+            piece: _,
+            room: _,
+        } = self;
+    }
 }
 
 impl Model for MemSink {

@@ -20,11 +20,21 @@ use std::thread::Threads;
 ///
 /// Contracts see it as the orders and the ranks of all types, which always hold distinct candidates
 /// and strictly rising ranks.
-#[derive(Drop)]
 pub struct RankLists {
     candidates: u32,
     orders: Vec<List>,
     ranks: Vec<List>,
+}
+
+// By hand, so that letting one go is one call in the proof of whoever holds it.
+impl Drop for RankLists {
+    fn drop(self) {
+        let Self {
+            candidates: _,
+            orders: _orders,
+            ranks: _ranks,
+        } = self;
+    }
 }
 
 impl Model for RankLists {
@@ -144,9 +154,11 @@ impl RankLists {
         // They meet what a market asks of them.
         ensures sound { IsSound self }
     {
-        RankParts {
-            orders: self.orders,
-            ranks: self.ranks,
-        }
+        let Self {
+            candidates: _,
+            orders,
+            ranks,
+        } = self;
+        RankParts { orders, ranks }
     }
 }
