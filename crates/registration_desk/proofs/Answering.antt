@@ -2,19 +2,19 @@
 use Rattle.std.proofs.Common.{◌≡◌, ℕ, List, Option, Some, Result, Ok, Err, refl, sym, subst, inr}
 use Rattle.place_base.specs.declared.fault.FileKind.TheVariants as file
 use Rattle.place_edges.specs.Shelf.{Files}
+use Rattle.run_frame.specs.Files.{AreRead}
 use Rattle.run_frame.proofs.Answering.{answer-made}
 use Rattle.run_frame.proofs.Readings.{none-read}
 use Rattle.registration_desk.specs.Reports.{DeskReport, report_on}
-use Rattle.registration_desk.specs.Runs.{IsAnswering, IsReading}
+use Rattle.registration_desk.specs.Runs.{IsAnswering}
 use Rattle.registration_desk.specs.Says.{DeskFiles, both_read, both_said, named}
-use Rattle.registration_desk.specs.declared.status.Stop.TheVariants.{Words}
+use Rattle.run_frame.specs.declared.stop.Stop.TheVariants.{Words}
 use Rattle.registration_desk.specs.declared.words.DeskWords.{DeskWords}
-use Rattle.registration_desk.proofs.BothFiles.{holds-stops}
 
 -- the report on what was read
 pub desk-answers : (told : Option Files) (words : List (List ℕ)) (files : DeskFiles)
     (report : DeskReport) (clerks before now tally_before tally_now : ℕ)
-    → IsReading told words (Some file.Placement) both_said both_read (Ok files) before now
+    → AreRead told (named words) (Some file.Placement) both_said both_read (Ok files) before now
     tally_before tally_now
     → report ≡ report_on files.seats files.requests
     → IsAnswering told words (Ok clerks) (Ok report) before now tally_before tally_now
@@ -29,5 +29,5 @@ pub words-refused : (told : Option Files) (words : List (List ℕ)) (clerks : Re
 words-refused told words clerks refused before tally_before none =
     subst (λ v. IsAnswering told words v (Err (Words refused)) before before tally_before
     tally_before) (sym none)
-    (none-read holds-stops told (named words) _ (Err (Words refused)) before tally_before
+    (none-read told (named words) _ (Err (Words refused)) before tally_before
     (λ reads. inr refl) (λ e. cc e) (λ kind e. cc e))

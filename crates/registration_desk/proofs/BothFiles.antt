@@ -7,19 +7,15 @@ use Rattle.place_edges.specs.Shelf.{Files}
 use Rattle.placement_file.specs.Requests.{requests_fault, requests_in}
 use Rattle.placement_file.specs.SeatLists.{SeatRows, seats_fault, seats_in}
 use Rattle.run_frame.proofs.JudgedTables.{SaysTable, judged-ok, says-table}
-use Rattle.run_frame.proofs.Readings.{HoldsStops, file-reads, file-stops, none-read, said-from, said-ok}
+use Rattle.run_frame.proofs.Readings.{file-reads, file-stops, none-read, said-from, said-ok}
 use Rattle.run_frame.specs.Files.{AreRead, IsHeld, IsJudged, Reads}
 use Rattle.run_frame.specs.Says.{opened, read_from}
 use Rattle.run_frame.specs.declared.stop.FileStop.{FileStop}
-use Rattle.registration_desk.specs.Runs.{AreTwo, HasNoFault, IsReading, TwoFiles}
+use Rattle.registration_desk.specs.Runs.{AreTwo, HasNoFault, TwoFiles}
 use Rattle.registration_desk.specs.Says.{DeskFiles, MayOpenBoth, both_read, both_said, named, requests_said, seats_said}
-use Rattle.registration_desk.specs.Statuses.{is_free}
-use Rattle.registration_desk.specs.declared.status.Stop.{Stop}
-use Rattle.registration_desk.specs.declared.status.Stop.TheVariants.{File}
-
--- the stops of files among those of a run
-pub holds-stops : HoldsStops is_free File
-holds-stops = record { same_free = λ stop. refl; apart = λ a b e. cc e }
+use Rattle.run_frame.specs.declared.stop.Stop.{Stop}
+use Rattle.run_frame.specs.declared.stop.Stop.TheVariants.{File}
+use Rattle.registration_desk.specs.declared.words.DeskWords.{DeskWords}
 
 -- the name of the registrations file is granted where the placement file says its candidates
 pub may-open-requests : (told : Option Files) (grants : List ℕ → Bool) (words : List (List ℕ))
@@ -33,9 +29,9 @@ may-open-requests told grants words seats before now tally_before tally_now may 
     (subst (IsHeld told (named words file.Placement)) said.1 one.held) said.2
 
 -- what the registrations file says behind the placement, and which files are read for it
-abbrev requests_from : SeatRows → Reads → Option (Result DeskFiles Stop)
+abbrev requests_from : SeatRows → Reads → Option (Result DeskFiles (Stop DeskWords))
 requests_from seats reads =
-    opened File (reads file.Registrations) requests_said (λ requests.
+    opened (reads file.Registrations) requests_said (λ requests.
     Some (Ok (record { seats = seats; requests = requests })))
 
 abbrev requests_behind : SeatRows → Reads → List (List ℕ)
@@ -46,24 +42,24 @@ pub placement-stops : (told : Option Files) (words : List (List ℕ)) (stop : Fi
     (before now tally_before tally_now : ℕ)
     → IsJudged told (named words file.Placement) seats_said (Err stop) before now tally_before
     tally_now
-    → IsReading told words (Some file.Placement) both_said both_read (Err (File stop)) before now
-    tally_before tally_now
+    → AreRead told (named words) (Some file.Placement) both_said both_read (Err (File stop)) before
+    now tally_before tally_now
 placement-stops told words stop before now tally_before tally_now one =
-    file-stops holds-stops told (named words) file.Placement seats_said requests_from
-    requests_behind stop _ _ _ _ one
+    file-stops told (named words) file.Placement seats_said requests_from requests_behind stop _ _ _
+    _ one
 
 module _ (told : Option Files) (words : List (List ℕ)) (seats : SeatRows)
     (first second tally_first tally_second : ℕ)
     (one : IsJudged told (named words file.Placement) seats_said (Ok seats) first second
     tally_first tally_second) where
   -- behind the placement file, what the other comes to is what both come to
-  behind-placement : (result : Result DeskFiles Stop) (now tally_now : ℕ)
-      → AreRead told (named words) is_free File (Some file.Registrations) (requests_from seats)
+  behind-placement : (result : Result DeskFiles (Stop DeskWords)) (now tally_now : ℕ)
+      → AreRead told (named words) (Some file.Registrations) (requests_from seats)
       (requests_behind seats) result second now tally_second tally_now
-      → IsReading told words (Some file.Placement) both_said both_read result
+      → AreRead told (named words) (Some file.Placement) both_said both_read result
       first now tally_first tally_now
   behind-placement result now tally_now rest =
-      file-reads holds-stops told (named words) file.Placement seats_said requests_from
+      file-reads told (named words) file.Placement seats_said requests_from
       requests_behind seats _ result _ _ _ _ _ _ (λ bytes reads. refl) (λ bytes reads. refl) one
       rest
 
@@ -71,11 +67,11 @@ module _ (told : Option Files) (words : List (List ℕ)) (seats : SeatRows)
   pub requests-stop : (stop : FileStop) (now tally_now : ℕ)
       → IsJudged told (named words file.Registrations) requests_said (Err stop) second now
       tally_second tally_now
-      → IsReading told words (Some file.Placement) both_said both_read (Err (File stop))
+      → AreRead told (named words) (Some file.Placement) both_said both_read (Err (File stop))
       first now tally_first tally_now
   requests-stop stop now tally_now two =
       behind-placement (Err (File stop)) now tally_now
-      (file-stops holds-stops told (named words) file.Registrations requests_said
+      (file-stops told (named words) file.Registrations requests_said
       (λ requests reads. Some (Ok (record { seats = seats; requests = requests })))
       (λ requests reads. []) stop _ _ _ _ two)
 
@@ -83,16 +79,17 @@ module _ (told : Option Files) (words : List (List ℕ)) (seats : SeatRows)
   pub both-files : (requests : List ℕ) (now tally_now : ℕ)
       → IsJudged told (named words file.Registrations) requests_said (Ok requests) second now
       tally_second tally_now
-      → IsReading told words (Some file.Placement) both_said both_read
+      → AreRead told (named words) (Some file.Placement) both_said both_read
       (Ok (record { seats = seats; requests = requests })) first now tally_first tally_now
   both-files requests now tally_now two =
-      let end : Result DeskFiles Stop = Ok (record { seats = seats; requests = requests }) in
+      let end : Result DeskFiles (Stop DeskWords) =
+      Ok (record { seats = seats; requests = requests }) in
       behind-placement end now tally_now
-      (file-reads holds-stops told (named words) file.Registrations requests_said
+      (file-reads told (named words) file.Registrations requests_said
       (λ given reads. Some (Ok (record { seats = seats; requests = given }))) (λ given reads. [])
       requests None end _ _ _ _ _ _ (λ bytes reads. refl) (λ bytes reads. refl) two
-      (none-read holds-stops told (named words) _ end now tally_now (λ reads. refl) (λ e. cc e)
-      (λ kind e. cc e)))
+      (none-read told (named words) _ end now tally_now (λ reads. refl) (λ e. cc e) (λ kind e. cc
+      e)))
 
 says-seats : (bytes : List ℕ) (said : SeatRows) → seats_said bytes ≡ Ok said
     → SaysTable (seats_fault bytes) (seats_in bytes) said bytes
@@ -115,8 +112,8 @@ pub record AreServed (reads : Reads) (files : DeskFiles) : Type 0 where
 pub are-served : (reads : Reads) (files : DeskFiles) → both_said reads ≡ Some (Ok files)
     → AreServed reads files
 are-served reads files e =
-    let p = said-from File (reads file.Placement) seats_said _ files e in
-    let r = said-from File (reads file.Registrations) requests_said _ files p.4 in
+    let p = said-from (reads file.Placement) seats_said _ files e in
+    let r = said-from (reads file.Registrations) requests_said _ files p.4 in
     let one = says-seats p.0 p.2 p.3 in
     let two = says-requests r.0 r.2 r.3 in
     let made : record { seats = p.2; requests = r.2 } ≡ files = cc r.4 in

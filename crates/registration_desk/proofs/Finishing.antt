@@ -1,36 +1,34 @@
 -- What a run leaves of a sink, and what follows where no read and no write failed.
 use Rattle.std.proofs.Common.{◌≡◌, ◌⊎◌, ◌∙◌, ◌≤◌, ℕ, List, refl, sym, ap, subst, inl, inr, Option, Some, None, Result, Ok, Err, ⊎_elim}
-use Rattle.std.specs.Prelude.{IsTrue}
 use Rattle.place_base.specs.declared.fault.FileKind.TheVariants as file
 use Rattle.place_edges.specs.Causes.{Rose}
 use Rattle.place_edges.specs.Shelf.{Files}
 use Rattle.place_edges.specs.Sink.{Appended}
 use Rattle.placement_file.specs.Requests.{requests_in}
 use Rattle.placement_file.specs.SeatLists.{seats_in}
-use Rattle.run_frame.proofs.Answering.{answered-stop, opened-no-stop}
+use Rattle.run_frame.proofs.Answering.{answered-stop, opened-no-words}
 use Rattle.run_frame.proofs.Endings as frame
-use Rattle.run_frame.proofs.Endings.{AreApart, answered-finished, stopped, whole-run, words-cause, write-cause}
+use Rattle.run_frame.proofs.Endings.{AreApart, answered-finished, whole-run}
 use Rattle.run_frame.specs.Files.{Reads}
 use Rattle.run_frame.specs.Lines.{IsNoted}
 use Rattle.run_frame.specs.Meetings.{IsDecided, Meets}
-use Rattle.run_frame.specs.Runs.{IsDone, IsWhole}
-use Rattle.run_frame.specs.Stops.{too_long}
-use Rattle.run_frame.specs.declared.stop.FileStop.{FileStop}
+use Rattle.run_frame.specs.Runs.{IsDone, IsFinished, IsWhole}
+use Rattle.run_frame.specs.Stops.{is_free_stop}
 use Rattle.run_frame.specs.declared.stop.FileStop.TheVariants.{Fault, ReadFault, Memory}
 use Rattle.registration_desk.specs.Reports.{DeskReport, report_on}
-use Rattle.registration_desk.specs.Runs.{AreTwo, HasCause, IsAnswering, IsComplete, IsFinished, LeavesSink, PrintsRegistered, ServesWhole, endings, line_in}
+use Rattle.registration_desk.specs.Runs.{AreTwo, HasCause, IsAnswering, IsComplete, LeavesSink, PrintsRegistered, ServesWhole, endings, line_in}
 use Rattle.registration_desk.specs.Says.{DeskFiles, both_said, files_read, named, numbers_said, reported, says}
-use Rattle.registration_desk.specs.Statuses.{is_free, status_line, status_of}
+use Rattle.registration_desk.specs.Statuses.{status_line, status_of}
 use Rattle.registration_desk.specs.Words.{clerks_of}
 use Rattle.registration_desk.specs.declared.status.DeskStatus.{DeskStatus}
 use Rattle.registration_desk.specs.declared.status.DeskStatus.TheVariants as ends
-use Rattle.registration_desk.specs.declared.status.Stop.{Stop}
-use Rattle.registration_desk.specs.declared.status.Stop.TheVariants.{File, Words}
+use Rattle.run_frame.specs.declared.stop.Stop.{Stop}
+use Rattle.run_frame.specs.declared.stop.Stop.TheVariants.{File, Words}
 use Rattle.registration_desk.specs.declared.words.DeskWords.{DeskWords}
 use Rattle.registration_desk.proofs.BothFiles.{are-served, two-said}
 
 -- the stop of a status, if it is that of one
-abbrev stop_in : DeskStatus → Option Stop
+abbrev stop_in : DeskStatus → Option (Stop DeskWords)
 stop_in ends.Done = None
 stop_in (ends.Words refused) = Some (Words refused)
 stop_in (ends.FileFault found) = Some (File (Fault found))
@@ -38,49 +36,33 @@ stop_in ends.ReadFault = Some (File ReadFault)
 stop_in ends.WriteFault = None
 stop_in ends.Memory = Some (File Memory)
 
-stop-in : (stop : Stop) → stop_in (status_of stop) ≡ Some stop
+stop-in : (stop : Stop DeskWords) → stop_in (status_of stop) ≡ Some stop
 stop-in (Words refused) = refl
 stop-in (File (Fault found)) = refl
 stop-in (File ReadFault) = refl
 stop-in (File Memory) = refl
 
--- a run that is done has no stop
-undone : (stop : Stop) → ends.Done ≡ status_of stop → ⊥
-undone stop e = let never : None ≡ Some stop = ap stop_in e ∙ stop-in stop in cc never
-
 -- the statuses of the ends are apart
 are-apart : AreApart endings
 are-apart = record {
-  stops = λ one other e.
-      let same : Some one ≡ Some other = sym (stop-in one) ∙ ap stop_in e ∙ stop-in other in
-      cc same;
-  done = λ answer stop e. undone stop e;
-  fault = λ stop e. let never : None ≡ Some stop = ap stop_in e ∙ stop-in stop in cc never;
-  whole = λ answer e. cc e;
+  stop_in = stop_in;
+  stop = stop-in;
+  done = λ report. refl;
+  fault = refl;
+  whole = λ report e. cc e;
 }
 
--- a stop that is free is a read fault or want of memory
-frees : (stop : Stop) → IsTrue (is_free stop)
-    → (stop ≡ File ReadFault) ⊎ (status_of stop ≡ ends.Memory)
-frees (Words refused) free = cc free
-frees (File (Fault found)) free = cc free
-frees (File ReadFault) free = inl refl
-frees (File Memory) free = inr refl
-
--- files say no refusal of words
-no-words : (refused : DeskWords) (stop : FileStop) → File stop ≡ Words refused → ⊥
-no-words refused stop e = cc e
-
+-- words are said to be refused only where they are
 says-refused : (clerks : Result ℕ DeskWords) (reads : Reads) (refused : DeskWords)
     → says clerks reads ≡ Some (Err (Words refused)) → clerks ≡ Err refused
 says-refused (Err other) reads refused e = ap (λ v. Err v) (cc e)
 says-refused (Ok clerks) reads refused e = absurd
-    (opened-no-stop File (reads file.Placement) _ _ (Words refused) (no-words refused)
-    (λ seats. opened-no-stop File (reads file.Registrations) _ _ (Words refused) (no-words refused)
-    (λ requests never. cc never)) (answered-stop _ (both_said reads) (Words refused) e))
+    (opened-no-words (reads file.Placement) _ _ refused
+    (λ seats. opened-no-words (reads file.Registrations) _ _ refused (λ requests never. cc never))
+    (answered-stop _ (both_said reads) (Words refused) e))
 
 -- a report that is said is that of two files without a fault
-said-report : (said : Option (Result DeskFiles Stop)) (report : DeskReport)
+said-report : (said : Option (Result DeskFiles (Stop DeskWords))) (report : DeskReport)
     → reported said ≡ Some (Ok report)
     → (files : DeskFiles) × (said ≡ Some (Ok files))
     × (report ≡ report_on files.seats files.requests)
@@ -118,21 +100,22 @@ serves-whole (Some files) words status old new before now (reads, held, whole) =
 
 -- the clauses of a run, from its report and how that was written
 module _ {K : Type 0} (written : K → Option (List ℕ)) (faults : K → ℕ) (told : Option Files)
-    (words : List (List ℕ)) (answer : Result DeskReport Stop) (status : DeskStatus) (old new : K)
-    (before now tally_before tally_now : ℕ)
+    (words : List (List ℕ)) (answer : Result DeskReport (Stop DeskWords)) (status : DeskStatus)
+    (old new : K) (before now tally_before tally_now : ℕ)
     (answers : IsAnswering told words (clerks_of words) answer before now tally_before tally_now)
-    (finished : IsFinished written faults answer status old new) where
+    (finished : IsFinished endings written faults answer status old new) where
   pub registered-run : (notes_old notes_new : Option (List ℕ)) (notes_before notes_now : ℕ)
       → IsNoted
       (status_line (numbers_said answer) status) notes_old notes_new notes_before notes_now
       → PrintsRegistered told words status (written old) (written new) notes_old notes_new
       notes_before notes_now tally_before tally_now
+  unfolding are-apart
   registered-run notes_old notes_new notes_before notes_now noted = λ well.
       let done = answered-finished are-apart written faults answer status old new finished
-      (λ stop is. undone stop (sym well ∙ is)) (λ is. cc (sym well ∙ is)) in
+      (ap stop_in well) (λ is. cc (sym well ∙ is)) in
       let report = done.0 in
       let said = says-report (clerks_of words) answers.reads report
-      (subst (Meets is_free (says (clerks_of words) answers.reads)) done.1 answers.meets) in
+      (subst (Meets is_free_stop (says (clerks_of words) answers.reads)) done.1 answers.meets) in
       let served = are-served answers.reads said.0 said.1 in
       let is : report
       ≡ report_on (seats_in served.two.placement) (requests_in served.two.requests) =
@@ -144,7 +127,7 @@ module _ {K : Type 0} (written : K → Option (List ℕ)) (faults : K → ℕ) (
         reads = answers.reads;
         once = record {
           held = answers.held;
-          taken = answers.taken (subst (λ v. IsDecided is_free v) (sym done.1) tt);
+          taken = answers.taken (subst (λ v. IsDecided is_free_stop v) (sym done.1) tt);
         };
         two = served.two;
         read = served.read;
@@ -156,7 +139,7 @@ module _ {K : Type 0} (written : K → Option (List ℕ)) (faults : K → ℕ) (
   pub complete-run : (Rose before now → ⊥) → (Rose (faults old) (faults new) → ⊥)
       → IsComplete told words status (written old) (written new) tally_before tally_now
   complete-run no_read no_write =
-      let whole = whole-run are-apart written faults status old new answers frees finished no_read
+      let whole = whole-run are-apart written faults status old new answers finished no_read
       no_write in
       record {
         whole = whole;
@@ -164,22 +147,13 @@ module _ {K : Type 0} (written : K → Option (List ℕ)) (faults : K → ℕ) (
             whole;
       }
 
-  -- a status that is a stop's is that of the answer
-  at-stop : (stop : Stop) → status ≡ status_of stop → answer ≡ Err stop
-  at-stop stop same = (stopped are-apart written faults answer status old new stop finished same).0
-
   pub causes-run : ((refused : DeskWords) → clerks_of words ≡ Err refused
       → answer ≡ Err (Words refused))
       → HasCause (clerks_of words) status before now tally_before tally_now (faults old)
       (faults new)
-  causes-run exact = record {
-    words = words-cause are-apart written faults is_free Words (clerks_of words)
-        (says (clerks_of words) answers.reads) answer status old new answers.meets finished
-        (λ refused. refl) (says-refused (clerks_of words) answers.reads) exact;
-    read = λ same. answers.causes.read (at-stop (File ReadFault) same);
-    long = λ kind same. answers.causes.long kind (at-stop (File (Fault (too_long kind))) same);
-    write = write-cause are-apart written faults answer status old new finished;
-  }
+  causes-run exact =
+      frame.causes-run are-apart written faults (clerks_of words) status old new answers finished
+      (says-refused (clerks_of words) answers.reads) exact
 
   pub leaves-sink : faults old ≤ faults new → LeavesSink written faults status old new
   leaves-sink later =

@@ -2,19 +2,8 @@
 use Rattle.std.proofs.Common.{◌≡◌, ℕ, List, [], ◌∷◌, ◌++◌, append_assoc}
 use Rattle.std.specs.Prelude.{codes, decimal}
 use Rattle.run_frame.specs.Lines.{line_text}
-use Rattle.run_frame.proofs.LineTexts.{words-parts}
-use Rattle.registration_desk.specs.Statuses.{numbers_line, refusal_name, refusal_place, words_line}
+use Rattle.registration_desk.specs.Statuses.{numbers_line}
 use Rattle.registration_desk.specs.declared.report.DeskNumbers.{DeskNumbers}
-use Rattle.registration_desk.specs.declared.words.DeskWords.{DeskWords}
-
--- the line of a refusal of words
-pub words-line : (refused : DeskWords) (name : List ℕ) (place : ℕ) → name ≡ refusal_name refused
-    → place ≡ refusal_place refused
-    → codes "words " ++ (name ++ (codes " " ++ (decimal place ++ (codes "\n" ++ []))))
-    ≡ words_line refused
-unfolding words_line
-words-line refused name place names places =
-    rw names (rw places (words-parts (refusal_name refused) (decimal (refusal_place refused))))
 
 numbers-parts : (registered again without unknown : List ℕ)
     → codes "registered " ++ (registered ++ (codes " again " ++ (again ++ (codes " notplaced "

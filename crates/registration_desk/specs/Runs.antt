@@ -1,61 +1,38 @@
 -- What may be said of a run of the desk: the promise of the top call.
-use Rattle.std.specs.Prelude.{◌≡◌, ◌≤◌, ◌⊎◌, ℕ, List, length, IfSome, IsErrOf, Option, Some, None, Result, Ok}
-use Rattle.place_base.specs.declared.fault.FileKind.{FileKind}
+use Rattle.std.specs.Prelude.{◌≡◌, ◌≤◌, ◌⊎◌, ℕ, List, length, IfSome, Option, Some, None, Result, Ok}
 use Rattle.place_base.specs.declared.fault.FileKind.TheVariants as file
-use Rattle.place_edges.specs.Causes.{Rose}
-use Rattle.place_edges.specs.Shelf.{Files, GaveMore, file_limit}
+use Rattle.place_edges.specs.Shelf.{Files, file_limit}
 use Rattle.place_edges.specs.Sink.{Appended}
 use Rattle.placement_file.specs.Requests.{requests_fault, requests_in}
 use Rattle.placement_file.specs.SeatLists.{seats_fault, seats_in}
 use Rattle.run_frame.specs.Files.{AreRead, AreReadOnce, Reads}
 use Rattle.run_frame.specs.Lines.{IsNoted}
 use Rattle.run_frame.specs.Runs as frame
-use Rattle.run_frame.specs.Runs.{Endings, IsWhole, WordsCause}
-use Rattle.run_frame.specs.Stops.{too_long}
+use Rattle.run_frame.specs.Runs.{Endings, IsFinished, IsWhole}
 use Rattle.registration_desk.specs.Reports.{DeskReport, numbers_of, registered_text}
 use Rattle.registration_desk.specs.Says.{files_read, first_file, named, numbers_said, says}
-use Rattle.registration_desk.specs.Statuses.{is_free, numbers_line, status_line, status_of}
+use Rattle.registration_desk.specs.Statuses.{numbers_line, status_line, status_of}
 use Rattle.registration_desk.specs.Words.{clerks_of}
 use Rattle.registration_desk.specs.declared.status.DeskStatus.{DeskStatus}
 use Rattle.registration_desk.specs.declared.status.DeskStatus.TheVariants as ends
-use Rattle.registration_desk.specs.declared.status.Stop.{Stop}
-use Rattle.registration_desk.specs.declared.status.Stop.TheVariants.{File, Words}
+use Rattle.run_frame.specs.declared.stop.Stop.{Stop}
 use Rattle.registration_desk.specs.declared.words.DeskWords.{DeskWords}
 
--- what reading the files that the words name came to
-abbrev pub IsReading : {T : Type 0} → Option Files → List (List ℕ) → Option FileKind
-    → (Reads → Option (Result T Stop)) → (Reads → List (List ℕ)) → Result T Stop
-    → ℕ → ℕ → ℕ → ℕ → Type 0
-IsReading told words first said files result before now tally_before tally_now =
-    AreRead told (named words) is_free File first said files result before now tally_before
-    tally_now
-
 -- the report that the words ask for meets what is said over the bytes that were read
-abbrev pub IsAnswering : Option Files → List (List ℕ) → Result ℕ DeskWords → Result DeskReport Stop
-    → ℕ → ℕ → ℕ → ℕ → Type 0
+abbrev pub IsAnswering : Option Files → List (List ℕ) → Result ℕ DeskWords
+    → Result DeskReport (Stop DeskWords) → ℕ → ℕ → ℕ → ℕ → Type 0
 IsAnswering told words clerks answer before now tally_before tally_now =
-    IsReading told words (first_file clerks) (says clerks) (files_read clerks) answer before now
-    tally_before tally_now
+    AreRead told (named words) (first_file clerks) (says clerks) (files_read clerks) answer before
+    now tally_before tally_now
 
 -- the text of a report, and the status of each end
-abbrev pub endings : Endings DeskReport Stop DeskStatus
+abbrev pub endings : Endings DeskReport DeskWords DeskStatus
 endings = record {
   text = λ report. report.text;
   done = λ report. ends.Done;
   stopped = status_of;
   write_fault = ends.WriteFault;
-  memory = ends.Memory;
 }
-
--- the text was written, or the sink is as it was where there is none
-abbrev pub IsFinished : {K : Type 0} → (K → Option (List ℕ)) → (K → ℕ)
-    → Result DeskReport Stop → DeskStatus → K → K → Type 0
-IsFinished written faults answer status old new =
-    frame.IsFinished endings written faults answer status old new
-
--- the words were refused
-abbrev pub IsWordsStop : {T : Type 0} → Result T Stop → Type 0
-IsWordsStop result = (refused : DeskWords) × IsErrOf result (Words refused)
 
 -- The run: there is a report, or a stop, that the words come to; it was written, and the status's
 -- line was noted.
@@ -63,9 +40,9 @@ pub record IsDeskRun {K N : Type 0} (written : K → Option (List ℕ)) (faults 
     (noted : N → Option (List ℕ)) (note_faults : N → ℕ)
     (told : Option Files) (words : List (List ℕ)) (status : DeskStatus) (old new : K)
     (notes_old notes_new : N) (before now tally_before tally_now : ℕ) : Type 0 where
-  pub answer : Result DeskReport Stop
+  pub answer : Result DeskReport (Stop DeskWords)
   pub answers : IsAnswering told words (clerks_of words) answer before now tally_before tally_now
-  pub finished : frame.IsFinished endings written faults answer status old new
+  pub finished : IsFinished endings written faults answer status old new
   pub line : IsNoted (status_line (numbers_said answer) status) (noted notes_old)
       (noted notes_new) (note_faults notes_old) (note_faults notes_new)
 
@@ -135,15 +112,10 @@ pub record IsComplete (told : Option Files) (words : List (List ℕ)) (status : 
 abbrev pub IsWordsRefusal : DeskStatus → Type 0
 IsWordsRefusal status = (refused : DeskWords) × (status ≡ ends.Words refused)
 
--- Each refusal has its cause: words by their rules, a read fault and a write fault by the counts, a
--- file that is too long by the tally.
-pub record HasCause (clerks : Result ℕ DeskWords) (status : DeskStatus)
-    (before now tally_before tally_now out_before out_now : ℕ) : Type 0 where
-  pub words : WordsCause ends.Words clerks status
-  pub read : status ≡ ends.ReadFault → Rose before now
-  pub long : (kind : FileKind) → status ≡ ends.FileFault (too_long kind)
-      → GaveMore tally_before tally_now file_limit
-  pub write : status ≡ ends.WriteFault → Rose out_before out_now
+-- each refusal has its cause: words by their rules, and the others by the counts
+abbrev pub HasCause : Result ℕ DeskWords → DeskStatus → ℕ → ℕ → ℕ → ℕ → ℕ → ℕ → Type 0
+HasCause clerks status before now tally_before tally_now out_before out_now =
+    frame.HasCause endings clerks status before now tally_before tally_now out_before out_now
 
 -- after a refusal the sink is as it was
 abbrev pub LeavesSink : {K : Type 0} → (K → Option (List ℕ)) → (K → ℕ) → DeskStatus → K → K

@@ -11,8 +11,8 @@ use Rattle.run_frame.specs.declared.stop.FileStop.{FileStop}
 use Rattle.registration_desk.specs.Reports.{DeskReport, no_numbers, report_on}
 use Rattle.registration_desk.specs.Words.{word_at}
 use Rattle.registration_desk.specs.declared.report.DeskNumbers.{DeskNumbers}
-use Rattle.registration_desk.specs.declared.status.Stop.{Stop}
-use Rattle.registration_desk.specs.declared.status.Stop.TheVariants.{File, Words}
+use Rattle.run_frame.specs.declared.stop.Stop.{Stop}
+use Rattle.run_frame.specs.declared.stop.Stop.TheVariants.{Words}
 use Rattle.registration_desk.specs.declared.words.DeskWords.{DeskWords}
 
 -- the placement and the requests
@@ -37,10 +37,10 @@ unfoldable pub requests_said : List ℕ → Result (List ℕ) FileStop
 requests_said bytes = judged Registrations (requests_fault bytes) (requests_in bytes) bytes
 
 -- what the two files say: the placement and the requests, or the first fault
-abbrev pub both_said : Reads → Option (Result DeskFiles Stop)
+abbrev pub both_said : Reads → Option (Result DeskFiles (Stop DeskWords))
 both_said reads =
-    opened File (reads Placement) seats_said (λ seats.
-    opened File (reads Registrations) requests_said (λ requests.
+    opened (reads Placement) seats_said (λ seats.
+    opened (reads Registrations) requests_said (λ requests.
     Some (Ok (record { seats = seats; requests = requests }))))
 
 -- the files that are read for it
@@ -50,12 +50,13 @@ both_read reads =
     read_from (reads Registrations) requests_said (λ requests. []))
 
 -- the report on what was read
-abbrev pub reported : Option (Result DeskFiles Stop) → Option (Result DeskReport Stop)
+abbrev pub reported : Option (Result DeskFiles (Stop DeskWords))
+    → Option (Result DeskReport (Stop DeskWords))
 reported said = answered (λ (files : DeskFiles). report_on files.seats files.requests) said
 
 -- what the words come to over the bytes of the files, none where a file is missed before anything
 -- is refused; it does not depend on the number of clerks
-abbrev pub says : Result ℕ DeskWords → Reads → Option (Result DeskReport Stop)
+abbrev pub says : Result ℕ DeskWords → Reads → Option (Result DeskReport (Stop DeskWords))
 says (Err refused) reads = Some (Err (Words refused))
 says (Ok clerks) reads = reported (both_said reads)
 
@@ -70,7 +71,7 @@ first_file (Err refused) = None
 first_file (Ok clerks) = Some Placement
 
 -- the numbers of a report, none where there is none
-abbrev pub numbers_said : Result DeskReport Stop → DeskNumbers
+abbrev pub numbers_said : Result DeskReport (Stop DeskWords) → DeskNumbers
 numbers_said (Ok report) = report.numbers
 numbers_said (Err stop) = no_numbers
 

@@ -1,13 +1,12 @@
 -- The number of each status, and its line on the notes.
-use Rattle.std.specs.Prelude.{ℕ, List, [], ◌∷◌, Bool, false, codes, decimal}
-use Rattle.run_frame.specs.Lines.{fault_line, line_text}
-use Rattle.run_frame.specs.Stops as file
+use Rattle.std.specs.Prelude.{ℕ, List, [], ◌∷◌, codes, decimal}
+use Rattle.run_frame.specs.Lines.{fault_line, line_text, words_line}
 use Rattle.run_frame.specs.declared.stop.FileStop.TheVariants as unread
+use Rattle.run_frame.specs.declared.stop.Stop.{Stop}
+use Rattle.run_frame.specs.declared.stop.Stop.TheVariants as stop
 use Rattle.registration_desk.specs.declared.report.DeskNumbers.{DeskNumbers}
 use Rattle.registration_desk.specs.declared.status.DeskStatus.{DeskStatus}
 use Rattle.registration_desk.specs.declared.status.DeskStatus.TheVariants.{Done, Words, FileFault, ReadFault, WriteFault, Memory}
-use Rattle.registration_desk.specs.declared.status.Stop.{Stop}
-use Rattle.registration_desk.specs.declared.status.Stop.TheVariants as stop
 use Rattle.registration_desk.specs.declared.words.DeskWords.{DeskWords}
 use Rattle.registration_desk.specs.declared.words.DeskWords.TheVariants.{BadNumber, WordCount}
 
@@ -21,16 +20,11 @@ code_of WriteFault = 5
 code_of Memory = 6
 
 -- the status where there is no report
-abbrev pub status_of : Stop → DeskStatus
+abbrev pub status_of : Stop DeskWords → DeskStatus
 status_of (stop.Words refused) = Words refused
 status_of (stop.File (unread.Fault found)) = FileFault found
 status_of (stop.File unread.ReadFault) = ReadFault
 status_of (stop.File unread.Memory) = Memory
-
--- a read fault and want of memory may stand in place of anything that is said
-abbrev pub is_free : Stop → Bool
-is_free (stop.Words refused) = false
-is_free (stop.File unread) = file.is_free unread
 
 -- the name of a refusal of words
 abbrev pub refusal_name : DeskWords → List ℕ
@@ -42,11 +36,6 @@ abbrev pub refusal_place : DeskWords → ℕ
 refusal_place (WordCount place) = place
 refusal_place (BadNumber place) = place
 
--- the line of a refusal of words
-unfoldable pub words_line : DeskWords → List ℕ
-words_line refused =
-    line_text (codes "words" ∷ refusal_name refused ∷ decimal (refusal_place refused) ∷ [])
-
 -- the line of how many requests were answered in each way
 unfoldable pub numbers_line : DeskNumbers → List ℕ
 numbers_line numbers =
@@ -57,7 +46,7 @@ numbers_line numbers =
 -- the line of a status, that of Done with these numbers
 abbrev pub status_line : DeskNumbers → DeskStatus → List ℕ
 status_line numbers Done = numbers_line numbers
-status_line numbers (Words refused) = words_line refused
+status_line numbers (Words refused) = words_line (refusal_name refused) (refusal_place refused)
 status_line numbers (FileFault found) = fault_line found
 status_line numbers ReadFault = codes "read fault\n"
 status_line numbers WriteFault = codes "write fault\n"

@@ -4,9 +4,8 @@ ghost use Rattle.std.specs.Prelude.{◌≡◌, ◌≤◌, ◌<◌, IsTrue, Some,
 ghost use Rattle.place_base.specs.declared.fault.FileKind.TheVariants as file;
 ghost use Rattle.placement_file.specs.Requests.{requests_fault, requests_in};
 ghost use Rattle.record_files.specs.ReadTo.{IsTableRead};
-ghost use Rattle.run_frame.specs.Files.{IsJudged};
-ghost use Rattle.registration_desk.specs.Runs.{IsReading};
-ghost use Rattle.registration_desk.specs.Says.{MayOpenBoth, both_read, both_said, requests_said, seats_said};
+ghost use Rattle.run_frame.specs.Files.{AreRead, IsJudged};
+ghost use Rattle.registration_desk.specs.Says.{MayOpenBoth, both_read, both_said, named, requests_said, seats_said};
 ghost use Rattle.registration_desk.specs.Words.{texts, word_at};
 
 use crate::status::Stop;
@@ -61,8 +60,8 @@ impl Inputs {
     ) -> Result<Inputs, Stop>
         requires words { 2 ≤ length words.now }
         requires granted { MayOpenBoth (H.files shelf.old) (H.grants shelf.old) (texts words.now) }
-        ensures reading { IsReading (H.files shelf.old) (texts words.now) (Some file.Placement)
-            both_said both_read result
+        ensures reading { AreRead (H.files shelf.old) (named (texts words.now))
+            (Some file.Placement) both_said both_read result
             (H.faults shelf.old) (H.faults shelf.new) (H.tally shelf.old) (H.tally shelf.new) }
         ensures files { H.files shelf.new ≡ H.files shelf.old }
         ensures grants { H.grants shelf.new ≡ H.grants shelf.old }

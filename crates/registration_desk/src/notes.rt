@@ -3,14 +3,14 @@
 ghost use Rattle.std.specs.Prelude.{◌≡◌};
 ghost use Rattle.place_edges.specs.Sink.{IsWritten};
 ghost use Rattle.run_frame.specs.Lines.{IsNoted};
-ghost use Rattle.registration_desk.specs.Statuses.{numbers_line, refusal_name as name_of, refusal_place as place_of, status_line, words_line};
+ghost use Rattle.registration_desk.specs.Statuses.{numbers_line, refusal_name as name_of, refusal_place as place_of, status_line};
 
 use crate::report::DeskNumbers;
 use crate::status::DeskStatus;
 use crate::words::DeskWords;
 use place_edges::{Failed, Sink, write_whole};
 use record_files::Field;
-use run_frame::{FileStop, write_fault, write_parts, write_stop};
+use run_frame::{FileStop, write_fault, write_parts, write_stop, write_words};
 
 // Writes the line of a status, as far as the sink takes it. Done has the line of these numbers.
 pub(crate) fn note<N: Sink>(notes: &mut N, status: DeskStatus, numbers: DeskNumbers)
@@ -31,7 +31,9 @@ fn write_line<N: Sink>(
 {
     match status {
         DeskStatus::Done => write_numbers(notes, numbers),
-        DeskStatus::Words(refused) => write_refusal(notes, refused),
+        DeskStatus::Words(refused) => {
+            write_words(notes, refusal_name(refused), refusal_place(refused))
+        }
         DeskStatus::FileFault(fault) => write_fault(notes, fault),
         DeskStatus::ReadFault => write_stop(notes, FileStop::ReadFault),
         DeskStatus::WriteFault => write_whole(notes, b"write fault\n"),
@@ -55,23 +57,6 @@ fn write_numbers<N: Sink>(notes: &mut N, numbers: DeskNumbers) -> Result<(), Fai
             Field::Number(u64::from(numbers.not_placed)),
             Field::Text(b" unknown "),
             Field::Number(u64::from(numbers.unknown)),
-            Field::Text(b"\n"),
-        ],
-    )
-}
-
-// Writes why the words are refused.
-fn write_refusal<N: Sink>(notes: &mut N, refused: DeskWords) -> Result<(), Failed>
-    ensures { IsWritten (words_line refused) result
-        (N.written notes.old) (N.written notes.new) (N.faults notes.old) (N.faults notes.new) }
-{
-    write_parts(
-        notes,
-        &[
-            Field::Text(b"words "),
-            Field::Text(refusal_name(refused).as_bytes()),
-            Field::Text(b" "),
-            Field::Number(u64::from(refusal_place(refused))),
             Field::Text(b"\n"),
         ],
     )

@@ -2,11 +2,12 @@
 
 ghost use Rattle.std.specs.Prelude.{◌≡◌, ◌≤◌, Err, IsErrOf, Ok, length};
 ghost use Rattle.place_edges.specs.Causes.{Rose};
-ghost use Rattle.run_frame.specs.Runs.{IsConstant};
-ghost use Rattle.registration_desk.specs.Runs.{HasCause, IsAnswering, IsComplete, IsDeskRun, IsFinished, IsWordsRefusal, IsWordsStop, LeavesSink, PrintsRegistered};
+ghost use Rattle.run_frame.specs.Runs.{IsConstant, IsFinished};
+ghost use Rattle.run_frame.specs.Stops.{IsWordsStop};
+ghost use Rattle.run_frame.specs.declared.stop.Stop.TheVariants.{Words};
+ghost use Rattle.registration_desk.specs.Runs.{HasCause, IsAnswering, IsComplete, IsDeskRun, IsWordsRefusal, LeavesSink, PrintsRegistered, endings};
 ghost use Rattle.registration_desk.specs.Says.{MayOpen, MayOpenBoth, numbers_said};
 ghost use Rattle.registration_desk.specs.Words.{clerks_of, texts};
-ghost use Rattle.registration_desk.specs.declared.status.Stop.TheVariants.{Words};
 ghost use Rattle.registration_desk.specs.declared.words.DeskWords.{DeskWords};
 
 use crate::desk::MOST_CLERKS;
@@ -151,12 +152,12 @@ fn numbers_in(answer: &Result<Report, Stop>) -> DeskNumbers
 
 // Writes the text, if there is one.
 fn finish<K: Sink>(answer: Result<Report, Stop>, out: &mut K) -> DeskStatus
-    ensures finished { IsFinished K.written K.faults answer result out.old out.new }
+    ensures finished { IsFinished endings K.written K.faults answer result out.old out.new }
     ensures later { K.faults out.old ≤ K.faults out.new }
 {
     let report = match answer {
         Ok(report) => report,
-        Err(stop) => return stop.status(),
+        Err(stop) => return DeskStatus::of_stop(stop),
     };
     match write_whole(out, report.text()) {
         Ok(()) => DeskStatus::Done,

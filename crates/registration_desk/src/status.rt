@@ -6,7 +6,6 @@ ghost use Rattle.registration_desk.specs.Statuses.{code_of, status_of};
 use crate::words::DeskWords;
 use place_base::FileFault;
 use run_frame::FileStop;
-use std::alloc::AllocError;
 
 /// How a run of the desk ended.
 #[derive(Clone, Copy, Debug, PartialEq, Eq)]
@@ -39,20 +38,12 @@ impl DeskStatus {
             DeskStatus::Memory => 6,
         }
     }
-}
 
-// Why there is no report.
-#[derive(Clone, Copy)]
-pub(crate) enum Stop {
-    Words(DeskWords),
-    File(FileStop),
-}
-
-impl Stop {
-    pub(crate) fn status(self) -> DeskStatus
-        ensures { result ≡ status_of self }
+    // The status where there is no report.
+    pub(crate) fn of_stop(stop: Stop) -> DeskStatus
+        ensures { result ≡ status_of stop }
     {
-        match self {
+        match stop {
             Stop::Words(refused) => DeskStatus::Words(refused),
             Stop::File(FileStop::Fault(fault)) => DeskStatus::FileFault(fault),
             Stop::File(FileStop::ReadFault) => DeskStatus::ReadFault,
@@ -61,23 +52,5 @@ impl Stop {
     }
 }
 
-impl From<FileStop> for Stop {
-    ghost use Rattle.registration_desk.specs.declared.status.Stop.TheVariants.{File};
-
-    ghost from_gives = { λ unread stop. stop ≡ File unread };
-
-    fn from(unread: FileStop) -> Stop {
-        Stop::File(unread)
-    }
-}
-
-impl From<AllocError> for Stop {
-    ghost use Rattle.run_frame.specs.declared.stop.FileStop.TheVariants.{Memory};
-    ghost use Rattle.registration_desk.specs.declared.status.Stop.TheVariants.{File};
-
-    ghost from_gives = { λ _ stop. stop ≡ File Memory };
-
-    fn from(_: AllocError) -> Stop {
-        Stop::File(FileStop::Memory)
-    }
-}
+// Why there is no report.
+pub(crate) type Stop = run_frame::Stop<DeskWords>;

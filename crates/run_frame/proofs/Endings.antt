@@ -1,23 +1,26 @@
 -- What follows from how a run ends, where the statuses of its ends are apart.
-use Rattle.std.proofs.Common.{◌≡◌, ◌⊎◌, ◌≤◌, ◌∙◌, ℕ, List, [], sym, ap, subst, take, inl, inr, refl, arith, Option, Some, Result, Ok, Err, ⊎_elim}
-use Rattle.std.specs.Prelude.{Bool, true, false, IsFalse, IsTrue}
+use Rattle.std.proofs.Common.{◌≡◌, ◌⊎◌, ◌≤◌, ◌∙◌, ℕ, List, [], sym, ap, subst, take, inl, inr, refl, arith, Option, Some, None, Result, Ok, Err, ⊎_elim}
+use Rattle.std.specs.Prelude.{Bool, IsFalse}
 use Rattle.place_base.specs.declared.fault.FileKind.{FileKind}
 use Rattle.place_edges.specs.Causes.{Rose}
 use Rattle.place_edges.specs.Shelf.{Files}
 use Rattle.place_edges.specs.Sink.{Appended}
 use Rattle.run_frame.specs.Files.{AreRead, Reads}
 use Rattle.run_frame.specs.Meetings.{IsDecided, Meets}
-use Rattle.run_frame.specs.Runs.{Endings, IsConstant, IsDone, IsFinished, IsWhole, LeavesSink, StaysInFront, WordsCause}
-use Rattle.run_frame.specs.declared.stop.FileStop.{FileStop}
-use Rattle.run_frame.specs.declared.stop.FileStop.TheVariants.{ReadFault}
+use Rattle.run_frame.specs.Runs.{Endings, HasCause, IsConstant, IsDone, IsFinished, IsWhole, LeavesSink, StaysInFront, WordsCause}
+use Rattle.run_frame.specs.Stops.{is_free_stop, too_long}
+use Rattle.run_frame.specs.declared.stop.FileStop.TheVariants.{Fault, Memory, ReadFault}
+use Rattle.run_frame.specs.declared.stop.Stop.{Stop}
+use Rattle.run_frame.specs.declared.stop.Stop.TheVariants.{File, Words}
 use Rattle.run_frame.proofs.Parts.{appended-nothing}
 
--- two stops have one status only where they are the same, and it is neither that of an answer nor
--- that of a write fault; these are apart too
-pub record AreApart {A S E : Type 0} (ends : Endings A S E) : Type 0 where
-  pub stops : (one other : S) → ends.stopped one ≡ ends.stopped other → one ≡ other
-  pub done : (answer : A) (stop : S) → ends.done answer ≡ ends.stopped stop → ⊥
-  pub fault : (stop : S) → ends.write_fault ≡ ends.stopped stop → ⊥
+-- The status of a stop tells the stop, and neither that of an answer nor that of a write fault is a
+-- stop's; these are apart too.
+pub record AreApart {A W E : Type 0} (ends : Endings A W E) : Type 0 where
+  pub stop_in : E → Option (Stop W)
+  pub stop : (stop : Stop W) → stop_in (ends.stopped stop) ≡ Some stop
+  pub done : (answer : A) → stop_in (ends.done answer) ≡ None
+  pub fault : stop_in ends.write_fault ≡ None
   pub whole : (answer : A) → ends.done answer ≡ ends.write_fault → ⊥
 
 -- a count that is constant does not rise
@@ -32,25 +35,28 @@ pub decided-said : {T S : Type 0} (free : S → Bool) (said : Option (Result T S
 decided-said free said stop decided (inl allowed) = cc (allowed, decided)
 decided-said free said stop decided (inr e) = e
 
--- a stop is free, or it decides
-free-or-decided : (free : Bool) → IsTrue free ⊎ IsFalse free
-free-or-decided true = inl refl
-free-or-decided false = inr refl
-
-module _ {A S E K : Type 0} {ends : Endings A S E} (apart : AreApart ends)
+module _ {A W E K : Type 0} {ends : Endings A W E} (apart : AreApart ends)
     (written : K → Option (List ℕ)) (faults : K → ℕ) where
+  -- a status that tells no stop is that of none
+  unstopped : (status : E) (stop : Stop W) → apart.stop_in status ≡ None
+      → status ≡ ends.stopped stop → ⊥
+  unstopped status stop none same =
+      let never : None ≡ Some stop = sym none ∙ ap apart.stop_in same ∙ apart.stop stop in cc never
+
   -- a status that is a stop's is that of the answer
-  pub stopped : (answer : Result A S) (status : E) (old new : K) (stop : S)
+  pub stopped : (answer : Result A (Stop W)) (status : E) (old new : K) (stop : Stop W)
       → IsFinished ends written faults answer status old new → status ≡ ends.stopped stop
       → (answer ≡ Err stop) × (new ≡ old)
   stopped (Ok answer) status old new stop (inl (well, wrote)) same =
-      absurd (apart.done answer stop (sym well ∙ same))
+      absurd (unstopped (ends.done answer) stop (apart.done answer) (sym well ∙ same))
   stopped (Ok answer) status old new stop (inr (fault, wrote, rose)) same =
-      absurd (apart.fault stop (sym fault ∙ same))
+      absurd (unstopped ends.write_fault stop apart.fault (sym fault ∙ same))
   stopped (Err other) status old new stop (is, same_sink) same =
-      (ap (λ v. Err v) (apart.stops other stop (sym is ∙ same)), same_sink)
+      let one : Some other ≡ Some stop = sym (apart.stop other)
+      ∙ ap apart.stop_in (sym is ∙ same) ∙ apart.stop stop in
+      (ap (λ v. Err v) (cc one), same_sink)
 
-  front-finished : (answer : Result A S) (status : E) (old new : K)
+  front-finished : (answer : Result A (Stop W)) (status : E) (old new : K)
       → IsFinished ends written faults answer status old new
       → StaysInFront (written old) (written new)
   front-finished (Ok answer) status old new (inl (well, wrote)) = (ends.text answer, wrote)
@@ -60,29 +66,29 @@ module _ {A S E K : Type 0} {ends : Endings A S E} (apart : AreApart ends)
       ([], appended-nothing (written old) (written new) (ap written same))
 
   -- a write fault has its cause
-  pub write-cause : (answer : Result A S) (status : E) (old new : K)
+  pub write-cause : (answer : Result A (Stop W)) (status : E) (old new : K)
       → IsFinished ends written faults answer status old new → status ≡ ends.write_fault
       → Rose (faults old) (faults new)
   write-cause (Ok answer) status old new (inl (well, wrote)) same =
       absurd (apart.whole answer (sym well ∙ same))
   write-cause (Ok answer) status old new (inr (fault, wrote, rose)) same = rose
   write-cause (Err stop) status old new (is, same_sink) same =
-      absurd (apart.fault stop (sym same ∙ is))
+      absurd (unstopped ends.write_fault stop apart.fault (sym same ∙ is))
 
-  -- where the status is no stop's and no write fault, an answer was appended whole
-  pub answered-finished : (answer : Result A S) (status : E) (old new : K)
+  -- where the status tells no stop and is no write fault, an answer was appended whole
+  pub answered-finished : (answer : Result A (Stop W)) (status : E) (old new : K)
       → IsFinished ends written faults answer status old new
-      → ((stop : S) → status ≡ ends.stopped stop → ⊥) → (status ≡ ends.write_fault → ⊥)
+      → apart.stop_in status ≡ None → (status ≡ ends.write_fault → ⊥)
       → (ready : A) × (answer ≡ Ok ready) × (status ≡ ends.done ready)
       × Appended (written old) (written new) (ends.text ready)
-  answered-finished (Ok answer) status old new (inl (well, wrote)) unstopped unfailed =
+  answered-finished (Ok answer) status old new (inl (well, wrote)) none unfailed =
       (answer, refl, well, wrote)
-  answered-finished (Ok answer) status old new (inr (fault, wrote, rose)) unstopped unfailed =
+  answered-finished (Ok answer) status old new (inr (fault, wrote, rose)) none unfailed =
       absurd (unfailed fault)
-  answered-finished (Err stop) status old new (is, same) unstopped unfailed =
-      absurd (unstopped stop is)
+  answered-finished (Err stop) status old new (is, same) none unfailed =
+      absurd (unstopped status stop none is)
 
-  pub leaves-sink : (answer : Result A S) (status : E) (old new : K)
+  pub leaves-sink : (answer : Result A (Stop W)) (status : E) (old new : K)
       → IsFinished ends written faults answer status old new → faults old ≤ faults new
       → LeavesSink ends.stopped written faults status old new
   leaves-sink answer status old new finished later = record {
@@ -92,66 +98,91 @@ module _ {A S E K : Type 0} {ends : Endings A S E} (apart : AreApart ends)
   }
 
   -- words that are refused exactly where they give no command have their cause in the status
-  pub words-cause : {C W : Type 0} (free : S → Bool) (refusal : W → S) (command : Result C W)
-      (said : Option (Result A S)) (answer : Result A S) (status : E) (old new : K)
-      → Meets free said answer → IsFinished ends written faults answer status old new
-      → ((refused : W) → IsFalse (free (refusal refused)))
-      → ((refused : W) → said ≡ Some (Err (refusal refused)) → command ≡ Err refused)
-      → ((refused : W) → command ≡ Err refused → answer ≡ Err (refusal refused))
-      → WordsCause (λ refused. ends.stopped (refusal refused)) command status
-  words-cause free refusal command said answer status old new meets finished decided only exact =
+  words-cause : {C : Type 0} (command : Result C W) (said : Option (Result A (Stop W)))
+      (answer : Result A (Stop W)) (status : E) (old new : K) → Meets is_free_stop said answer
+      → IsFinished ends written faults answer status old new
+      → ((refused : W) → said ≡ Some (Err (Words refused)) → command ≡ Err refused)
+      → ((refused : W) → command ≡ Err refused → answer ≡ Err (Words refused))
+      → WordsCause (λ refused. ends.stopped (Words refused)) command status
+  words-cause command said answer status old new meets finished only exact = record {
+    only = λ refused same. only refused (decided-said is_free_stop said (Words refused) refl
+        (subst (λ v. Meets is_free_stop said v)
+        (stopped answer status old new (Words refused) finished same).0 meets));
+    always = λ refused none.
+        (subst (λ v. IsFinished ends written faults v status old new) (exact refused none)
+        finished).0;
+  }
+
+  -- each refusal of a run has its cause
+  pub causes-run : {C : Type 0} {told : Option Files} {names : FileKind → List ℕ}
+      {first : Option FileKind} {said : Reads → Option (Result A (Stop W))}
+      {files : Reads → List (List ℕ)} {answer : Result A (Stop W)}
+      {before now tally_before tally_now : ℕ} (command : Result C W) (status : E) (old new : K)
+      → (reading : AreRead told names first said files answer before now tally_before tally_now)
+      → IsFinished ends written faults answer status old new
+      → ((refused : W) → said reading.reads ≡ Some (Err (Words refused)) → command ≡ Err refused)
+      → ((refused : W) → command ≡ Err refused → answer ≡ Err (Words refused))
+      → HasCause ends command status before now tally_before tally_now (faults old) (faults new)
+  causes-run {said = said} {answer = answer} command status old new reading finished only exact =
       record {
-        only = λ refused same. only refused (decided-said free said (refusal refused)
-            (decided refused) (subst (λ v. Meets free said v)
-            (stopped answer status old new (refusal refused) finished same).0 meets));
-        always = λ refused none.
-            (subst (λ v. IsFinished ends written faults v status old new) (exact refused none)
-            finished).0;
+        words = words-cause command (said reading.reads) answer status old new reading.meets
+            finished only exact;
+        read = λ same. reading.causes.read
+            (stopped answer status old new (File ReadFault) finished same).0;
+        long = λ kind same. reading.causes.long kind
+            (stopped answer status old new (File (Fault (too_long kind))) finished same).0;
+        write = write-cause answer status old new finished;
       }
+
+  -- a stop that is no free one is done
+  stop-done : (said : Option (Result A (Stop W))) (stop : Stop W) (status : E) (old new : K)
+      → IsFalse (is_free_stop stop) → Meets is_free_stop said (Err stop)
+      → status ≡ ends.stopped stop → new ≡ old
+      → (status ≡ ends.stopped (File Memory))
+      ⊎ (IsFalse (is_free_stop stop) × (all : Result A (Stop W)) × (said ≡ Some all)
+      × IsDone ends all status (written old) (written new))
+  stop-done said stop status old new decided meets is same = inr (
+    decided,
+    Err stop,
+    decided-said is_free_stop said stop decided meets,
+    (is, appended-nothing (written old) (written new) (ap written same)),
+  )
 
   -- where no write failed, what is said was done and the answer is no free stop, or memory was
   -- refused
-  done-finished : (free : S → Bool) (unread : S) (said : Option (Result A S))
-      (answer : Result A S) (status : E) (old new : K)
-      → ((stop : S) → IsTrue (free stop) → (stop ≡ unread) ⊎ (ends.stopped stop ≡ ends.memory))
-      → Meets free said answer → IsFinished ends written faults answer status old new
-      → (answer ≡ Err unread → ⊥) → (Rose (faults old) (faults new) → ⊥)
-      → (status ≡ ends.memory)
-      ⊎ (IsDecided free answer × (all : Result A S) × (said ≡ Some all)
+  done-finished : (said : Option (Result A (Stop W))) (answer : Result A (Stop W)) (status : E)
+      (old new : K) → Meets is_free_stop said answer
+      → IsFinished ends written faults answer status old new
+      → (answer ≡ Err (File ReadFault) → ⊥) → (Rose (faults old) (faults new) → ⊥)
+      → (status ≡ ends.stopped (File Memory))
+      ⊎ (IsDecided is_free_stop answer × (all : Result A (Stop W)) × (said ≡ Some all)
       × IsDone ends all status (written old) (written new))
-  done-finished free unread said (Ok answer) status old new frees meets (inl (well, wrote)) read
-      write = inr (tt, Ok answer, meets, (well, wrote))
-  done-finished free unread said (Ok answer) status old new frees meets (inr (fault, wrote, rose))
-      read write = absurd (write rose)
-  done-finished free unread said (Err stop) status old new frees meets (is, same) read write =
-      ⊎_elim
-      (λ allowed. ⊎_elim (λ (e : stop ≡ unread). absurd (read (ap (λ v. Err v) e)))
-      (λ (refused : ends.stopped stop ≡ ends.memory). inl (is ∙ refused)) (frees stop allowed))
-      (λ decided. inr (
-        decided,
-        Err stop,
-        decided-said free said stop decided meets,
-        (is, appended-nothing (written old) (written new) (ap written same)),
-      ))
-      (free-or-decided (free stop))
+  done-finished said (Ok answer) status old new meets (inl (well, wrote)) read write =
+      inr (tt, Ok answer, meets, (well, wrote))
+  done-finished said (Ok answer) status old new meets (inr (fault, wrote, rose)) read write =
+      absurd (write rose)
+  done-finished said (Err (File ReadFault)) status old new meets finished read write =
+      absurd (read refl)
+  done-finished said (Err (File Memory)) status old new meets (is, same) read write = inl is
+  done-finished said (Err (File (Fault found))) status old new meets (is, same) read write =
+      stop-done said (File (Fault found)) status old new refl meets is same
+  done-finished said (Err (Words refused)) status old new meets (is, same) read write =
+      stop-done said (Words refused) status old new refl meets is same
 
   -- the same of files that were read, each once where the answer is no free stop
-  pub whole-run : {told : Option Files} {names : FileKind → List ℕ} {free : S → Bool}
-      {stop : FileStop → S} {first : Option FileKind} {said : Reads → Option (Result A S)}
-      {files : Reads → List (List ℕ)} {answer : Result A S}
-      {before now tally_before tally_now : ℕ} (status : E) (old new : K)
-      → AreRead told names free stop first said files answer before now tally_before tally_now
-      → ((one : S) → IsTrue (free one)
-      → (one ≡ stop ReadFault) ⊎ (ends.stopped one ≡ ends.memory))
+  pub whole-run : {told : Option Files} {names : FileKind → List ℕ} {first : Option FileKind}
+      {said : Reads → Option (Result A (Stop W))} {files : Reads → List (List ℕ)}
+      {answer : Result A (Stop W)} {before now tally_before tally_now : ℕ} (status : E)
+      (old new : K)
+      → AreRead told names first said files answer before now tally_before tally_now
       → IsFinished ends written faults answer status old new
       → (Rose before now → ⊥) → (Rose (faults old) (faults new) → ⊥)
       → IsWhole ends told names said files status (written old) (written new) tally_before tally_now
-  whole-run {free = free} {stop = stop} {said = said} {answer = answer} status old new reading frees
-      finished no_read no_write = (
-        reading.reads,
-        reading.held,
-        ⊎_elim (λ refused. inl refused)
-            (λ well. inr (reading.taken well.0, well.1, well.2, well.3))
-            (done-finished free (stop ReadFault) (said reading.reads) answer status old new frees
-            reading.meets finished (λ unread. no_read (reading.causes.read unread)) no_write),
-      )
+  whole-run {said = said} {answer = answer} status old new reading finished no_read no_write = (
+    reading.reads,
+    reading.held,
+    ⊎_elim (λ refused. inl refused)
+        (λ well. inr (reading.taken well.0, well.1, well.2, well.3))
+        (done-finished (said reading.reads) answer status old new reading.meets finished
+        (λ unread. no_read (reading.causes.read unread)) no_write),
+  )

@@ -4,13 +4,20 @@ use Rattle.std.specs.Prelude.{codes, decimal}
 use Rattle.place_base.specs.FaultKind.{fault_number, fault_name}
 use Rattle.place_base.specs.FileKind.{file_name}
 use Rattle.place_base.specs.declared.fault.FileFault.{FileFault}
-use Rattle.run_frame.specs.Lines.{line_text, fault_line}
+use Rattle.run_frame.specs.Lines.{line_text, fault_line, words_line}
 
--- a refusal of words
-pub words-parts : (name place : List ℕ)
+words-parts : (name place : List ℕ)
     → codes "words " ++ (name ++ (codes " " ++ (place ++ (codes "\n" ++ []))))
     ≡ line_text (codes "words" ∷ name ∷ place ∷ [])
 words-parts name place = simp append_assoc
+
+-- a refusal of words
+pub words-line : (name shown : List ℕ) (place number : ℕ) → shown ≡ name → number ≡ place
+    → codes "words " ++ (shown ++ (codes " " ++ (decimal number ++ (codes "\n" ++ []))))
+    ≡ words_line name place
+unfolding words_line
+words-line name shown place number names places =
+    rw names (rw places (words-parts name (decimal place)))
 
 fault-parts : (file line field tens ones name earlier : List ℕ)
     → codes "fault " ++ (file ++ (codes " line " ++

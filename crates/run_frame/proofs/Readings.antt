@@ -1,6 +1,5 @@
--- Files that are read and judged one after the other, where a run has stops of its own beside those
--- of files, come to what is said of all of them: what the files behind one come to is what they all
--- come to.
+-- Files that are read and judged one after the other come to what is said of all of them: what the
+-- files behind one come to is what they all come to.
 use Rattle.std.proofs.Common.{◌≡◌, ℕ, ◌+◌, ◌≤◌, List, [], ◌∷◌, Option, Some, None, Result, Ok, Err, refl, sym, ap, subst, ◌∙◌, inl, inr, arith, ⊎_elim}
 use Rattle.std.specs.Prelude.{Bool, IsErrAnd, IsErrOf, IsFalse, IsTrue, option_map}
 use Rattle.place_base.specs.declared.fault.FileKind.{FileKind}
@@ -9,9 +8,11 @@ use Rattle.place_edges.specs.Shelf.{Files, GaveMore, file_limit, piece_size}
 use Rattle.run_frame.specs.Files.{AreHeld, AreRead, AreTaken, AreTakenUpTo, HasBegun, HasCauses, IsHeld, IsJudged, IsTaken, Reads}
 use Rattle.run_frame.specs.Meetings.{Meets}
 use Rattle.run_frame.specs.Says.{and_then, opened, read_from}
-use Rattle.run_frame.specs.Stops.{is_free, too_long}
+use Rattle.run_frame.specs.Stops.{is_free, is_free_stop, too_long}
 use Rattle.run_frame.specs.declared.stop.FileStop.{FileStop}
 use Rattle.run_frame.specs.declared.stop.FileStop.TheVariants.{Fault, ReadFault}
+use Rattle.run_frame.specs.declared.stop.Stop.{Stop}
+use Rattle.run_frame.specs.declared.stop.Stop.TheVariants.{File}
 use Rattle.run_frame.proofs.Parts.{at-error}
 
 -- a file that says its table is there
@@ -83,54 +84,44 @@ pub begun-later : (bytes : Option (List ℕ)) (before between now : ℕ) → bet
 begun-later bytes before between now later begun =
     ⊎_elim (λ none. inl none) (λ rose. inr (omega (arith, later, rose))) begun
 
--- The stops of files are among those of a run: one is free there exactly where it is free for
--- files, and two are one stop of the run only where they are the same.
-pub record HoldsStops {S : Type 0} (free : S → Bool) (stopped : FileStop → S) : Type 0 where
-  pub same_free : (stop : FileStop) → free (stopped stop) ≡ is_free stop
-  pub apart : (a b : FileStop) → stopped a ≡ stopped b → a ≡ b
-
 -- a file that says its table leads on
-pub opened-ok : {T U S : Type 0} (stopped : FileStop → S) (judge : List ℕ → Result T FileStop)
-    (next : T → Option (Result U S)) (given held : Option (List ℕ)) (table : T) → given ≡ held
-    → Meets is_free (option_map judge held) (Ok table)
-    → opened stopped given judge next ≡ next table
-opened-ok stopped judge next given held table same meets =
+pub opened-ok : {T U W : Type 0} (judge : List ℕ → Result T FileStop)
+    (next : T → Option (Result U (Stop W))) (given held : Option (List ℕ)) (table : T)
+    → given ≡ held → Meets is_free (option_map judge held) (Ok table)
+    → opened given judge next ≡ next table
+opened-ok judge next given held table same meets =
     let said = said-ok judge held table meets in rw same (rw said.1 (rw said.2 refl))
 
 -- a file that has a stop ends it there
-pub opened-stop : {T U S : Type 0} {free : S → Bool} {stopped : FileStop → S}
-    (holds : HoldsStops free stopped) (judge : List ℕ → Result T FileStop)
-    (next : T → Option (Result U S)) (given held : Option (List ℕ)) (stop : FileStop)
+pub opened-stop : {T U W : Type 0} (judge : List ℕ → Result T FileStop)
+    (next : T → Option (Result U (Stop W))) (given held : Option (List ℕ)) (stop : FileStop)
     → given ≡ held → Meets is_free (option_map judge held) (Err stop)
-    → Meets free (opened stopped given judge next) (Err (stopped stop))
-opened-stop holds judge next given held stop same (inl allowed) =
-    inl (subst IsTrue (sym (holds.same_free stop)) allowed)
-opened-stop holds judge next given None stop same (inr e) = cc e
-opened-stop holds judge next given (Some bytes) stop same (inr e) =
+    → Meets is_free_stop (opened given judge next) (Err (File stop))
+opened-stop judge next given held stop same (inl allowed) = inl allowed
+opened-stop judge next given None stop same (inr e) = cc e
+opened-stop judge next given (Some bytes) stop same (inr e) =
     let says : judge bytes ≡ Err stop = cc e in inr (rw same (rw says refl))
 
 -- the causes of a file's stop are those of the run's
-stop-causes : {T U S : Type 0} {free : S → Bool} {stopped : FileStop → S}
-    (holds : HoldsStops free stopped) (stop : FileStop) (before now tally_before tally_now : ℕ)
+stop-causes : {T U W : Type 0} (stop : FileStop) (before now tally_before tally_now : ℕ)
     → HasCauses {T = T} (λ v. v) (Err stop) before now tally_before tally_now
-    → HasCauses {T = U} stopped (Err (stopped stop)) before now tally_before tally_now
-stop-causes holds stop before now tally_before tally_now causes = record {
+    → HasCauses {T = U} {S = Stop W} File (Err (File stop)) before now tally_before tally_now
+stop-causes stop before now tally_before tally_now causes = record {
   faults = causes.faults;
   tally = causes.tally;
   read = λ e.
-      let same : stop ≡ ReadFault = holds.apart stop ReadFault (cc e) in
+      let same : stop ≡ ReadFault = cc e in
       causes.read (ap (λ v. Err v) same);
   long = λ kind e.
-      let same : stop ≡ Fault (too_long kind) = holds.apart stop (Fault (too_long kind)) (cc e) in
+      let same : stop ≡ Fault (too_long kind) = cc e in
       causes.long kind (ap (λ v. Err v) same);
 }
 
 -- the causes of a stop are the same whatever there would be without it
-pub causes-same : {T U S : Type 0} (stopped : FileStop → S) (stop : S)
-    (before now tally_before tally_now : ℕ)
-    → HasCauses {T = T} stopped (Err stop) before now tally_before tally_now
-    → HasCauses {T = U} stopped (Err stop) before now tally_before tally_now
-causes-same stopped stop before now tally_before tally_now causes = record {
+pub causes-same : {T U W : Type 0} (stop : Stop W) (before now tally_before tally_now : ℕ)
+    → HasCauses {T = T} File (Err stop) before now tally_before tally_now
+    → HasCauses {T = U} File (Err stop) before now tally_before tally_now
+causes-same stop before now tally_before tally_now causes = record {
   faults = causes.faults;
   tally = causes.tally;
   read = λ e. causes.read (ap (λ v. Err v) (cc e));
@@ -138,12 +129,12 @@ causes-same stopped stop before now tally_before tally_now causes = record {
 }
 
 -- causes are counted from before the files before them
-pub causes-later : {T S : Type 0} (stopped : FileStop → S) (result : Result T S)
+pub causes-later : {T W : Type 0} (result : Result T (Stop W))
     (first before now tally_first tally_before tally_now : ℕ)
     → first ≤ before → tally_first ≤ tally_before
-    → HasCauses stopped result before now tally_before tally_now
-    → HasCauses stopped result first now tally_first tally_now
-causes-later stopped result first before now tally_first tally_before tally_now later tally causes =
+    → HasCauses File result before now tally_before tally_now
+    → HasCauses File result first now tally_first tally_now
+causes-later result first before now tally_first tally_before tally_now later tally causes =
     record {
       faults = omega (arith, later, causes.faults);
       tally = omega (arith, tally, causes.tally);
@@ -152,10 +143,10 @@ causes-later stopped result first before now tally_first tally_before tally_now 
     }
 
 -- where there is no stop no cause is asked for
-pub causes-ok : {T S : Type 0} (stopped : FileStop → S) (end : T)
-    (before now tally_before tally_now : ℕ) → before ≤ now → tally_before ≤ tally_now
-    → HasCauses stopped (Ok end) before now tally_before tally_now
-causes-ok stopped end before now tally_before tally_now later tally =
+pub causes-ok : {T W : Type 0} (end : T) (before now tally_before tally_now : ℕ) → before ≤ now
+    → tally_before ≤ tally_now
+    → HasCauses {S = Stop W} File (Ok end) before now tally_before tally_now
+causes-ok end before now tally_before tally_now later tally =
     record { faults = later; tally = tally; read = λ e. cc e; long = λ kind e. cc e }
 
 -- these bytes, with those of one kind of file
@@ -212,14 +203,14 @@ are-held : (told : Option Files) (names : FileKind → List ℕ)
 are-held None names = tt
 are-held (Some files) names = λ kind. refl
 
-module _ {S : Type 0} {free : S → Bool} {stopped : FileStop → S} (holds : HoldsStops free stopped)
-    (told : Option Files) (names : FileKind → List ℕ) where
+module _ {W : Type 0} (told : Option Files) (names : FileKind → List ℕ) where
   -- where nothing more is read, what is met needs no file
-  pub none-read : {U : Type 0} (said : Reads → Option (Result U S)) (result : Result U S)
-      (now tally : ℕ) → ((reads : Reads) → Meets free (said reads) result)
-      → (IsErrOf result (stopped ReadFault) → ⊥)
-      → ((kind : FileKind) → IsErrOf result (stopped (Fault (too_long kind))) → ⊥)
-      → AreRead told names free stopped None said (λ reads. []) result now now tally tally
+  pub none-read : {U : Type 0} (said : Reads → Option (Result U (Stop W)))
+      (result : Result U (Stop W)) (now tally : ℕ)
+      → ((reads : Reads) → Meets is_free_stop (said reads) result)
+      → (IsErrOf result (File ReadFault) → ⊥)
+      → ((kind : FileKind) → IsErrOf result (File (Fault (too_long kind))) → ⊥)
+      → AreRead told names None said (λ reads. []) result now now tally tally
   none-read said result now tally meets no_fault short = record {
     reads = held_files told names;
     held = are-held told names;
@@ -237,12 +228,12 @@ module _ {S : Type 0} {free : S → Bool} {stopped : FileStop → S} (holds : Ho
 
   -- a file that has a stop is the last that is read
   pub file-stops : {T U : Type 0} (kind : FileKind) (judge : List ℕ → Result T FileStop)
-      (next : T → Reads → Option (Result U S)) (files : T → Reads → List (List ℕ))
+      (next : T → Reads → Option (Result U (Stop W))) (files : T → Reads → List (List ℕ))
       (stop : FileStop) (before now tally_before tally_now : ℕ)
       → IsJudged told (names kind) judge (Err stop) before now tally_before tally_now
-      → AreRead told names free stopped (Some kind)
-      (λ reads. opened stopped (reads kind) judge (λ table. next table reads))
-      (λ reads. read_from (reads kind) judge (λ table. files table reads)) (Err (stopped stop))
+      → AreRead told names (Some kind)
+      (λ reads. opened (reads kind) judge (λ table. next table reads))
+      (λ reads. read_from (reads kind) judge (λ table. files table reads)) (Err (File stop))
       before now tally_before tally_now
   file-stops kind judge next files stop before now tally_before tally_now one =
       let others = held_files told names in
@@ -252,32 +243,31 @@ module _ {S : Type 0} {free : S → Bool} {stopped : FileStop → S} (holds : Ho
       record {
         reads = all;
         held = held-with told names kind one.bytes others held;
-        meets = opened-stop holds judge (λ table. next table all) (all kind) one.bytes stop same
+        meets = opened-stop judge (λ table. next table all) (all kind) one.bytes stop same
             one.meets;
         taken = λ decided. taken-stop judge (λ table. files table all) (all kind) one.bytes stop
-            tally_before tally_now same one.meets one.taken
-            (subst IsFalse (holds.same_free stop) decided);
+            tally_before tally_now same one.meets one.taken decided;
         once = none-taken _ tally_before tally_now one.once;
         begun = λ unread. subst (λ v. HasBegun v tally_before tally_now) (sym same)
             (one.begun (λ e. let is : stop ≡ ReadFault = cc e in
-            unread (ap (λ v. Err (stopped v)) is)));
-        causes = stop-causes holds stop before now tally_before tally_now one.causes;
+            unread (ap (λ v. Err (File v)) is)));
+        causes = stop-causes stop before now tally_before tally_now one.causes;
       }
 
   -- behind a file that says its table, what the other files come to is what all come to
   pub file-reads : {T U : Type 0} (kind : FileKind) (judge : List ℕ → Result T FileStop)
-      (next : T → Reads → Option (Result U S)) (files : T → Reads → List (List ℕ)) (table : T)
-      (second : Option FileKind) (result : Result U S)
+      (next : T → Reads → Option (Result U (Stop W))) (files : T → Reads → List (List ℕ)) (table : T)
+      (second : Option FileKind) (result : Result U (Stop W))
       (first before now tally_first tally_before tally_now : ℕ)
       → ((bytes : Option (List ℕ)) (reads : Reads)
       → next table (with_file kind bytes reads) ≡ next table reads)
       → ((bytes : Option (List ℕ)) (reads : Reads)
       → files table (with_file kind bytes reads) ≡ files table reads)
       → IsJudged told (names kind) judge (Ok table) first before tally_first tally_before
-      → AreRead told names free stopped second (next table) (files table) result before now
+      → AreRead told names second (next table) (files table) result before now
       tally_before tally_now
-      → AreRead told names free stopped (Some kind)
-      (λ reads. opened stopped (reads kind) judge (λ table. next table reads))
+      → AreRead told names (Some kind)
+      (λ reads. opened (reads kind) judge (λ table. next table reads))
       (λ reads. read_from (reads kind) judge (λ table. files table reads)) result
       first now tally_first tally_now
   file-reads kind judge next files table second result first before now tally_first tally_before
@@ -287,8 +277,8 @@ module _ {S : Type 0} {free : S → Bool} {stopped : FileStop → S} (holds : Ho
       record {
         reads = all;
         held = held-with told names kind one.bytes rest.reads rest.held;
-        meets = subst (λ v. Meets free v result)
-            (sym (opened-ok stopped judge (λ table. next table all) (all kind) one.bytes table same
+        meets = subst (λ v. Meets is_free_stop v result)
+            (sym (opened-ok judge (λ table. next table all) (all kind) one.bytes table same
             one.meets ∙ same-with told kind one.bytes rest.reads (next table) same_next))
             rest.meets;
         taken = λ decided. taken-ok judge (λ table. files table all) (all kind) one.bytes table
@@ -303,38 +293,37 @@ module _ {S : Type 0} {free : S → Bool} {stopped : FileStop → S} (holds : Ho
         begun = λ unread. subst (λ v. HasBegun v tally_first tally_now) (sym same)
             (begun-later one.bytes tally_first tally_before tally_now rest.causes.tally
             (one.begun (λ e. cc e)));
-        causes = causes-later stopped result first before now tally_first tally_before tally_now
+        causes = causes-later result first before now tally_first tally_before tally_now
             one.causes.faults one.causes.tally rest.causes;
       }
 
 -- what reading came to that ended in a stop, of a result that is this stop
-pub stopped-as : {T S : Type 0} {told : Option Files} {names : FileKind → List ℕ}
-    {free : S → Bool} {stopped : FileStop → S} {first : Option FileKind}
-    {said : Reads → Option (Result T S)} {files : Reads → List (List ℕ)}
-    {before now tally_before tally_now : ℕ} (stop : S) (result : Result T S)
+pub stopped-as : {T W : Type 0} {told : Option Files} {names : FileKind → List ℕ}
+    {first : Option FileKind} {said : Reads → Option (Result T (Stop W))}
+    {files : Reads → List (List ℕ)} {before now tally_before tally_now : ℕ} (stop : Stop W)
+    (result : Result T (Stop W))
     → IsErrAnd result (λ found. found ≡ stop)
-    → AreRead told names free stopped first said files (Err stop) before now tally_before tally_now
-    → AreRead told names free stopped first said files result before now tally_before tally_now
-stopped-as {told} {names} {free} {stopped} {first} {said} {files} {before} {now} {tally_before}
-    {tally_now} stop result is reading =
-    at-error (λ r. AreRead told names free stopped first said files r before now tally_before
+    → AreRead told names first said files (Err stop) before now tally_before tally_now
+    → AreRead told names first said files result before now tally_before tally_now
+stopped-as {told} {names} {first} {said} {files} {before} {now} {tally_before} {tally_now} stop
+    result is reading =
+    at-error (λ r. AreRead told names first said files r before now tally_before
     tally_now) result stop is reading
 
-said-behind : {T U S : Type 0} (stopped : FileStop → S) (said : Result T FileStop)
-    (next : T → Option (Result U S)) (end : U) → and_then stopped said next ≡ Some (Ok end)
+said-behind : {T U W : Type 0} (said : Result T FileStop) (next : T → Option (Result U (Stop W)))
+    (end : U) → and_then said next ≡ Some (Ok end)
     → (table : T) × (said ≡ Ok table) × (next table ≡ Some (Ok end))
-said-behind stopped (Err stop) next end e = cc e
-said-behind stopped (Ok table) next end e = (table, refl, e)
+said-behind (Err stop) next end e = cc e
+said-behind (Ok table) next end e = (table, refl, e)
 
 -- where all is said in the end, a file was there, and said its table
-pub said-from : {T U S : Type 0} (stopped : FileStop → S) (held : Option (List ℕ))
-    (judge : List ℕ → Result T FileStop) (next : T → Option (Result U S)) (end : U)
-    → opened stopped held judge next ≡ Some (Ok end)
+pub said-from : {T U W : Type 0} (held : Option (List ℕ)) (judge : List ℕ → Result T FileStop)
+    (next : T → Option (Result U (Stop W))) (end : U) → opened held judge next ≡ Some (Ok end)
     → (bytes : List ℕ) × (held ≡ Some bytes)
     × (table : T) × (judge bytes ≡ Ok table) × (next table ≡ Some (Ok end))
-said-from stopped None judge next end e = cc e
-said-from stopped (Some bytes) judge next end e =
-    let behind = said-behind stopped (judge bytes) next end e in
+said-from None judge next end e = cc e
+said-from (Some bytes) judge next end e =
+    let behind = said-behind (judge bytes) next end e in
     (bytes, refl, behind.0, behind.1, behind.2)
 
 -- a file is judged so under another name for the same things

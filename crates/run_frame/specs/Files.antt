@@ -1,12 +1,14 @@
 -- What reading files came to.
-use Rattle.std.specs.Prelude.{◌≡◌, ◌≤◌, ◌<◌, ◌⊎◌, ℕ, ◌+◌, Bool, List, [], ◌∷◌, ◌++◌, length, Option, Some, None, Result, IsErrOf, IfSome, option_map, ⊤}
+use Rattle.std.specs.Prelude.{◌≡◌, ◌≤◌, ◌<◌, ◌⊎◌, ℕ, ◌+◌, List, [], ◌∷◌, ◌++◌, length, Option, Some, None, Result, IsErrOf, IfSome, option_map, ⊤}
 use Rattle.place_base.specs.declared.fault.FileKind.{FileKind}
 use Rattle.place_edges.specs.Causes.{Rose}
 use Rattle.place_edges.specs.Shelf.{Files, GaveMore, HasMore, file_limit, piece_size, tally_with}
 use Rattle.run_frame.specs.Meetings.{IsDecided, Meets}
-use Rattle.run_frame.specs.Stops.{is_free, too_long}
+use Rattle.run_frame.specs.Stops.{is_free, is_free_stop, too_long}
 use Rattle.run_frame.specs.declared.stop.FileStop.{FileStop}
 use Rattle.run_frame.specs.declared.stop.FileStop.TheVariants.{Fault, ReadFault, Memory}
+use Rattle.run_frame.specs.declared.stop.Stop.{Stop}
+use Rattle.run_frame.specs.declared.stop.Stop.TheVariants.{File}
 
 -- why a file could not be read whole: only too long a file is a fault
 abbrev pub IsUnread : Option Files → List ℕ → FileKind → FileStop → Type 0
@@ -101,20 +103,19 @@ abbrev pub FirstHasBegun : Option FileKind → Reads → ℕ → ℕ → Type 0
 FirstHasBegun None reads before now = ⊤
 FirstHasBegun (Some kind) reads before now = HasBegun (reads kind) before now
 
--- What reading files came to, where a run has stops of its own beside those of files: there are
--- bytes for each kind of file, those held under the files' names where that is told, such that the
--- result meets what is said over them. Each file up to the one that decides was read once; where a
+-- What reading files came to in a run: there are bytes for each kind of file, those held under the
+-- files' names where that is told, such that the result meets what is said over them. Each file up to the one that decides was read once; where a
 -- read fault or want of memory decides, some in front were, and of those behind them at most one
 -- piece beyond 2^30 was taken. Memory is refused only once the reading of the first file has begun.
-pub record AreRead {T S : Type 0} (told : Option Files) (names : FileKind → List ℕ)
-    (free : S → Bool) (stopped : FileStop → S) (first : Option FileKind)
-    (said : Reads → Option (Result T S)) (files : Reads → List (List ℕ)) (result : Result T S)
+pub record AreRead {T W : Type 0} (told : Option Files) (names : FileKind → List ℕ)
+    (first : Option FileKind) (said : Reads → Option (Result T (Stop W)))
+    (files : Reads → List (List ℕ)) (result : Result T (Stop W))
     (before now tally_before tally_now : ℕ) : Type 0 where
   pub reads : Reads
   pub held : AreHeld told names reads
-  pub meets : Meets free (said reads) result
-  pub taken : IsDecided free result → AreTaken (files reads) tally_before tally_now
+  pub meets : Meets is_free_stop (said reads) result
+  pub taken : IsDecided is_free_stop result → AreTaken (files reads) tally_before tally_now
   pub once : AreTakenUpTo (files reads) tally_before tally_now
-  pub begun : (IsErrOf result (stopped ReadFault) → ⊥)
+  pub begun : (IsErrOf result (File ReadFault) → ⊥)
       → FirstHasBegun first reads tally_before tally_now
-  pub causes : HasCauses stopped result before now tally_before tally_now
+  pub causes : HasCauses File result before now tally_before tally_now

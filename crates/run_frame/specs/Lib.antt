@@ -1,7 +1,7 @@
 -- The definitions, in the order in which to read them.
 -- how a result meets what is said of it
 pub mod Meetings
--- why a file has no table
+-- why a file has no table, and why a run has no answer
 pub mod Stops
 -- what reading files came to
 pub mod Files

@@ -18,6 +18,10 @@ line_text parts = join_with_byte 32 parts ++ 10 ∷ []
 abbrev pub kind_text : FaultKind → List ℕ
 kind_text kind = codes "F" ++ decimal (fault_number kind / 10) ++ decimal (fault_number kind % 10)
 
+-- the line of words that are refused: the name of the refusal, and the place of the word
+unfoldable pub words_line : List ℕ → ℕ → List ℕ
+words_line name place = line_text (codes "words" ∷ name ∷ decimal place ∷ [])
+
 -- the line of a fault of a file
 unfoldable pub fault_line : FileFault → List ℕ
 fault_line found =

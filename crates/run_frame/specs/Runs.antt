@@ -2,23 +2,26 @@
 use Rattle.std.specs.Prelude.{◌≡◌, ◌≤◌, ◌<◌, ◌⊎◌, ℕ, ◌-◌, ◌^◌, List, [], Option, Some, Result, Ok, Err}
 use Rattle.place_base.specs.declared.fault.FileKind.{FileKind}
 use Rattle.place_edges.specs.Causes.{Rose}
-use Rattle.place_edges.specs.Shelf.{Files}
+use Rattle.place_edges.specs.Shelf.{Files, GaveMore, file_limit}
 use Rattle.place_edges.specs.Sink.{Appended, AppendedPrefix}
 use Rattle.run_frame.specs.Files.{AreHeld, AreTaken, Reads}
+use Rattle.run_frame.specs.Stops.{too_long}
+use Rattle.run_frame.specs.declared.stop.FileStop.TheVariants.{Fault, ReadFault, Memory}
+use Rattle.run_frame.specs.declared.stop.Stop.{Stop}
+use Rattle.run_frame.specs.declared.stop.Stop.TheVariants.{Words, File}
 
 -- The text of a program's answer, and the status of each end: where the text was written whole,
--- where there is a stop in place of an answer, where a write failed, and where memory was refused.
-pub record Endings (A S E : Type 0) : Type 0 where
+-- where there is a stop in place of an answer, and where a write failed.
+pub record Endings (A W E : Type 0) : Type 0 where
   pub text : A → List ℕ
   pub done : A → E
-  pub stopped : S → E
+  pub stopped : Stop W → E
   pub write_fault : E
-  pub memory : E
 
 -- An answer was written: whole, with its status, or a write failed, and a prefix of its text was.
 -- Where there is a stop in its place, the sink is as it was.
-abbrev pub IsFinished : {A S E K : Type 0} → Endings A S E → (K → Option (List ℕ)) → (K → ℕ)
-    → Result A S → E → K → K → Type 0
+abbrev pub IsFinished : {A W E K : Type 0} → Endings A W E → (K → Option (List ℕ)) → (K → ℕ)
+    → Result A (Stop W) → E → K → K → Type 0
 IsFinished ends written faults (Ok answer) status old new =
     ((status ≡ ends.done answer) × Appended (written old) (written new) (ends.text answer))
     ⊎ ((status ≡ ends.write_fault) × AppendedPrefix (written old) (written new) (ends.text answer)
@@ -27,7 +30,7 @@ IsFinished ends written faults (Err stop) status old new =
     (status ≡ ends.stopped stop) × (new ≡ old)
 
 -- the status and what was appended are those of what is said
-abbrev pub IsDone : {A S E : Type 0} → Endings A S E → Result A S → E → Option (List ℕ)
+abbrev pub IsDone : {A W E : Type 0} → Endings A W E → Result A (Stop W) → E → Option (List ℕ)
     → Option (List ℕ) → Type 0
 IsDone ends (Ok answer) status old new =
     (status ≡ ends.done answer) × Appended old new (ends.text answer)
@@ -35,20 +38,30 @@ IsDone ends (Err stop) status old new = (status ≡ ends.stopped stop) × Append
 
 -- All that is said over the bytes that were read is done, and the files that are read of them were
 -- read once each; or memory was refused.
-abbrev pub IsWhole : {A S E : Type 0} → Endings A S E → Option Files → (FileKind → List ℕ)
-    → (Reads → Option (Result A S)) → (Reads → List (List ℕ)) → E
+abbrev pub IsWhole : {A W E : Type 0} → Endings A W E → Option Files → (FileKind → List ℕ)
+    → (Reads → Option (Result A (Stop W))) → (Reads → List (List ℕ)) → E
     → Option (List ℕ) → Option (List ℕ) → ℕ → ℕ → Type 0
-IsWhole {A} {S} ends told names says files status old new before now =
+IsWhole {A} {W} ends told names says files status old new before now =
     (reads : Reads) × AreHeld told names reads
-    × ((status ≡ ends.memory)
+    × ((status ≡ ends.stopped (File Memory))
     ⊎ (AreTaken (files reads) before now
-    × (said : Result A S) × (says reads ≡ Some said) × IsDone ends said status old new))
+    × (said : Result A (Stop W)) × (says reads ≡ Some said) × IsDone ends said status old new))
 
 -- words are refused exactly where they give no command, and with that refusal
 pub record WordsCause {C W E : Type 0} (refusal : W → E) (command : Result C W) (status : E)
     : Type 0 where
   pub only : (refused : W) → status ≡ refusal refused → command ≡ Err refused
   pub always : (refused : W) → command ≡ Err refused → status ≡ refusal refused
+
+-- Each refusal has its cause: words by their rules, a read fault and a write fault by the counts, a
+-- file that is too long by the tally.
+pub record HasCause {A C W E : Type 0} (ends : Endings A W E) (command : Result C W) (status : E)
+    (before now tally_before tally_now out_before out_now : ℕ) : Type 0 where
+  pub words : WordsCause (λ refused. ends.stopped (Words refused)) command status
+  pub read : status ≡ ends.stopped (File ReadFault) → Rose before now
+  pub long : (kind : FileKind) → status ≡ ends.stopped (File (Fault (too_long kind)))
+      → GaveMore tally_before tally_now file_limit
+  pub write : status ≡ ends.write_fault → Rose out_before out_now
 
 -- what was written before stays in front
 abbrev pub StaysInFront : Option (List ℕ) → Option (List ℕ) → Type 0

@@ -1,5 +1,4 @@
--- What files say that are opened one after the other, where a run has stops of its own beside those
--- of files.
+-- What files say that are opened one after the other in a run.
 use Rattle.std.specs.Prelude.{ℕ, List, [], ◌∷◌, nat_lt, length, if◌then◌else◌, Option, Some, None, Result, Ok, Err}
 use Rattle.place_base.specs.declared.fault.FileFault.{FileFault}
 use Rattle.place_base.specs.declared.fault.FileKind.{FileKind}
@@ -7,6 +6,8 @@ use Rattle.place_edges.specs.Shelf.{file_limit}
 use Rattle.run_frame.specs.Stops.{too_long}
 use Rattle.run_frame.specs.declared.stop.FileStop.{FileStop}
 use Rattle.run_frame.specs.declared.stop.FileStop.TheVariants.{Fault}
+use Rattle.run_frame.specs.declared.stop.Stop.{Stop}
+use Rattle.run_frame.specs.declared.stop.Stop.TheVariants.{File}
 
 -- the fault, or the table where there is none
 abbrev pub fault_or : {T : Type 0} → Option FileFault → T → Result T FileStop
@@ -19,16 +20,16 @@ judged kind found table bytes =
     if nat_lt file_limit (length bytes) then Err (Fault (too_long kind)) else fault_or found table
 
 -- go on with what a file says
-abbrev pub and_then : {T U S : Type 0} → (FileStop → S) → Result T FileStop
-    → (T → Option (Result U S)) → Option (Result U S)
-and_then stopped (Err stop) next = Some (Err (stopped stop))
-and_then stopped (Ok said) next = next said
+abbrev pub and_then : {T U W : Type 0} → Result T FileStop → (T → Option (Result U (Stop W)))
+    → Option (Result U (Stop W))
+and_then (Err stop) next = Some (Err (File stop))
+and_then (Ok said) next = next said
 
 -- open a file, judge it, and go on; nothing is said where it is not held
-abbrev pub opened : {T U S : Type 0} → (FileStop → S) → Option (List ℕ)
-    → (List ℕ → Result T FileStop) → (T → Option (Result U S)) → Option (Result U S)
-opened stopped None judge next = None
-opened stopped (Some bytes) judge next = and_then stopped (judge bytes) next
+abbrev pub opened : {T U W : Type 0} → Option (List ℕ) → (List ℕ → Result T FileStop)
+    → (T → Option (Result U (Stop W))) → Option (Result U (Stop W))
+opened None judge next = None
+opened (Some bytes) judge next = and_then (judge bytes) next
 
 -- no file is read behind one that has a fault
 abbrev pub read_behind : {T : Type 0} → Result T FileStop → (T → List (List ℕ)) → List (List ℕ)

@@ -1,5 +1,5 @@
--- Why a file has no table.
-use Rattle.std.specs.Prelude.{Bool, true, false, Result, Ok, Err}
+-- Why a file has no table, and why a run has no answer.
+use Rattle.std.specs.Prelude.{Bool, true, false, IsErrOf, Result, Ok, Err}
 use Rattle.place_base.specs.declared.fault.FaultKind.TheVariants.{FileTooLong}
 use Rattle.place_base.specs.declared.fault.FileFault.{FileFault}
 use Rattle.place_base.specs.declared.fault.FileKind.{FileKind}
@@ -8,12 +8,23 @@ use Rattle.record_files.specs.declared.table_stop.TableStop.{TableStop}
 use Rattle.record_files.specs.declared.table_stop.TableStop.TheVariants as table
 use Rattle.run_frame.specs.declared.stop.FileStop.{FileStop}
 use Rattle.run_frame.specs.declared.stop.FileStop.TheVariants.{Fault, ReadFault, Memory}
+use Rattle.run_frame.specs.declared.stop.Stop.{Stop}
+use Rattle.run_frame.specs.declared.stop.Stop.TheVariants.{Words, File}
 
 -- a read fault and want of memory are free: no bytes say them
 abbrev pub is_free : FileStop → Bool
 is_free (Fault found) = false
 is_free ReadFault = true
 is_free Memory = true
+
+-- and so they are as stops of a run, of which a refusal of words is said
+abbrev pub is_free_stop : {W : Type 0} → Stop W → Bool
+is_free_stop (Words refused) = false
+is_free_stop (File stop) = is_free stop
+
+-- the words were refused
+abbrev pub IsWordsStop : {T W : Type 0} → Result T (Stop W) → Type 0
+IsWordsStop {W = W} result = (refused : W) × IsErrOf result (Words refused)
 
 -- the fault of a file of more than 2^30 bytes
 abbrev pub too_long : FileKind → FileFault

@@ -6,9 +6,9 @@
 mod file;
 // Lines of notes.
 mod lines;
-// Why a file has no table.
+// Why a file has no table, and why a run has no answer.
 mod stop;
 
 pub use file::read_file;
-pub use lines::{write_fault, write_parts, write_stop};
-pub use stop::{FileStop, table_or_stop};
+pub use lines::{write_fault, write_parts, write_stop, write_words};
+pub use stop::{FileStop, Stop, table_or_stop};

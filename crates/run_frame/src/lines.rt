@@ -3,13 +3,31 @@ ghost use Rattle.std.specs.Prelude.{◌≡◌};
 ghost use Rattle.std.specs.List.{flat_map};
 ghost use Rattle.place_edges.specs.Sink.{IsWritten};
 ghost use Rattle.record_files.specs.Texts.{text_of};
-ghost use Rattle.run_frame.specs.Lines.{fault_line, stop_line};
+ghost use Rattle.run_frame.specs.Lines.{fault_line, stop_line, words_line};
 
 use crate::FileStop;
 use itoa::Buffer;
 use place_base::FileFault;
 use place_edges::{Failed, Sink, write_whole};
 use record_files::Field;
+
+/// Writes why words are refused: the name of the refusal, and the place of the word, counted from 1
+/// and 0 where there is none.
+pub fn write_words<N: Sink>(notes: &mut N, name: &str, place: u32) -> Result<(), Failed>
+    ensures { IsWritten (words_line name.now place) result
+        (N.written notes.old) (N.written notes.new) (N.faults notes.old) (N.faults notes.new) }
+{
+    write_parts(
+        notes,
+        &[
+            Field::Text(b"words "),
+            Field::Text(name.as_bytes()),
+            Field::Text(b" "),
+            Field::Number(u64::from(place)),
+            Field::Text(b"\n"),
+        ],
+    )
+}
 
 /// Writes why a file has no table.
 pub fn write_stop<N: Sink>(notes: &mut N, stop: FileStop) -> Result<(), Failed>

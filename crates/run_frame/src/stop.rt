@@ -1,4 +1,4 @@
-// Why a file has no table.
+// Why a file has no table, and why a run has no answer.
 ghost use Rattle.std.specs.Prelude.{◌≡◌};
 ghost use Rattle.run_frame.specs.Stops.{table_said};
 
@@ -25,6 +25,36 @@ impl From<AllocError> for FileStop {
 
     fn from(_: AllocError) -> FileStop {
         FileStop::Memory
+    }
+}
+
+/// Why a run has no answer.
+#[derive(Clone, Copy)]
+pub enum Stop<W> {
+    /// The words are refused.
+    Words(W),
+    /// A file has no table, or memory was refused.
+    File(FileStop),
+}
+
+impl<W> From<FileStop> for Stop<W> {
+    ghost use Rattle.run_frame.specs.declared.stop.Stop.TheVariants.{File};
+
+    ghost from_gives = { λ unread stop. stop ≡ File unread };
+
+    fn from(unread: FileStop) -> Stop<W> {
+        Stop::File(unread)
+    }
+}
+
+impl<W> From<AllocError> for Stop<W> {
+    ghost use Rattle.run_frame.specs.declared.stop.FileStop.TheVariants.{Memory};
+    ghost use Rattle.run_frame.specs.declared.stop.Stop.TheVariants.{File};
+
+    ghost from_gives = { λ _ stop. stop ≡ File Memory };
+
+    fn from(_: AllocError) -> Stop<W> {
+        Stop::File(FileStop::Memory)
     }
 }
 
