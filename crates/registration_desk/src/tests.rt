@@ -103,10 +103,11 @@ fn ends(
     (code, out, note, faults, calls): (u8, &[u8], &[u8], u64, u64),
 ) -> Result<DeskStatus, Fail> {
     let ran = run(rt, alloc, texts, shelf, gate)?;
-    assert_eq!(rt; ran.status.code(), code);
-    assert_eq!(rt; ran.out.bytes(), out);
-    assert_eq!(rt; ran.notes.bytes(), note);
-    assert_eq!(rt; (ran.faults, ran.calls), (faults, calls));
+    let ended = (ran.status.code(), ran.out.bytes(), ran.notes.bytes());
+    assert_eq!(rt;
+        (ended, ran.faults, ran.calls),
+        ((code, out, note), faults, calls)
+    );
     Ok(ran.status)
 }
 

@@ -34,9 +34,8 @@ fn ends_with(
 ) -> Result<(), Fail> {
     let words = words(alloc, texts)?;
     let status = run_desk(rt, alloc, &words, shelf, out, notes, &OpenDesk);
-    assert_eq!(rt; status.code(), code);
-    assert_eq!(rt; out.bytes(), text);
-    assert_eq!(rt; notes.bytes(), line);
+    let ended = (status.code(), out.bytes(), notes.bytes());
+    assert_eq!(rt; ended, (code, text, line));
     Ok(())
 }
 
