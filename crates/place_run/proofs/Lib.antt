@@ -20,7 +20,5 @@ pub mod RowTexts
 pub mod WrittenTexts
 -- what a run leaves of a sink
 pub mod Finishing
--- the parts of a line
-pub mod LineTexts
 -- names that are all granted
 pub mod Granting
