@@ -9,14 +9,14 @@ use Rattle.run_frame.proofs.Readings.{none-read}
 use Rattle.place_run.specs.Answers.{Answer}
 use Rattle.place_run.specs.Runs.{IsAnswering}
 use Rattle.place_run.specs.Says.{named}
-use Rattle.place_run.specs.declared.status.Stop.{Stop}
-use Rattle.place_run.specs.declared.status.Stop.TheVariants.{Words}
-use Rattle.place_run.proofs.Readings.{holds-stops}
+use Rattle.run_frame.specs.declared.stop.Stop.{Stop}
+use Rattle.run_frame.specs.declared.stop.Stop.TheVariants.{Words}
 
 -- an answer that is an error
 pub answer-error : (told : Option Files) (words : List (List ℕ))
-    (command : Result Command WordsFault) (answer : Result Answer Stop) (stop : Stop)
-    (before now tally_before tally_now : ℕ) → IsErrAnd answer (λ found. found ≡ stop)
+    (command : Result Command WordsFault) (answer : Result Answer (Stop WordsFault))
+    (stop : Stop WordsFault) (before now tally_before tally_now : ℕ)
+    → IsErrAnd answer (λ found. found ≡ stop)
     → IsAnswering told words command (Err stop) before now tally_before tally_now
     → IsAnswering told words command answer before now tally_before tally_now
 answer-error told words command answer stop before now tally_before tally_now is answers =
@@ -31,7 +31,7 @@ pub words-refused : (told : Option Files) (words : List (List ℕ))
 words-refused told words command refused before tally_before none =
     subst (λ v. IsAnswering told words v (Err (Words refused)) before before tally_before
     tally_before) (sym none) (record {
-      reading = none-read holds-stops told (named words) _ (Err (Words refused)) before
+      reading = none-read told (named words) _ (Err (Words refused)) before
           tally_before (λ reads. inr refl) (λ e. cc e) (λ kind e. cc e);
       promise = tt;
     })

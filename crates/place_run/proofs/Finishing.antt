@@ -1,6 +1,5 @@
 -- What a run leaves of a sink, and what follows where no read and no write failed.
-use Rattle.std.proofs.Common.{◌≡◌, ◌⊎◌, ◌∙◌, ◌≤◌, ℕ, List, refl, sym, ap, subst, inl, inr, Option, Some, None, Result, Ok, Err, IfOk, ⊎_elim}
-use Rattle.std.specs.Prelude.{IsTrue}
+use Rattle.std.proofs.Common.{◌≡◌, ◌∙◌, ◌≤◌, ℕ, List, refl, sym, ap, subst, inl, inr, Option, Some, None, Result, Ok, Err, IfOk, ⊎_elim}
 use Rattle.place_base.specs.declared.fault.FileKind.TheVariants as file
 use Rattle.command_words.specs.Words.{command_of}
 use Rattle.command_words.specs.declared.words.Command.{Command}
@@ -13,20 +12,18 @@ use Rattle.programme_table.specs.Table.{codes_of}
 use Rattle.candidate_table.specs.Table.{numbers_of}
 use Rattle.run_frame.specs.Files.{Reads}
 use Rattle.run_frame.specs.Meetings.{IsDecided, Meets}
-use Rattle.run_frame.specs.Stops.{too_long}
-use Rattle.run_frame.specs.declared.stop.FileStop.{FileStop}
 use Rattle.run_frame.specs.declared.stop.FileStop.TheVariants.{Fault, ReadFault, Memory}
-use Rattle.run_frame.specs.Runs.{IsDone, IsWhole}
+use Rattle.run_frame.specs.Runs.{IsDone, IsFinished, IsWhole}
 use Rattle.run_frame.specs.Says.{answered}
-use Rattle.run_frame.proofs.Answering.{answered-stop, opened-no-stop}
+use Rattle.run_frame.proofs.Answering.{answered-stop, opened-no-words}
 use Rattle.run_frame.proofs.Endings as frame
-use Rattle.run_frame.proofs.Endings.{AreApart, answered-finished, stopped, whole-run, words-cause, write-cause}
+use Rattle.run_frame.proofs.Endings.{AreApart, answered-finished, stopped, whole-run}
 use Rattle.run_frame.proofs.JudgedTables.{judged-ok}
-use Rattle.place_run.specs.Runs.{AreFilesRead, HasCause, IsAnswering, IsComplete, IsFinished, LeavesSink, PlacesWhole, PrintsReports, PrintsSummary, PrintsVerdict, PrintsWorstStable, ReadsNothing, RunsWithoutFile, endings}
+use Rattle.place_run.specs.Runs.{AreFilesRead, HasCause, IsAnswering, IsComplete, LeavesSink, PlacesWhole, PrintsReports, PrintsSummary, PrintsVerdict, PrintsWorstStable, ReadsNothing, RunsWithoutFile, endings}
 use Rattle.place_run.specs.Answers.{Answer, done}
 use Rattle.place_run.specs.Says.{KeepsPromise, audited_said, behind_tables, files_read, named, says, tables_said}
 use Rattle.place_run.specs.Statuses.{ended, status_of}
-use Rattle.place_run.specs.Stops.{is_free}
+use Rattle.run_frame.specs.Stops.{is_free_stop}
 use Rattle.place_run.specs.Tables.{HasNoFault, Tables, ThreeFiles, candidates_said, codes_in, numbers_in, programmes_said, ranks_said, tables_in}
 use Rattle.place_run.specs.commands.Make.{summary_of}
 use Rattle.place_run.specs.commands.Place.{AreThree, placement_of}
@@ -34,12 +31,12 @@ use Rattle.place_run.specs.declared.status.Ending.{Ending}
 use Rattle.place_run.specs.declared.status.Ending.TheVariants as ending
 use Rattle.place_run.specs.declared.status.Status.{Status}
 use Rattle.place_run.specs.declared.status.Status.TheVariants as ends
-use Rattle.place_run.specs.declared.status.Stop.{Stop}
-use Rattle.place_run.specs.declared.status.Stop.TheVariants.{Words, File}
+use Rattle.run_frame.specs.declared.stop.Stop.{Stop}
+use Rattle.run_frame.specs.declared.stop.Stop.TheVariants.{Words, File}
 use Rattle.place_run.proofs.Headline.{printed-in}
 
 -- the stop of a status, if it is that of one
-abbrev stop_in : Status → Option Stop
+abbrev stop_in : Status → Option (Stop WordsFault)
 stop_in ends.Done = None
 stop_in (ends.Words refused) = Some (Words refused)
 stop_in (ends.FileFault found) = Some (File (Fault found))
@@ -48,7 +45,7 @@ stop_in ends.WriteFault = None
 stop_in ends.Memory = Some (File Memory)
 stop_in ends.AuditNo = None
 
-stop-in : (stop : Stop) → stop_in (status_of stop) ≡ Some stop
+stop-in : (stop : Stop WordsFault) → stop_in (status_of stop) ≡ Some stop
 stop-in (Words refused) = refl
 stop-in (File (Fault found)) = refl
 stop-in (File ReadFault) = refl
@@ -66,35 +63,18 @@ ended-same ending.Done ending.AuditNo e = cc e
 ended-same ending.AuditNo ending.Done e = cc e
 ended-same ending.AuditNo ending.AuditNo e = refl
 
--- so it is no stop's
-unstopped : (end : Ending) (stop : Stop) → ended end ≡ status_of stop → ⊥
-unstopped end stop e =
-    let never : None ≡ Some stop = sym (ended-well end).0 ∙ ap stop_in e ∙ stop-in stop in cc never
-
 -- the statuses of the ends are apart
 are-apart : AreApart endings
 are-apart = record {
-  stops = λ one other e.
-      let same : Some one ≡ Some other = sym (stop-in one) ∙ ap stop_in e ∙ stop-in other in
-      cc same;
-  done = λ answer stop e. unstopped answer.ending stop e;
-  fault = λ stop e. let never : None ≡ Some stop = ap stop_in e ∙ stop-in stop in cc never;
-  whole = λ answer e. (ended-well answer.ending).1 e;
+  stop_in = stop_in;
+  stop = stop-in;
+  done = λ answer. (ended-well answer.ending).0;
+  fault = refl;
+  whole = λ answer. (ended-well answer.ending).1;
 }
 
--- a stop that is free is a read fault or want of memory
-frees : (stop : Stop) → IsTrue (is_free stop)
-    → (stop ≡ File ReadFault) ⊎ (status_of stop ≡ ends.Memory)
-frees (Words refused) free = cc free
-frees (File (Fault found)) free = cc free
-frees (File ReadFault) free = inl refl
-frees (File Memory) free = inr refl
-
 -- files say no refusal of words
-no-words : (refused : WordsFault) (stop : FileStop) → File stop ≡ Words refused → ⊥
-no-words refused stop e = cc e
-
-answered-no-words : {T : Type 0} (make : T → Answer) (said : Option (Result T Stop))
+answered-no-words : {T : Type 0} (make : T → Answer) (said : Option (Result T (Stop WordsFault)))
     (refused : WordsFault) → answered make said ≡ Some (Err (Words refused))
     → said ≡ Some (Err (Words refused))
 answered-no-words make said refused e = answered-stop make said (Words refused) e
@@ -102,14 +82,12 @@ answered-no-words make said refused e = answered-stop make said (Words refused) 
 tables-no-words : (reads : Reads) (refused : WordsFault)
     → tables_said reads ≡ Some (Err (Words refused)) → ⊥
 tables-no-words reads refused e =
-    opened-no-stop File (reads file.Programmes) _ _ (Words refused) (no-words refused)
-    (λ programmes. opened-no-stop File (reads file.Candidates) _ _ (Words refused)
-    (no-words refused)
-    (λ candidates. opened-no-stop File (reads file.Ranks) _ _ (Words refused) (no-words refused)
-    (λ ranks never. cc never))) e
+    opened-no-words (reads file.Programmes) _ _ refused
+    (λ programmes. opened-no-words (reads file.Candidates) _ _ refused
+    (λ candidates. opened-no-words (reads file.Ranks) _ _ refused (λ ranks never. cc never))) e
 
-behind-tables-no-words : {T : Type 0} (said : Option (Result Tables Stop))
-    (next : Tables → Option (Result T Stop)) (refused : WordsFault)
+behind-tables-no-words : {T : Type 0} (said : Option (Result Tables (Stop WordsFault)))
+    (next : Tables → Option (Result T (Stop WordsFault))) (refused : WordsFault)
     → (said ≡ Some (Err (Words refused)) → ⊥)
     → ((tables : Tables) → next tables ≡ Some (Err (Words refused)) → ⊥)
     → behind_tables said next ≡ Some (Err (Words refused)) → ⊥
@@ -122,8 +100,7 @@ audited-no-words : (reads : Reads) (refused : WordsFault)
     → audited_said reads ≡ Some (Err (Words refused)) → ⊥
 audited-no-words reads refused e =
     behind-tables-no-words (tables_said reads) _ refused (tables-no-words reads refused)
-    (λ tables. opened-no-stop File (reads file.Placement) _ _ (Words refused) (no-words refused)
-    (λ held never. cc never)) e
+    (λ tables. opened-no-words (reads file.Placement) _ _ refused (λ held never. cc never)) e
 
 says-refused : (command : Result Command WordsFault) (reads : Reads) (refused : WordsFault)
     → says command reads ≡ Some (Err (Words refused)) → command ≡ Err refused
@@ -139,8 +116,9 @@ says-refused (Ok (Audit workers)) reads refused e = absurd
 says-refused (Ok (Make seed candidates programmes types workers)) reads refused e = cc e
 
 -- an answer of three files ends well
-answered-done : (text : Tables → List ℕ) (said : Option (Result Tables Stop)) (ready : Answer)
-    → answered (λ tables. done (text tables)) said ≡ Some (Ok ready) → ready.ending ≡ ending.Done
+answered-done : (text : Tables → List ℕ) (said : Option (Result Tables (Stop WordsFault)))
+    (ready : Answer) → answered (λ tables. done (text tables)) said ≡ Some (Ok ready)
+    → ready.ending ≡ ending.Done
 answered-done text None ready e = cc e
 answered-done text (Some (Err stop)) ready e = cc e
 answered-done text (Some (Ok tables)) ready e =
@@ -163,20 +141,21 @@ says-unstable (Ok (Make seed candidates programmes types workers)) reads ready e
     let never : ending.Done ≡ ending.AuditNo = ap (λ (v : Answer). v.ending) same ∙ is in cc never
 
 -- where a run ends with its text, an answer with this end was appended whole
-record HasEnded {K : Type 0} (written : K → Option (List ℕ)) (answer : Result Answer Stop)
-    (end : Ending) (old new : K) : Type 0 where
+record HasEnded {K : Type 0} (written : K → Option (List ℕ))
+    (answer : Result Answer (Stop WordsFault)) (end : Ending) (old new : K) : Type 0 where
   ready : Answer
   is : answer ≡ Ok ready
   ends_so : ready.ending ≡ end
   wrote : Appended (written old) (written new) ready.text
 
 ended-finished : {K : Type 0} (written : K → Option (List ℕ)) (faults : K → ℕ)
-    (answer : Result Answer Stop) (status : Status) (old new : K) (end : Ending)
-    → IsFinished written faults answer status old new → status ≡ ended end
+    (answer : Result Answer (Stop WordsFault)) (status : Status) (old new : K) (end : Ending)
+    → IsFinished endings written faults answer status old new → status ≡ ended end
     → HasEnded written answer end old new
+unfolding are-apart
 ended-finished written faults answer status old new end finished same =
     let whole = answered-finished are-apart written faults answer status old new finished
-    (λ stop is. unstopped end stop (sym same ∙ is)) (λ is. (ended-well end).1 (sym same ∙ is)) in
+    (ap stop_in same ∙ (ended-well end).0) (λ is. (ended-well end).1 (sym same ∙ is)) in
     record {
       ready = whole.0;
       is = whole.1;
@@ -238,10 +217,10 @@ places-whole (Some files) words status old new before now (reads, held, whole) =
 
 -- the clauses of a run, from its answer and how it was written
 module _ {K : Type 0} (written : K → Option (List ℕ)) (faults : K → ℕ) (told : Option Files)
-    (words : List (List ℕ)) (answer : Result Answer Stop) (status : Status) (old new : K)
-    (before now tally_before tally_now : ℕ)
+    (words : List (List ℕ)) (answer : Result Answer (Stop WordsFault)) (status : Status)
+    (old new : K) (before now tally_before tally_now : ℕ)
     (answers : IsAnswering told words (command_of words) answer before now tally_before tally_now)
-    (finished : IsFinished written faults answer status old new) where
+    (finished : IsFinished endings written faults answer status old new) where
   -- the promise of a command whose run ended with its text
   kept : (command : Result Command WordsFault) → command_of words ≡ command
       → (ready : Answer) → answer ≡ Ok ready
@@ -256,7 +235,7 @@ module _ {K : Type 0} (written : K → Option (List ℕ)) (faults : K → ℕ) (
       → AreFilesRead told words answers.reading.reads tally_before tally_now
   read-once ready is = record {
     held = answers.reading.held;
-    taken = answers.reading.taken (subst (λ v. IsDecided is_free v) (sym is) tt);
+    taken = answers.reading.taken (subst (λ v. IsDecided is_free_stop v) (sym is) tt);
   }
 
   pub worst-done : PrintsWorstStable told words status (written old) (written new) tally_before
@@ -325,7 +304,7 @@ module _ {K : Type 0} (written : K → Option (List ℕ)) (faults : K → ℕ) (
   pub complete-run : (Rose before now → ⊥) → (Rose (faults old) (faults new) → ⊥)
       → IsComplete told words status (written old) (written new) tally_before tally_now
   complete-run no_read no_write =
-      let whole = whole-run are-apart written faults status old new answers.reading frees finished
+      let whole = whole-run are-apart written faults status old new answers.reading finished
       no_read no_write in
       record {
         whole = whole;
@@ -333,27 +312,18 @@ module _ {K : Type 0} (written : K → Option (List ℕ)) (faults : K → ℕ) (
             whole;
       }
 
-  -- a status that is a stop's is that of the answer
-  at-stop : (stop : Stop) → status ≡ status_of stop → answer ≡ Err stop
-  at-stop stop same = (stopped are-apart written faults answer status old new stop finished same).0
-
   pub causes-run : ((refused : WordsFault) → command_of words ≡ Err refused
       → answer ≡ Err (Words refused))
       → HasCause (command_of words) status before now tally_before tally_now (faults old) (faults
       new)
   causes-run exact = record {
-    words = words-cause are-apart written faults is_free Words (command_of words)
-        (says (command_of words) answers.reading.reads) answer status old new answers.reading.meets
-        finished (λ refused. refl) (says-refused (command_of words) answers.reading.reads) exact;
-    read = λ same. answers.reading.causes.read (at-stop (File ReadFault) same);
-    long = λ kind same. answers.reading.causes.long kind
-        (at-stop (File (Fault (too_long kind))) same);
-    write = write-cause are-apart written faults answer status old new finished;
+    refusal = frame.causes-run are-apart written faults (command_of words) status old new
+        answers.reading finished (says-refused (command_of words) answers.reading.reads) exact;
     unstable = λ same.
         let end = ended-finished written faults answer status old new ending.AuditNo finished same
         in
         says-unstable (command_of words) answers.reading.reads end.ready
-        (subst (λ v. Meets is_free (says (command_of words) answers.reading.reads) v) end.is
+        (subst (λ v. Meets is_free_stop (says (command_of words) answers.reading.reads) v) end.is
         answers.reading.meets) end.ends_so;
   }
 

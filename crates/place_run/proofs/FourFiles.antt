@@ -4,6 +4,7 @@ use Rattle.std.specs.Prelude.{Bool, IsTrue}
 use Rattle.place_base.specs.declared.fault.FileKind.{FileKind}
 use Rattle.place_base.specs.declared.fault.FileKind.TheVariants as file
 use Rattle.place_edges.specs.Shelf.{Files}
+use Rattle.command_words.specs.declared.words.WordsFault.{WordsFault}
 use Rattle.programme_table.specs.Table.{codes_of}
 use Rattle.candidate_table.specs.Table.{numbers_of}
 use Rattle.run_frame.specs.Files.{AreHeld, AreRead, AreTaken, AreTakenUpTo, HasBegun, IsHeld, IsJudged, Reads}
@@ -12,14 +13,12 @@ use Rattle.run_frame.specs.Says.{opened, read_from}
 use Rattle.run_frame.specs.declared.stop.FileStop.{FileStop}
 use Rattle.run_frame.proofs.Endings.{decided-said}
 use Rattle.run_frame.proofs.Readings.{at-read, begun-later, causes-later, causes-same, file-reads, file-stops, held-with, none-read, same-with, with_read}
-use Rattle.place_run.specs.Runs.{IsReading}
 use Rattle.place_run.specs.Says.{MayOpenAudit, audited_read, audited_said, behind_tables, named, placement_read, tables_read, tables_said}
-use Rattle.place_run.specs.Stops.{is_free}
+use Rattle.run_frame.specs.Stops.{is_free_stop}
 use Rattle.place_run.specs.Tables.{Tables, placement_said}
 use Rattle.place_run.specs.commands.Audit.{Audited}
-use Rattle.place_run.specs.declared.status.Stop.{Stop}
-use Rattle.place_run.specs.declared.status.Stop.TheVariants.{File}
-use Rattle.place_run.proofs.Readings.{holds-stops}
+use Rattle.run_frame.specs.declared.stop.Stop.{Stop}
+use Rattle.run_frame.specs.declared.stop.Stop.TheVariants.{File}
 
 -- files that are taken one behind the other
 taken-both : (xs ys : List (List ℕ)) (before between now : ℕ) → AreTaken xs before between
@@ -59,16 +58,16 @@ held_beside tables =
 -- the name of the placement file is granted where the three files say their tables
 pub may-open-placement : (told : Option Files) (grants : List ℕ → Bool) (words : List (List ℕ))
     (tables : Tables) (before now tally_before tally_now : ℕ) → MayOpenAudit told grants words
-    → IsReading told words (Some file.Programmes) tables_said tables_read (Ok tables) before now
-    tally_before tally_now
+    → AreRead told (named words) (Some file.Programmes) tables_said tables_read (Ok tables) before
+    now tally_before tally_now
     → IsTrue (grants (named words file.Placement))
 may-open-placement told grants words tables before now tally_before tally_now may reading =
     may.placement reading.reads tables reading.held reading.meets
 
 -- what the placement file says behind these tables, and with it all four, and that it is read
-abbrev placement_from : Tables → Option (List ℕ) → Option (Result Audited Stop)
+abbrev placement_from : Tables → Option (List ℕ) → Option (Result Audited (Stop WordsFault))
 placement_from tables bytes =
-    opened File bytes (held_beside tables) (λ held.
+    opened bytes (held_beside tables) (λ held.
     Some (Ok (record { tables = tables; held = held })))
 
 abbrev placement_behind : Tables → Option (List ℕ) → List (List ℕ)
@@ -80,12 +79,12 @@ held-at None names kind reads held = tt
 held-at (Some files) names kind reads held = held kind
 
 -- the three files have a stop
-pub three-stop : (told : Option Files) (words : List (List ℕ)) (stop : Stop)
+pub three-stop : (told : Option Files) (words : List (List ℕ)) (stop : Stop WordsFault)
     (before now tally_before tally_now : ℕ)
-    → IsReading told words (Some file.Programmes) tables_said tables_read (Err stop) before now
-    tally_before tally_now
-    → IsReading told words (Some file.Programmes) audited_said audited_read (Err stop) before now
-    tally_before tally_now
+    → AreRead told (named words) (Some file.Programmes) tables_said tables_read (Err stop) before
+    now tally_before tally_now
+    → AreRead told (named words) (Some file.Programmes) audited_said audited_read (Err stop) before
+    now tally_before tally_now
 three-stop told words stop before now tally_before tally_now three =
     let reads = three.reads in record {
       reads = reads;
@@ -95,26 +94,26 @@ three-stop told words stop before now tally_before tally_now three =
           said))
           three.meets;
       taken = λ decided.
-          let said = decided-said is_free (tables_said reads) stop decided three.meets in
+          let said = decided-said is_free_stop (tables_said reads) stop decided three.meets in
           subst (λ v. AreTaken v tally_before tally_now)
           (sym (ap (λ v. tables_read reads ++ placement_read v (reads file.Placement)) said
           ∙ append-nil (tables_read reads))) (three.taken decided);
       once = up-to-first (tables_read reads) _ tally_before tally_now three.once;
       begun = λ never. three.begun (λ e. never (ap (λ v. Err v) (cc e)));
-      causes = causes-same File stop before now tally_before tally_now three.causes;
+      causes = causes-same stop before now tally_before tally_now three.causes;
     }
 
 module _ (told : Option Files) (words : List (List ℕ)) (tables : Tables)
     (first before now tally_first tally_before tally_now : ℕ)
-    (three : IsReading told words (Some file.Programmes) tables_said tables_read (Ok tables) first
-    before tally_first tally_before) where
+    (three : AreRead told (named words) (Some file.Programmes) tables_said tables_read (Ok tables)
+    first before tally_first tally_before) where
   -- behind the three files, what the placement file comes to is what all four come to
-  behind-three : (result : Result Audited Stop)
-      → AreRead told (named words) is_free File (Some file.Placement)
+  behind-three : (result : Result Audited (Stop WordsFault))
+      → AreRead told (named words) (Some file.Placement)
       (λ reads. placement_from tables (reads file.Placement))
       (λ reads. placement_behind tables (reads file.Placement)) result before now tally_before
       tally_now
-      → IsReading told words (Some file.Programmes) audited_said audited_read result first now
+      → AreRead told (named words) (Some file.Programmes) audited_said audited_read result first now
       tally_first tally_now
   behind-three result last =
       let bytes = last.reads file.Placement in
@@ -136,7 +135,7 @@ module _ (told : Option Files) (words : List (List ℕ)) (tables : Tables)
       record {
         reads = all;
         held = held-with told (named words) file.Placement bytes three.reads three.held;
-        meets = subst (λ v. Meets is_free v result)
+        meets = subst (λ v. Meets is_free_stop v result)
             (sym (ap (λ v. behind_tables v (λ t. placement_from t (all file.Placement))) said
             ∙ ap (placement_from tables) same)) last.meets;
         taken = λ decided. subst (λ v. AreTaken v tally_first tally_now) (sym files)
@@ -148,7 +147,7 @@ module _ (told : Option Files) (words : List (List ℕ)) (tables : Tables)
         begun = λ unread. begun-later (all file.Programmes) tally_first tally_before tally_now
             last.causes.tally (subst (λ v. HasBegun v tally_first tally_before) (sym first_same)
             (three.begun (λ e. cc e)));
-        causes = causes-later File result first before now tally_first tally_before tally_now
+        causes = causes-later result first before now tally_first tally_before tally_now
             three.causes.faults three.causes.tally last.causes;
       }
 
@@ -156,11 +155,11 @@ module _ (told : Option Files) (words : List (List ℕ)) (tables : Tables)
   pub placement-stops : (stop : FileStop)
       → IsJudged told (named words file.Placement) (held_beside tables) (Err stop) before now
       tally_before tally_now
-      → IsReading told words (Some file.Programmes) audited_said audited_read (Err (File stop))
-      first now tally_first tally_now
+      → AreRead told (named words) (Some file.Programmes) audited_said audited_read (Err
+      (File stop)) first now tally_first tally_now
   placement-stops stop last =
       behind-three (Err (File stop))
-      (file-stops holds-stops told (named words) file.Placement (held_beside tables)
+      (file-stops told (named words) file.Placement (held_beside tables)
       (λ held reads. Some (Ok (record { tables = tables; held = held }))) (λ held reads. []) stop
       _ _ _ _ last)
 
@@ -168,13 +167,13 @@ module _ (told : Option Files) (words : List (List ℕ)) (tables : Tables)
   pub four-read : (held : List (Option ℕ))
       → IsJudged told (named words file.Placement) (held_beside tables) (Ok held) before now
       tally_before tally_now
-      → IsReading told words (Some file.Programmes) audited_said audited_read
+      → AreRead told (named words) (Some file.Programmes) audited_said audited_read
       (Ok (record { tables = tables; held = held })) first now tally_first tally_now
   four-read held last =
-      let end : Result Audited Stop = Ok (record { tables = tables; held = held }) in
+      let end : Result Audited (Stop WordsFault) = Ok (record { tables = tables; held = held }) in
       behind-three end
-      (file-reads holds-stops told (named words) file.Placement (held_beside tables)
+      (file-reads told (named words) file.Placement (held_beside tables)
       (λ given reads. Some (Ok (record { tables = tables; held = given }))) (λ given reads. []) held
       None end _ _ _ _ _ _ (λ bytes reads. refl) (λ bytes reads. refl) last
-      (none-read holds-stops told (named words) _ end now tally_now (λ reads. refl) (λ e. cc e)
+      (none-read told (named words) _ end now tally_now (λ reads. refl) (λ e. cc e)
       (λ kind e. cc e)))

@@ -9,6 +9,7 @@ use Rattle.market.specs.Problems.{IsValid}
 use Rattle.place_edges.specs.Shelf.{file_limit}
 use Rattle.placement_file.specs.Rows.{placement_fault}
 use Rattle.placement_file.specs.Table.{placement_in}
+use Rattle.command_words.specs.declared.words.WordsFault.{WordsFault}
 use Rattle.programme_table.specs.Rows.{programmes_fault}
 use Rattle.programme_table.specs.Table.{Programmes, codes_of, programmes_table}
 use Rattle.candidate_table.specs.Table.{Candidates, candidates_table, numbers_of}
@@ -31,8 +32,7 @@ use Rattle.place_run.specs.commands.Base.{IsBaseText, base_text, bases_of}
 use Rattle.place_run.specs.commands.Place.{AreThree, IsOfWorstStable, IsWorstStableText, placement_of}
 use Rattle.place_run.specs.commands.Reasons.{IsReasonsText, reasons_of, reasons_text}
 use Rattle.place_run.specs.declared.status.Ending.TheVariants.{Done}
-use Rattle.place_run.specs.declared.status.Stop.{Stop}
-use Rattle.place_run.specs.declared.status.Stop.TheVariants.{File}
+use Rattle.run_frame.specs.declared.stop.Stop.{Stop}
 
 says-programmes : (bytes : List ℕ) (said : Programmes) → programmes_said bytes ≡ Ok said
     → SaysTable (programmes_fault bytes) (programmes_table bytes) said bytes
@@ -71,10 +71,10 @@ are-read : (reads : Reads) (tables : Tables) → tables_said reads ≡ Some (Ok 
     → AreRead reads tables
 unfolding tables_in codes_in numbers_in
 are-read reads tables e =
-    let p = said-from File (reads file.Programmes) programmes_said _ tables e in
-    let c = said-from File (reads file.Candidates) (candidates_said (codes_of p.2.rows)) _ tables
+    let p = said-from (reads file.Programmes) programmes_said _ tables e in
+    let c = said-from (reads file.Candidates) (candidates_said (codes_of p.2.rows)) _ tables
     p.4 in
-    let r = said-from File (reads file.Ranks) (ranks_said p.2.names (numbers_of c.2.numbers)) _
+    let r = said-from (reads file.Ranks) (ranks_said p.2.names (numbers_of c.2.numbers)) _
     tables c.4 in
     let one = says-programmes p.0 p.2 p.3 in
     let two = says-candidates (codes_of p.2.rows) c.0 c.2 c.3 in
@@ -209,8 +209,8 @@ ends-well verdict answer is P both = (
 )
 
 -- four files, one behind the others
-behind-said : {T : Type 0} (said : Option (Result Tables Stop))
-    (next : Tables → Option (Result T Stop)) (end : T)
+behind-said : {T : Type 0} (said : Option (Result Tables (Stop WordsFault)))
+    (next : Tables → Option (Result T (Stop WordsFault))) (end : T)
     → behind_tables said next ≡ Some (Ok end)
     → (tables : Tables) × (said ≡ Some (Ok tables)) × (next tables ≡ Some (Ok end))
 behind-said None next end e = cc e
@@ -225,7 +225,7 @@ audit-answer reads audited answer said is =
     let behind = behind-said (tables_said reads) _ audited said in
     let tables = behind.0 in
     let files = are-read reads tables behind.1 in
-    let last = said-from File (reads file.Placement)
+    let last = said-from (reads file.Placement)
     (placement_said (codes_of tables.programmes.rows) (numbers_of tables.candidates.numbers)) _
     audited behind.2 in
     let one = says-placement (codes_of tables.programmes.rows)

@@ -22,7 +22,5 @@ pub mod WrittenTexts
 pub mod QueuedTexts
 -- what a run leaves of a sink
 pub mod Finishing
--- the parts of a line
-pub mod LineTexts
 -- names that are all granted
 pub mod Granting

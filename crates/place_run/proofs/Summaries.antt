@@ -22,11 +22,10 @@ use Rattle.place_run.specs.Makings.{IsSummarised}
 use Rattle.place_run.specs.Placings.{IsOutcomeOf}
 use Rattle.place_run.specs.Runs.{IsAnswering}
 use Rattle.place_run.specs.Says.{named}
-use Rattle.place_run.specs.Stops.{is_free}
+use Rattle.run_frame.specs.Stops.{is_free_stop}
 use Rattle.place_run.specs.commands.Make.{IsSummaryOf, outcome_of, summary_of}
-use Rattle.place_run.specs.declared.status.Stop.{Stop}
-use Rattle.place_run.specs.declared.status.Stop.TheVariants.{File}
-use Rattle.place_run.proofs.Readings.{holds-stops}
+use Rattle.run_frame.specs.declared.stop.Stop.{Stop}
+use Rattle.run_frame.specs.declared.stop.Stop.TheVariants.{File}
 
 -- what the rounds gave is what the mechanism gives
 outcome-is : (m : Problem) (outcome : Outcome) → IsOutcomeOf m outcome → outcome ≡ outcome_of m
@@ -68,21 +67,22 @@ is-summary seed candidates programmes types m outcome text answer made valid siz
     )
 
 -- where memory was refused there is none
-pub no-summary : (seed candidates programmes types : ℕ) (answer : Result Answer Stop)
+pub no-summary : (seed candidates programmes types : ℕ) (answer : Result Answer (Stop WordsFault))
     → IsErrAnd answer (λ stop. stop ≡ File Memory)
     → IsSummarised seed candidates programmes types answer
 no-summary seed candidates programmes types answer is =
     at-error (IsSummarised seed candidates programmes types) answer (File Memory) is refl
 
 -- no file is read for it
-pub no-read-fault : (seed candidates programmes types : ℕ) (answer : Result Answer Stop)
+pub no-read-fault : (seed candidates programmes types : ℕ)
+    (answer : Result Answer (Stop WordsFault))
     → IsSummarised seed candidates programmes types answer → IsErrOf answer (File ReadFault) → ⊥
 no-read-fault seed candidates programmes types (Ok ready) is e = cc e
 no-read-fault seed candidates programmes types (Err stop) same e =
     let found : stop ≡ File ReadFault = cc e in
     let never : File Memory ≡ File ReadFault = sym same ∙ found in cc never
 
-never-long : (seed candidates programmes types : ℕ) (answer : Result Answer Stop)
+never-long : (seed candidates programmes types : ℕ) (answer : Result Answer (Stop WordsFault))
     (fault : FileFault) → IsSummarised seed candidates programmes types answer
     → IsErrOf answer (File (Fault fault)) → ⊥
 never-long seed candidates programmes types (Ok ready) fault is e = cc e
@@ -91,22 +91,22 @@ never-long seed candidates programmes types (Err stop) fault same e =
     let never : File Memory ≡ File (Fault fault) = sym same ∙ found in cc never
 
 -- it is what is said, or memory was refused
-meets-summary : (seed candidates programmes types : ℕ) (answer : Result Answer Stop)
+meets-summary : (seed candidates programmes types : ℕ) (answer : Result Answer (Stop WordsFault))
     → IsSummarised seed candidates programmes types answer
-    → Meets is_free (Some (Ok (done (summary_of seed candidates programmes types)))) answer
+    → Meets is_free_stop (Some (Ok (done (summary_of seed candidates programmes types)))) answer
 meets-summary seed candidates programmes types (Ok ready) (same, kept) =
     ap (λ v. Some (Ok v)) (sym same)
 meets-summary seed candidates programmes types (Err stop) same =
-    inl (subst (λ v. IsTrue (is_free v)) (sym same) refl)
+    inl (subst (λ v. IsTrue (is_free_stop v)) (sym same) refl)
 
-keeps-summary : (seed candidates programmes types : ℕ) (answer : Result Answer Stop)
+keeps-summary : (seed candidates programmes types : ℕ) (answer : Result Answer (Stop WordsFault))
     → IsSummarised seed candidates programmes types answer
     → IfOk answer (λ ready. IsSummaryOf seed candidates programmes types ready.text)
 keeps-summary seed candidates programmes types (Ok ready) (same, kept) = kept
 keeps-summary seed candidates programmes types (Err stop) same = tt
 
 pub summarised : (told : Option Files) (words : List (List ℕ)) (command : Result Command WordsFault)
-    (seed candidates programmes types workers : ℕ) (answer : Result Answer Stop)
+    (seed candidates programmes types workers : ℕ) (answer : Result Answer (Stop WordsFault))
     (before tally_before : ℕ) → command ≡ Ok (Make seed candidates programmes types workers)
     → IsSummarised seed candidates programmes types answer
     → IsAnswering told words command answer before before tally_before tally_before
@@ -114,7 +114,7 @@ summarised told words command seed candidates programmes types workers answer be
     accepted is =
     subst (λ v. IsAnswering told words v answer before before tally_before tally_before)
     (sym accepted) (record {
-      reading = none-read holds-stops told (named words) _ answer before tally_before
+      reading = none-read told (named words) _ answer before tally_before
           (λ reads. meets-summary seed candidates programmes types answer is)
           (no-read-fault seed candidates programmes types answer is)
           (λ kind. never-long seed candidates programmes types answer (too_long kind) is);

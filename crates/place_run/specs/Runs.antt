@@ -1,23 +1,19 @@
 -- What may be said of a run: the promise of the top call.
 use Rattle.std.specs.Prelude.{◌≡◌, ◌⊎◌, ℕ, List, IfOk, IfSome, IsErrOf, Option, None, Result, Ok}
-use Rattle.place_base.specs.declared.fault.FileKind.{FileKind}
 use Rattle.command_words.specs.Words.{command_of}
 use Rattle.command_words.specs.declared.words.Command.{Command}
 use Rattle.command_words.specs.declared.words.Command.TheVariants.{Place, Base, Reasons, Audit, Make}
 use Rattle.command_words.specs.declared.words.WordsFault.{WordsFault}
 use Rattle.market.specs.Mechanism.{mechanism_placement}
-use Rattle.place_edges.specs.Causes.{Rose}
-use Rattle.place_edges.specs.Shelf.{Files, GaveMore, file_limit}
+use Rattle.place_edges.specs.Shelf.{Files}
 use Rattle.place_edges.specs.Sink.{Appended}
 use Rattle.run_frame.specs.Files.{AreRead, AreReadOnce, Reads}
 use Rattle.run_frame.specs.Runs as frame
-use Rattle.run_frame.specs.Runs.{Endings, IsWhole, WordsCause}
-use Rattle.run_frame.specs.Stops.{too_long}
+use Rattle.run_frame.specs.Runs.{Endings, IsFinished, IsWhole}
 use Rattle.run_frame.specs.declared.stop.FileStop.TheVariants as file
 use Rattle.place_run.specs.Answers.{Answer}
 use Rattle.place_run.specs.Says.{KeepsPromise, files_read, first_file, named, says}
 use Rattle.place_run.specs.Statuses.{ended, status_of}
-use Rattle.place_run.specs.Stops.{is_free}
 use Rattle.place_run.specs.Tables.{HasNoFault, ThreeFiles, codes_in, numbers_in, problem_of, tables_in}
 use Rattle.placement_file.specs.Texts.{placement_text}
 use Rattle.place_run.specs.commands.Audit.{IsAudit}
@@ -28,49 +24,30 @@ use Rattle.place_run.specs.commands.Reasons.{IsReasonsText}
 use Rattle.place_run.specs.declared.status.Ending.{Ending}
 use Rattle.place_run.specs.declared.status.Status.{Status}
 use Rattle.place_run.specs.declared.status.Status.TheVariants as ends
-use Rattle.place_run.specs.declared.status.Stop.{Stop}
-use Rattle.place_run.specs.declared.status.Stop.TheVariants.{File, Words}
-
--- what reading the files that the words name came to
-abbrev pub IsReading : {T : Type 0} → Option Files → List (List ℕ) → Option FileKind
-    → (Reads → Option (Result T Stop)) → (Reads → List (List ℕ)) → Result T Stop
-    → ℕ → ℕ → ℕ → ℕ → Type 0
-IsReading told words first said files result before now tally_before tally_now =
-    AreRead told (named words) is_free File first said files result before now tally_before
-    tally_now
+use Rattle.run_frame.specs.declared.stop.Stop.{Stop}
+use Rattle.run_frame.specs.declared.stop.Stop.TheVariants.{File}
 
 -- the text of an answer, and the status of each end
-abbrev pub endings : Endings Answer Stop Status
+abbrev pub endings : Endings Answer WordsFault Status
 endings = record {
   text = λ answer. answer.text;
   done = λ answer. ended answer.ending;
   stopped = status_of;
   write_fault = ends.WriteFault;
-  memory = ends.Memory;
 }
-
--- an answer was written, or the sink is as it was where there is none
-abbrev pub IsFinished : {K : Type 0} → (K → Option (List ℕ)) → (K → ℕ)
-    → Result Answer Stop → Status → K → K → Type 0
-IsFinished written faults answer status old new =
-    frame.IsFinished endings written faults answer status old new
 
 -- The answer to a command meets what is said over the bytes that were read, and keeps the command's
 -- promise.
 pub record IsAnswering (told : Option Files) (words : List (List ℕ))
-    (command : Result Command WordsFault) (answer : Result Answer Stop)
+    (command : Result Command WordsFault) (answer : Result Answer (Stop WordsFault))
     (before now tally_before tally_now : ℕ) : Type 0 where
-  pub reading : IsReading told words (first_file command) (says command) (files_read command)
+  pub reading : AreRead told (named words) (first_file command) (says command) (files_read command)
       answer before now tally_before tally_now
   pub promise : IfOk answer (KeepsPromise command reading.reads)
 
--- the words were refused
-abbrev pub IsWordsStop : {T : Type 0} → Result T Stop → Type 0
-IsWordsStop result = (refused : WordsFault) × IsErrOf result (Words refused)
-
 -- where the words ask for no file the shelf is as it was, and there is no read fault
-abbrev pub ReadsNothing : {H T : Type 0} → Result Command WordsFault → Result T Stop → H → H
-    → Type 0
+abbrev pub ReadsNothing : {H T : Type 0} → Result Command WordsFault → Result T (Stop WordsFault)
+    → H → H → Type 0
 ReadsNothing command result old new =
     first_file command ≡ None → (new ≡ old) × (IsErrOf result (File file.ReadFault) → ⊥)
 
@@ -78,9 +55,9 @@ ReadsNothing command result old new =
 pub record IsAnsweredRun {K : Type 0} (written : K → Option (List ℕ)) (faults : K → ℕ)
     (told : Option Files) (words : List (List ℕ)) (status : Status) (old new : K)
     (before now tally_before tally_now : ℕ) : Type 0 where
-  pub answer : Result Answer Stop
+  pub answer : Result Answer (Stop WordsFault)
   pub answers : IsAnswering told words (command_of words) answer before now tally_before tally_now
-  pub finished : frame.IsFinished endings written faults answer status old new
+  pub finished : IsFinished endings written faults answer status old new
 
 -- these bytes were read: they are those held, if that is told, and each file of the command was
 -- read once
@@ -170,15 +147,12 @@ abbrev pub RunsWithoutFile : {H : Type 0} → Result Command WordsFault → Stat
 RunsWithoutFile command status old new =
     first_file command ≡ None → (new ≡ old) × (status ≡ ends.ReadFault → ⊥)
 
--- Each refusal has its cause: words by the grammar, a read fault and a write fault by the counts, a
--- file that is too long by the tally. Only an audit says that a placement is not stable.
+-- Each refusal has its cause: words by the grammar, and the others by the counts. Only an audit
+-- says that a placement is not stable.
 pub record HasCause (command : Result Command WordsFault) (status : Status)
     (before now tally_before tally_now out_before out_now : ℕ) : Type 0 where
-  pub words : WordsCause ends.Words command status
-  pub read : status ≡ ends.ReadFault → Rose before now
-  pub long : (kind : FileKind) → status ≡ ends.FileFault (too_long kind)
-      → GaveMore tally_before tally_now file_limit
-  pub write : status ≡ ends.WriteFault → Rose out_before out_now
+  pub refusal : frame.HasCause endings command status before now tally_before tally_now out_before
+      out_now
   pub unstable : status ≡ ends.AuditNo → (workers : ℕ) × (command ≡ Ok (Audit workers))
 
 -- after a refusal the sink is as it was

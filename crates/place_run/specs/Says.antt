@@ -19,8 +19,8 @@ use Rattle.place_run.specs.commands.Base.{IsBaseText, bases_of}
 use Rattle.place_run.specs.commands.Make.{IsSummaryOf, summary_of}
 use Rattle.place_run.specs.commands.Place.{IsWorstStableText, placement_of}
 use Rattle.place_run.specs.commands.Reasons.{IsReasonsText, reasons_of}
-use Rattle.place_run.specs.declared.status.Stop.{Stop}
-use Rattle.place_run.specs.declared.status.Stop.TheVariants.{Words, File}
+use Rattle.run_frame.specs.declared.stop.Stop.{Stop}
+use Rattle.run_frame.specs.declared.stop.Stop.TheVariants.{Words}
 
 -- the word at an index, from 0
 abbrev pub word_at : List (List ℕ) → ℕ → List ℕ
@@ -35,11 +35,11 @@ named words Placement = word_at words 4
 named words Registrations = word_at words 5
 
 -- what three files say: their tables, or the first fault
-abbrev pub tables_said : Reads → Option (Result Tables Stop)
+abbrev pub tables_said : Reads → Option (Result Tables (Stop WordsFault))
 tables_said reads =
-    opened File (reads Programmes) programmes_said (λ programmes.
-    opened File (reads Candidates) (candidates_said (codes_of programmes.rows)) (λ candidates.
-    opened File (reads Ranks) (ranks_said programmes.names (numbers_of candidates.numbers))
+    opened (reads Programmes) programmes_said (λ programmes.
+    opened (reads Candidates) (candidates_said (codes_of programmes.rows)) (λ candidates.
+    opened (reads Ranks) (ranks_said programmes.names (numbers_of candidates.numbers))
     (λ ranks.
     Some (Ok (record { programmes = programmes; candidates = candidates; ranks = ranks })))))
 
@@ -52,22 +52,23 @@ tables_read reads =
     [])))
 
 -- go on with what three files say
-abbrev pub behind_tables : {T : Type 0} → Option (Result Tables Stop)
-    → (Tables → Option (Result T Stop)) → Option (Result T Stop)
+abbrev pub behind_tables : {T : Type 0} → Option (Result Tables (Stop WordsFault))
+    → (Tables → Option (Result T (Stop WordsFault))) → Option (Result T (Stop WordsFault))
 behind_tables None next = None
 behind_tables (Some (Err stop)) next = Some (Err stop)
 behind_tables (Some (Ok tables)) next = next tables
 
 -- what a placement file says behind three files
-abbrev pub audited_said : Reads → Option (Result Audited Stop)
+abbrev pub audited_said : Reads → Option (Result Audited (Stop WordsFault))
 audited_said reads =
     behind_tables (tables_said reads) (λ tables.
-    opened File (reads Placement) (placement_said (codes_of tables.programmes.rows)
+    opened (reads Placement) (placement_said (codes_of tables.programmes.rows)
     (numbers_of tables.candidates.numbers)) (λ held.
     Some (Ok (record { tables = tables; held = held }))))
 
 -- the placement file is read where the three files say their tables
-abbrev pub placement_read : Option (Result Tables Stop) → Option (List ℕ) → List (List ℕ)
+abbrev pub placement_read : Option (Result Tables (Stop WordsFault)) → Option (List ℕ)
+    → List (List ℕ)
 placement_read None bytes = []
 placement_read (Some (Err stop)) bytes = []
 placement_read (Some (Ok tables)) bytes =
@@ -80,7 +81,7 @@ audited_read reads = tables_read reads ++ placement_read (tables_said reads) (re
 
 -- what the words come to over the bytes of the files, none where a file is missed before anything
 -- is refused
-abbrev pub says : Result Command WordsFault → Reads → Option (Result Answer Stop)
+abbrev pub says : Result Command WordsFault → Reads → Option (Result Answer (Stop WordsFault))
 says (Err refused) reads = Some (Err (Words refused))
 says (Ok (Place workers)) reads =
     answered (λ tables. done (placement_of tables)) (tables_said reads)

@@ -1,15 +1,15 @@
 -- The number of each status, and its line on the notes.
-use Rattle.std.specs.Prelude.{ℕ, List, [], ◌∷◌, codes, decimal}
+use Rattle.std.specs.Prelude.{ℕ, List, [], codes}
 use Rattle.command_words.specs.declared.words.WordsFault.{WordsFault}
 use Rattle.command_words.specs.declared.words.WordsFault.TheVariants.{NoCommand, UnknownCommand, WordCount, BadNumber}
-use Rattle.run_frame.specs.Lines.{fault_line, line_text}
+use Rattle.run_frame.specs.Lines.{fault_line, words_line}
 use Rattle.run_frame.specs.declared.stop.FileStop.TheVariants as file
+use Rattle.run_frame.specs.declared.stop.Stop.{Stop}
+use Rattle.run_frame.specs.declared.stop.Stop.TheVariants as stop
 use Rattle.place_run.specs.declared.status.Ending.{Ending}
 use Rattle.place_run.specs.declared.status.Ending.TheVariants as ending
 use Rattle.place_run.specs.declared.status.Status.{Status}
 use Rattle.place_run.specs.declared.status.Status.TheVariants.{Done, Words, FileFault, ReadFault, WriteFault, Memory, AuditNo}
-use Rattle.place_run.specs.declared.status.Stop.{Stop}
-use Rattle.place_run.specs.declared.status.Stop.TheVariants as stop
 
 -- the number of a status
 abbrev pub code_of : Status → ℕ
@@ -27,7 +27,7 @@ ended ending.Done = Done
 ended ending.AuditNo = AuditNo
 
 -- the status where there is no answer
-abbrev pub status_of : Stop → Status
+abbrev pub status_of : Stop WordsFault → Status
 status_of (stop.Words refused) = Words refused
 status_of (stop.File (file.Fault found)) = FileFault found
 status_of (stop.File file.ReadFault) = ReadFault
@@ -47,15 +47,10 @@ refusal_place (UnknownCommand place) = place
 refusal_place (WordCount place) = place
 refusal_place (BadNumber place) = place
 
--- the line of a refusal of words
-unfoldable pub words_line : WordsFault → List ℕ
-words_line refused =
-    line_text (codes "words" ∷ refusal_name refused ∷ decimal (refusal_place refused) ∷ [])
-
 -- the line of a status
 abbrev pub status_line : Status → List ℕ
 status_line Done = []
-status_line (Words refused) = words_line refused
+status_line (Words refused) = words_line (refusal_name refused) (refusal_place refused)
 status_line (FileFault found) = fault_line found
 status_line ReadFault = codes "read fault\n"
 status_line WriteFault = codes "write fault\n"

@@ -2,9 +2,10 @@
 ghost use Rattle.std.specs.Prelude.{◌≡◌, Err, IsErrOf};
 ghost use Rattle.command_words.specs.declared.words.WordsFault.{WordsFault};
 ghost use Rattle.command_words.specs.Words.{command_of, texts};
-ghost use Rattle.place_run.specs.Runs.{IsAnswering, IsWordsStop, ReadsNothing};
+ghost use Rattle.run_frame.specs.Stops.{IsWordsStop};
+ghost use Rattle.run_frame.specs.declared.stop.Stop.TheVariants.{Words};
+ghost use Rattle.place_run.specs.Runs.{IsAnswering, ReadsNothing};
 ghost use Rattle.place_run.specs.Says.{MayOpen};
-ghost use Rattle.place_run.specs.declared.status.Stop.TheVariants.{Words};
 
 // The audit of a placement file beside three files.
 mod audit;

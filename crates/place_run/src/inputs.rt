@@ -9,9 +9,8 @@ ghost use Rattle.place_edges.specs.Shelf.{file_limit};
 ghost use Rattle.placement_file.specs.Rows.{placement_fault};
 ghost use Rattle.placement_file.specs.Table.{placement_in};
 ghost use Rattle.record_files.specs.ReadTo.{IsTableRead};
-ghost use Rattle.run_frame.specs.Files.{IsJudged};
-ghost use Rattle.place_run.specs.Runs.{IsReading};
-ghost use Rattle.place_run.specs.Says.{MayOpenTables, tables_read, tables_said, word_at};
+ghost use Rattle.run_frame.specs.Files.{AreRead, IsJudged};
+ghost use Rattle.place_run.specs.Says.{MayOpenTables, named, tables_read, tables_said, word_at};
 ghost use Rattle.place_run.specs.Tables.{programmes_said, candidates_said, placement_said, ranks_said};
 
 use crate::status::Stop;
@@ -77,8 +76,8 @@ impl Inputs {
         requires words { 4 ≤ length words.now }
         requires granted { MayOpenTables (H.files shelf.old) (H.grants shelf.old) (texts words.now) }
         requires pieces { (1 ≤ pieces) × (pieces ≤ 64) }
-        ensures reading { IsReading (H.files shelf.old) (texts words.now) (Some file.Programmes)
-            tables_said tables_read result
+        ensures reading { AreRead (H.files shelf.old) (named (texts words.now))
+            (Some file.Programmes) tables_said tables_read result
             (H.faults shelf.old) (H.faults shelf.new) (H.tally shelf.old) (H.tally shelf.new) }
         ensures files { H.files shelf.new ≡ H.files shelf.old }
         ensures grants { H.grants shelf.new ≡ H.grants shelf.old }

@@ -3,13 +3,12 @@ ghost use Rattle.std.specs.Prelude.{◌≡◌};
 ghost use Rattle.place_edges.specs.Sink.{IsWritten};
 ghost use Rattle.run_frame.specs.Lines.{IsNoted};
 ghost use Rattle.place_run.specs.Runs.{HasNoLine};
-ghost use Rattle.place_run.specs.Statuses.{status_line, words_line, refusal_name as name_of, refusal_place as place_of};
+ghost use Rattle.place_run.specs.Statuses.{status_line, refusal_name as name_of, refusal_place as place_of};
 
 use crate::Status;
 use command_words::WordsFault;
 use place_edges::{Failed, Sink, write_whole};
-use record_files::Field;
-use run_frame::{FileStop, write_fault, write_parts, write_stop};
+use run_frame::{FileStop, write_fault, write_stop, write_words};
 
 // Writes the line of a status, as far as the sink takes it.
 pub(crate) fn note<N: Sink>(notes: &mut N, status: Status)
@@ -28,29 +27,14 @@ fn write_line<N: Sink>(notes: &mut N, status: Status) -> Result<(), Failed>
 {
     match status {
         Status::Done | Status::AuditNo => Ok(()),
-        Status::Words(refused) => write_refusal(notes, refused),
+        Status::Words(refused) => {
+            write_words(notes, refusal_name(refused), refusal_place(refused))
+        }
         Status::FileFault(fault) => write_fault(notes, fault),
         Status::ReadFault => write_stop(notes, FileStop::ReadFault),
         Status::WriteFault => write_whole(notes, b"write fault\n"),
         Status::Memory => write_stop(notes, FileStop::Memory),
     }
-}
-
-// Writes why the words are no command.
-fn write_refusal<N: Sink>(notes: &mut N, refused: WordsFault) -> Result<(), Failed>
-    ensures { IsWritten (words_line refused) result
-        (N.written notes.old) (N.written notes.new) (N.faults notes.old) (N.faults notes.new) }
-{
-    write_parts(
-        notes,
-        &[
-            Field::Text(b"words "),
-            Field::Text(refusal_name(refused).as_bytes()),
-            Field::Text(b" "),
-            Field::Number(u64::from(refusal_place(refused))),
-            Field::Text(b"\n"),
-        ],
-    )
 }
 
 // The name of a refusal in its line.

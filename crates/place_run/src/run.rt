@@ -3,8 +3,8 @@ ghost use Rattle.std.specs.Prelude.{◌≡◌, ◌≤◌};
 ghost use Rattle.command_words.specs.Words.{command_of, texts};
 ghost use Rattle.place_edges.specs.Causes.{Rose};
 ghost use Rattle.run_frame.specs.Lines.{IsNoted};
-ghost use Rattle.run_frame.specs.Runs.{IsConstant};
-ghost use Rattle.place_run.specs.Runs.{HasCause, IsComplete, IsFinished, IsAnsweredRun, IsWordsRefusal, LeavesSink, HasNoLine, PrintsReports, PrintsSummary, PrintsVerdict, PrintsWorstStable, RunsWithoutFile};
+ghost use Rattle.run_frame.specs.Runs.{IsConstant, IsFinished};
+ghost use Rattle.place_run.specs.Runs.{HasCause, IsComplete, IsAnsweredRun, IsWordsRefusal, LeavesSink, HasNoLine, PrintsReports, PrintsSummary, PrintsVerdict, PrintsWorstStable, RunsWithoutFile, endings};
 ghost use Rattle.place_run.specs.Says.{MayOpen};
 ghost use Rattle.place_run.specs.Statuses.{status_line};
 
@@ -110,12 +110,12 @@ pub fn run_words<R: Threads + Sync, H: Shelf, K: Sink, N: Sink, G: Gate>(
 
 // Writes the text, if there is one.
 fn finish<K: Sink>(answer: Result<Answer, Stop>, out: &mut K) -> Status
-    ensures finished { IsFinished K.written K.faults answer result out.old out.new }
+    ensures finished { IsFinished endings K.written K.faults answer result out.old out.new }
     ensures later { K.faults out.old ≤ K.faults out.new }
 {
     let answer = match answer {
         Ok(answer) => answer,
-        Err(stop) => return stop.status(),
+        Err(stop) => return Status::of_stop(stop),
     };
     match answer.write(out) {
         Ok(()) => answer.ending().status(),

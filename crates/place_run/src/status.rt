@@ -5,7 +5,6 @@ ghost use Rattle.place_run.specs.Statuses.{code_of, ended, status_of};
 use command_words::WordsFault;
 use place_base::FileFault;
 use run_frame::FileStop;
-use std::alloc::AllocError;
 
 /// How a run ended.
 #[derive(Clone, Copy, Debug, PartialEq, Eq)]
@@ -41,6 +40,18 @@ impl Status {
             Status::AuditNo => 7,
         }
     }
+
+    // The status where there is no text.
+    pub(crate) fn of_stop(stop: Stop) -> Status
+        ensures { result ≡ status_of stop }
+    {
+        match stop {
+            Stop::Words(refused) => Status::Words(refused),
+            Stop::File(FileStop::Fault(fault)) => Status::FileFault(fault),
+            Stop::File(FileStop::ReadFault) => Status::ReadFault,
+            Stop::File(FileStop::Memory) => Status::Memory,
+        }
+    }
 }
 
 // How a run ends whose text is written whole.
@@ -63,42 +74,4 @@ impl Ending {
 }
 
 // Why there is no text.
-#[derive(Clone, Copy)]
-pub(crate) enum Stop {
-    Words(WordsFault),
-    File(FileStop),
-}
-
-impl Stop {
-    pub(crate) fn status(self) -> Status
-        ensures { result ≡ status_of self }
-    {
-        match self {
-            Stop::Words(refused) => Status::Words(refused),
-            Stop::File(FileStop::Fault(fault)) => Status::FileFault(fault),
-            Stop::File(FileStop::ReadFault) => Status::ReadFault,
-            Stop::File(FileStop::Memory) => Status::Memory,
-        }
-    }
-}
-
-impl From<FileStop> for Stop {
-    ghost use Rattle.place_run.specs.declared.status.Stop.TheVariants.{File};
-
-    ghost from_gives = { λ unread stop. stop ≡ File unread };
-
-    fn from(unread: FileStop) -> Stop {
-        Stop::File(unread)
-    }
-}
-
-impl From<AllocError> for Stop {
-    ghost use Rattle.run_frame.specs.declared.stop.FileStop.TheVariants.{Memory};
-    ghost use Rattle.place_run.specs.declared.status.Stop.TheVariants.{File};
-
-    ghost from_gives = { λ _ stop. stop ≡ File Memory };
-
-    fn from(_: AllocError) -> Stop {
-        Stop::File(FileStop::Memory)
-    }
-}
+pub(crate) type Stop = run_frame::Stop<WordsFault>;

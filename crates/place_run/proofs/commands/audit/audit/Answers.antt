@@ -4,11 +4,10 @@ use Rattle.run_frame.specs.declared.stop.FileStop.TheVariants.{Memory}
 use Rattle.run_frame.proofs.Answering.{answer-made, answer-refused, answer-stopped}
 use Rattle.run_frame.proofs.Readings.{granted-as, judged-as}
 use Rattle.place_run.specs.commands.Audit.{IsAudit, audit_of}
-use Rattle.place_run.specs.declared.status.Stop.TheVariants.{File}
+use Rattle.run_frame.specs.declared.stop.Stop.TheVariants.{File}
 use Rattle.place_run.proofs.Answering.{answer-error}
 use Rattle.place_run.proofs.FourFiles.{four-read, held_beside, may-open-placement, placement-stops, three-stop}
 use Rattle.place_run.proofs.Headline.{audit-answer}
-use Rattle.place_run.proofs.Readings.{holds-stops}
 use Rattle.place_run.proofs.commands.audit.audit.Goals as goal
 
 pub read_placement-requires : goal.read_placement-requires
@@ -45,7 +44,7 @@ returns-in_err-answer-clause-answers g c =
     let placement = c.in_ok-placement.placement in
     let last = judged-as _ _ _ _ (held_beside inputs) (Ok placement) _ _ _ _
     c.in_ok-inputs.ensures.files c.word.ensures c.in_ok-placement.ensures.judged in
-    let reading = answer-refused holds-stops audit_of (four-read _ (texts c.args.words.now) inputs
+    let reading = answer-refused audit_of (four-read _ (texts c.args.words.now) inputs
     _ _ _ _ _ _ c.in_ok-inputs.ensures.reading placement last) in
     answer-error _ (texts c.args.words.now) _ c.from_residual-in_err-answer.result (File Memory)
     _ _ _ _ c.from_residual-in_err-answer.ensures.1 (record { reading = reading; promise = tt })

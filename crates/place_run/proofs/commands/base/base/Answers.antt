@@ -6,10 +6,9 @@ use Rattle.run_frame.proofs.Answering.{answer-made, answer-refused}
 use Rattle.place_run.specs.Answers.{Answer, done}
 use Rattle.place_run.specs.Runs.{IsAnswering}
 use Rattle.place_run.specs.commands.Base.{IsBaseText, bases_of}
-use Rattle.place_run.specs.declared.status.Stop.TheVariants.{File}
+use Rattle.run_frame.specs.declared.stop.Stop.TheVariants.{File}
 use Rattle.place_run.proofs.Answering.{answer-error}
 use Rattle.place_run.proofs.Headline.{bases-text}
-use Rattle.place_run.proofs.Readings.{holds-stops}
 use Rattle.place_run.proofs.Markets.{named-placement, bases-made}
 use Rattle.place_run.proofs.commands.base.base.Goals as goal
 
@@ -34,7 +33,7 @@ returns-clause-answers g c =
 
 pub returns-in_err-text-clause-answers : goal.returns-in_err-text-clause-answers
 returns-in_err-text-clause-answers g c =
-    let reading = answer-refused holds-stops (λ tables. done (bases_of tables))
+    let reading = answer-refused (λ tables. done (bases_of tables))
     c.in_ok-inputs.ensures.reading in
     answer-error _ (texts c.args.words.now) _ c.from_residual-in_err-text.result (File Memory)
     _ _ _ _ c.from_residual-in_err-text.ensures.1 (record { reading = reading; promise = tt })

@@ -6,10 +6,9 @@ use Rattle.run_frame.proofs.Answering.{answer-made, answer-refused}
 use Rattle.place_run.specs.Answers.{Answer, done}
 use Rattle.place_run.specs.Runs.{IsAnswering}
 use Rattle.place_run.specs.commands.Reasons.{IsReasonsText, reasons_of}
-use Rattle.place_run.specs.declared.status.Stop.TheVariants.{File}
+use Rattle.run_frame.specs.declared.stop.Stop.TheVariants.{File}
 use Rattle.place_run.proofs.Answering.{answer-error}
 use Rattle.place_run.proofs.Headline.{reasons-text}
-use Rattle.place_run.proofs.Readings.{holds-stops}
 use Rattle.place_run.proofs.Markets.{filled-in, named-placement, reasons-made}
 use Rattle.place_run.proofs.commands.reasons.reasons.Goals as goal
 
@@ -40,7 +39,7 @@ returns-clause-answers g c =
 
 pub returns-in_err-bases-clause-answers : goal.returns-in_err-bases-clause-answers
 returns-in_err-bases-clause-answers g c =
-    let reading = answer-refused holds-stops (λ tables. done (reasons_of tables))
+    let reading = answer-refused (λ tables. done (reasons_of tables))
     c.in_ok-inputs.ensures.reading in
     answer-error _ (texts c.args.words.now) _ c.from_residual-in_err-bases.result (File Memory)
     _ _ _ _ c.from_residual-in_err-bases.ensures.1 (record { reading = reading; promise = tt })
