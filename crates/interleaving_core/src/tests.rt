@@ -54,12 +54,24 @@ fn play(
     }
 }
 
+// Makes these events of two workers over the two turns. What stands then: the cells of both turns,
+// how many turns are committed, and the seat counts of both programmes.
+fn two_turns_after(
+    rt: &impl Abort,
+    alloc: Global,
+    script: &[(u32, CoreEvent, Option<Told>)],
+) -> Result<((Cell, Cell), u32, (u32, u32)), AllocError> {
+    let mut state = CoreState::open(alloc, two_turns(alloc)?, 2)?;
+    play(rt, &mut state, 2, script);
+    let cells = (state.cell(0), state.cell(1));
+    let seats = (state.seats(0), state.seats(1));
+    Ok((cells, state.committed(), seats))
+}
+
 // Both workers read before either posts, and the second turn is posted first. The holder commits in
 // the order of turns, and weighs each list anew: the second turn's posted place is taken by then.
 #[test]
 fn a_turn_posted_too_early_is_weighed_again(rt: HostRuntime) -> Result<(), Fail> {
-    let alloc = rt.alloc();
-    let mut state = CoreState::open(alloc, two_turns(alloc)?, 2)?;
     let script = [
         (0, Claim, Some(Told::Claimed(0))),
         (1, Claim, Some(Told::Claimed(1))),
@@ -83,19 +95,15 @@ fn a_turn_posted_too_early_is_weighed_again(rt: HostRuntime) -> Result<(), Fail>
         (0, Seal, Some(Told::Sealed(1))),
         (0, Release, Some(Told::Released(2))),
     ];
-    play(&rt, &mut state, 2, &script);
-    assert_eq!(rt; state.cell(0), Cell::Committed(0));
-    assert_eq!(rt; state.cell(1), Cell::Committed(1));
-    assert_eq!(rt; state.committed(), 2);
-    assert_eq!(rt; (state.seats(0), state.seats(1)), (1, 1));
+    let stands = two_turns_after(&rt, rt.alloc(), &script)?;
+    let cells = (Cell::Committed(0), Cell::Committed(1));
+    assert_eq!(rt; stands, (cells, 2, (1, 1)));
     Ok(())
 }
 
 // The second turn is posted while the first is still claimed: nothing can be committed yet.
 #[test]
 fn a_later_turn_waits_for_the_earlier_one(rt: HostRuntime) -> Result<(), Fail> {
-    let alloc = rt.alloc();
-    let mut state = CoreState::open(alloc, two_turns(alloc)?, 2)?;
     let script = [
         (0, Claim, Some(Told::Claimed(0))),
         (1, Claim, Some(Told::Claimed(1))),
@@ -106,26 +114,17 @@ fn a_later_turn_waits_for_the_earlier_one(rt: HostRuntime) -> Result<(), Fail> {
         (1, Look, Some(Told::Nothing)),
         (1, Release, Some(Told::Released(0))),
     ];
-    play(&rt, &mut state, 2, &script);
-    assert_eq!(rt; state.cell(0), Cell::Empty);
-    assert_eq!(rt; state.cell(1), Cell::Posted(0));
-    assert_eq!(rt; state.committed(), 0);
+    let stands = two_turns_after(&rt, rt.alloc(), &script)?;
+    assert_eq!(rt; stands, ((Cell::Empty, Cell::Posted(0)), 0, (0, 0)));
     Ok(())
 }
 
 // At the opening nothing can be read, looked at or committed.
 #[test]
 fn nothing_is_allowed_out_of_turn(rt: HostRuntime) -> Result<(), Fail> {
-    let alloc = rt.alloc();
-    let mut state = CoreState::open(alloc, two_turns(alloc)?, 2)?;
-    play(
-        &rt,
-        &mut state,
-        2,
-        &[(1, Seal, None), (0, Look, None), (0, Read, None)],
-    );
-    assert_eq!(rt; (state.cell(0), state.cell(1)), (Cell::Empty, Cell::Empty));
-    assert_eq!(rt; state.committed(), 0);
+    let script = [(1, Seal, None), (0, Look, None), (0, Read, None)];
+    let stands = two_turns_after(&rt, rt.alloc(), &script)?;
+    assert_eq!(rt; stands, ((Cell::Empty, Cell::Empty), 0, (0, 0)));
     Ok(())
 }
 
@@ -205,16 +204,28 @@ fn check_choices(rt: &impl Abort, state: &CoreState, choices: &[u32])
     }
 }
 
+// Plays this dictatorship by chance, and compares the choices that are committed then.
+fn check_by_chance(
+    rt: &impl Abort,
+    alloc: Global,
+    dict: Dict,
+    seed: u32,
+    choices: &[u32],
+) -> Result<(), AllocError>
+    requires { length dict.lists ≡ length choices.now }
+{
+    let state = play_by_chance(alloc, dict, seed)?;
+    check_choices(rt, &state, choices);
+    Ok(())
+}
+
 #[test]
 fn many_orders_of_events_commit_the_same_choices(rt: HostRuntime) -> Result<(), Fail> {
     let alloc = rt.alloc();
     for seed in 0..400 {
-        let state = play_by_chance(alloc, two_turns(alloc)?, seed)?;
-        check_choices(&rt, &state, &[0, 1]);
-        let state = play_by_chance(alloc, crowd(alloc)?, seed)?;
-        check_choices(&rt, &state, &[0, 1, 2]);
-        let state = play_by_chance(alloc, empty_places(alloc)?, seed)?;
-        check_choices(&rt, &state, &[1, 0, 2]);
+        check_by_chance(&rt, alloc, two_turns(alloc)?, seed, &[0, 1])?;
+        check_by_chance(&rt, alloc, crowd(alloc)?, seed, &[0, 1, 2])?;
+        check_by_chance(&rt, alloc, empty_places(alloc)?, seed, &[1, 0, 2])?;
     }
     Ok(())
 }

@@ -1,60 +1,86 @@
 // What the edges do at each call, in tables.
 
+ghost use Rattle.std.specs.Prelude.{IsTrue};
+
 use crate::real::take_from;
 use crate::{
     Failed, MemShelf, MemSink, ReadStop, RealShelf, RealSink, RepeatShelf, Shelf, Sink, SureShelf,
     SureSink, read_whole, write_whole,
 };
-use std::alloc::Global;
+use std::alloc::{AllocError, Global};
 use std::fs;
 use std::io::{self, ErrorKind, Read, Write};
+use std::process::Abort;
 use std::test::Fail;
 
-fn text(alloc: Global, text: &str) -> Result<String, Fail> {
-    Ok(String::from_str(alloc, text)?)
+// A shelf in memory that holds the bytes under the name.
+fn shelf_with(alloc: Global, name: &str, bytes: &[u8]) -> Result<MemShelf, AllocError> {
+    let mut shelf = MemShelf::new(alloc);
+    shelf.add(String::from_str(alloc, name)?, bytes.to_vec(alloc)?)?;
+    Ok(shelf)
 }
 
-#[test]
-fn a_shelf_fails_where_it_is_told_to(rt: HostRuntime) -> Result<(), Fail> {
-    let alloc = rt.alloc();
-    let mut shelf = MemShelf::new(alloc);
-    shelf.add(text(alloc, "a")?, b"12345".to_vec(alloc)?)?;
-    shelf.fail_at(3)?;
-    let mut into = [0u8; 4];
+// Whether the named file is read whole as these bytes.
+fn is_read_as<H: Shelf>(
+    alloc: Global,
+    shelf: &mut H,
+    name: &str,
+    bytes: &[u8],
+) -> Result<bool, Fail>
+    requires { IsTrue (H.grants shelf.old name.now) }
+{
+    let read = read_whole(alloc, shelf, name).ok().ok_or("not read")?;
+    Ok(read.as_slice() == bytes)
+}
 
+// How many bytes of the named file are read.
+fn length_read(alloc: Global, shelf: &mut SureShelf, name: &str) -> Result<usize, Fail> {
+    let read = read_whole(alloc, shelf, name).ok().ok_or("not read")?;
+    Ok(read.len())
+}
+
+// The calls of a shelf of five bytes that fails at its third call.
+fn check_told_failures(rt: &impl Abort, shelf: &mut MemShelf) {
+    let mut into = [0u8; 4];
     assert_eq!(rt; shelf.open("b"), Err(Failed), "a name that is not held");
     assert_eq!(rt; shelf.open("a"), Ok(()));
     assert_eq!(rt; shelf.take(&mut into), Err(Failed), "the third call");
     assert_eq!(rt; shelf.open("a"), Ok(()));
-    assert_eq!(rt; shelf.take(&mut into), Ok(4));
-    assert_eq!(rt; into, *b"1234");
-    assert_eq!(rt; shelf.take(&mut into), Ok(1));
-    assert_eq!(rt; shelf.take(&mut into), Ok(0));
+    assert_eq!(rt; (shelf.take(&mut into), into), (Ok(4), *b"1234"));
+    assert_eq!(rt;
+        (shelf.take(&mut into), shelf.take(&mut into)),
+        (Ok(1), Ok(0))
+    );
     assert_eq!(rt; (shelf.calls(), shelf.faults()), (7, 2));
+}
+
+#[test]
+fn a_shelf_fails_where_it_is_told_to(rt: HostRuntime) -> Result<(), Fail> {
+    let mut shelf = shelf_with(rt.alloc(), "a", b"12345")?;
+    shelf.fail_at(3)?;
+    check_told_failures(&rt, &mut shelf);
+    Ok(())
+}
+
+// Replaces a file once two of its three bytes are taken, and takes what is left of it.
+fn check_replacing(rt: &impl Abort, alloc: Global, shelf: &mut MemShelf) -> Result<(), Fail> {
+    let mut into = [0u8; 2];
+    assert_eq!(rt; (shelf.open("a"), shelf.take(&mut into)), (Ok(()), Ok(2)));
+    shelf.add(String::from_str(alloc, "a")?, b"new".to_vec(alloc)?)?;
+    assert_eq!(rt; (shelf.take(&mut into), into), (Ok(1), *b"dl"));
+    assert!(rt; is_read_as(alloc, shelf, "a", b"new")?);
     Ok(())
 }
 
 #[test]
 fn a_file_that_is_replaced_is_read_to_its_end(rt: HostRuntime) -> Result<(), Fail> {
     let alloc = rt.alloc();
-    let mut shelf = MemShelf::new(alloc);
-    shelf.add(text(alloc, "a")?, b"old".to_vec(alloc)?)?;
-    let mut into = [0u8; 2];
-    assert_eq!(rt; shelf.open("a"), Ok(()));
-    assert_eq!(rt; shelf.take(&mut into), Ok(2));
-    shelf.add(text(alloc, "a")?, b"new".to_vec(alloc)?)?;
-    assert_eq!(rt; shelf.take(&mut into), Ok(1));
-    assert_eq!(rt; into, *b"dl");
-    let bytes = read_whole(alloc, &mut shelf, "a").ok().ok_or("not read")?;
-    assert_eq!(rt; bytes.as_slice(), b"new".as_slice());
-    Ok(())
+    let mut shelf = shelf_with(alloc, "a", b"old")?;
+    check_replacing(&rt, alloc, &mut shelf)
 }
 
-#[test]
-fn a_sink_takes_pieces_while_there_is_room(rt: HostRuntime) -> Result<(), Fail> {
-    let alloc = rt.alloc();
-    let mut sink = MemSink::new(alloc, 3, 5)?;
-    sink.fail_at(2)?;
+// The puts of a sink that takes three bytes at once and five in all, and fails at its second put.
+fn check_puts(rt: &impl Abort, sink: &mut MemSink) {
     let puts: [(&[u8], Result<usize, Failed>, &[u8]); 6] = [
         (b"abcd", Ok(3), b"abc"),
         (b"d", Err(Failed), b"abc"),
@@ -64,55 +90,87 @@ fn a_sink_takes_pieces_while_there_is_room(rt: HostRuntime) -> Result<(), Fail> 
         (b"", Ok(0), b"abcde"),
     ];
     for (bytes, answer, held) in puts {
-        assert_eq!(rt; sink.put(bytes), answer);
-        assert_eq!(rt; sink.bytes(), held);
+        assert_eq!(rt; (sink.put(bytes), sink.bytes()), (answer, held));
     }
     assert_eq!(rt; sink.faults(), 2);
+}
 
-    let mut short = MemSink::new(alloc, 2, 3)?;
-    assert_eq!(rt; write_whole(&mut short, b"abc"), Ok(()));
-    assert_eq!(rt; write_whole(&mut short, b"d"), Err(Failed));
-    assert_eq!(rt; short.bytes(), b"abc".as_slice());
+#[test]
+fn a_sink_takes_pieces_while_there_is_room(rt: HostRuntime) -> Result<(), Fail> {
+    let mut sink = MemSink::new(rt.alloc(), 3, 5)?;
+    sink.fail_at(2)?;
+    check_puts(&rt, &mut sink);
     Ok(())
+}
+
+// Whole texts to a sink that takes two bytes at once and three in all.
+fn check_whole_texts(rt: &impl Abort, sink: &mut MemSink) {
+    assert_eq!(rt; write_whole(sink, b"abc"), Ok(()));
+    assert_eq!(rt; write_whole(sink, b"d"), Err(Failed));
+    assert_eq!(rt; sink.bytes(), b"abc".as_slice());
+}
+
+#[test]
+fn a_text_is_written_whole_while_there_is_room(rt: HostRuntime) -> Result<(), Fail> {
+    let mut sink = MemSink::new(rt.alloc(), 2, 3)?;
+    check_whole_texts(&rt, &mut sink);
+    Ok(())
+}
+
+// The bytes of a file of two pieces.
+fn long_file(alloc: Global) -> Result<Vec<u8>, AllocError> {
+    let mut bytes = vec![in alloc; 7u8; 70_000]?;
+    bytes.push(8)?;
+    Ok(bytes)
+}
+
+// Whether a shelf in memory gives a file of several pieces as it is, and in how many calls.
+fn read_from_memory(alloc: Global) -> Result<(bool, u64), Fail> {
+    let bytes = long_file(alloc)?;
+    let mut shelf = shelf_with(alloc, "long", &bytes)?;
+    let same = is_read_as(alloc, &mut shelf, "long", &bytes)?;
+    Ok((same, shelf.calls()))
 }
 
 #[test]
 fn a_file_of_several_pieces_is_read_whole(rt: HostRuntime) -> Result<(), Fail> {
-    let alloc = rt.alloc();
-    let mut shelf = MemShelf::new(alloc);
-    let mut bytes = vec![in alloc; 7u8; 70_000]?;
-    bytes.push(8)?;
-    shelf.add(text(alloc, "long")?, bytes.clone()?)?;
-    let read = read_whole(alloc, &mut shelf, "long")
-        .ok()
-        .ok_or("not read")?;
-    assert!(rt; read.as_slice() == bytes.as_slice());
-    assert_eq!(rt; shelf.calls(), 4);
+    assert_eq!(rt; read_from_memory(rt.alloc())?, (true, 4));
+    Ok(())
+}
 
-    let mut sure = SureShelf::new(alloc);
-    sure.add(text(alloc, "long")?, bytes)?;
-    let read = read_whole(alloc, &mut sure, "long").ok().ok_or("not read")?;
-    assert_eq!(rt; read.len(), 70_001);
-    let read = read_whole(alloc, &mut sure, "other")
-        .ok()
-        .ok_or("not read")?;
-    assert!(rt; read.is_empty());
+// How many bytes a shelf that never fails gives of a file of several pieces, and of one that was
+// not added.
+fn lengths_read(alloc: Global) -> Result<(usize, usize), Fail> {
+    let mut shelf = SureShelf::new(alloc);
+    shelf.add(String::from_str(alloc, "long")?, long_file(alloc)?)?;
+    let long = length_read(alloc, &mut shelf, "long")?;
+    let other = length_read(alloc, &mut shelf, "other")?;
+    Ok((long, other))
+}
+
+#[test]
+fn a_shelf_and_a_sink_that_never_fail(rt: HostRuntime) -> Result<(), Fail> {
+    assert_eq!(rt; lengths_read(rt.alloc())?, (70_001, 0));
     assert_eq!(rt; SureSink::new().put(b"abc"), Ok(3));
     Ok(())
+}
+
+// Reads a byte that is repeated so many times: how many there are, and the last of them.
+fn read_repeated(alloc: Global, length: u64) -> Result<(u64, Option<u8>), ReadStop> {
+    let mut shelf = RepeatShelf::new(b'x', length);
+    let read = read_whole(alloc, &mut shelf, "any")?;
+    Ok((read.len() as u64, read.last().copied()))
 }
 
 #[test]
 fn a_repeated_byte_is_read_up_to_the_most_bytes(rt: HostRuntime) -> Result<(), Fail> {
     let alloc = rt.alloc();
-    for length in [0, 70_001, 1 << 30] {
-        let mut shelf = RepeatShelf::new(b'x', length);
-        let read = read_whole(alloc, &mut shelf, "any").ok().ok_or("not read")?;
-        assert_eq!(rt; read.len() as u64, length);
-        assert_eq!(rt; read.last().copied().unwrap_or(b'x'), b'x', "{length}");
+    for (length, last) in [(0, None), (70_001, Some(b'x')), (1 << 30, Some(b'x'))] {
+        let read = read_repeated(alloc, length).ok().ok_or("not read")?;
+        assert_eq!(rt; read, (length, last));
     }
-    let mut longer = RepeatShelf::new(b'x', (1 << 30) + 1);
-    let stop = read_whole(alloc, &mut longer, "any").err();
-    assert_eq!(rt; stop, Some(ReadStop::TooLong));
+    let longer = read_repeated(alloc, (1 << 30) + 1);
+    assert_eq!(rt; longer.err(), Some(ReadStop::TooLong));
     Ok(())
 }
 

@@ -1,9 +1,14 @@
 // Rows, fields and faults of files.
+ghost use Rattle.std.specs.Prelude.{◌≡◌, ◌≤◌, [], length};
+
 use crate::{
-    Field, FileForm, Records, RowBuffer, RowPart, number, put_row_1, put_row_2, put_row_3,
-    put_row_4, type_name,
+    Field, FileForm, RecordRow, Records, RowBuffer, RowPart, number, put_row_1, put_row_2,
+    put_row_3, put_row_4, type_name,
 };
+use place_base::limits::LARGEST_FILE;
 use place_base::{FaultKind, FileKind};
+use std::alloc::{AllocError, Global};
+use std::process::Abort;
 use std::test::Fail;
 
 /// A file, and the lines and texts of its rows.
@@ -11,6 +16,22 @@ use std::test::Fail;
 struct File {
     bytes: &'static [u8],
     rows: &'static [(u32, &'static [u8])],
+}
+
+// The line and the text of the next row.
+fn next_text<'a>(records: &mut Records<'a>) -> Option<(u32, &'a [u8])> {
+    match records.next() {
+        Some(row) => Some((row.line(), row.bytes())),
+        None => None,
+    }
+}
+
+// Compares the rows that are left, of which there is no other.
+fn check_rows(rt: &impl Abort, records: &mut Records<'_>, rows: &[(u32, &[u8])]) {
+    for row in rows {
+        assert_eq!(rt; next_text(records), Some(*row));
+    }
+    assert_eq!(rt; next_text(records), None);
 }
 
 #[test]
@@ -46,13 +67,24 @@ fn rows_of_files(rt: HostRuntime) {
         },
     ] {
         let mut records = Records::of_bytes(file.bytes);
-        for (line, text) in file.rows {
-            let row = records.next().expect(&rt, "a row is left");
-            assert_eq!(rt; row.line(), *line);
-            assert_eq!(rt; row.bytes(), *text);
-        }
-        assert!(rt; records.next().is_none());
+        check_rows(&rt, &mut records, file.rows);
     }
+}
+
+// Compares the fields of a row.
+fn check_fields(rt: &impl Abort, row: &RecordRow<'_>, fields: &[&[u8]]) {
+    assert_eq!(rt; row.field_count() as usize, fields.len());
+    for (index, field) in fields.iter().enumerate() {
+        assert_eq!(rt; row.field(index as u32), *field);
+    }
+}
+
+// Compares the only row that is left, with its line and its fields.
+fn check_only_row(rt: &impl Abort, records: &mut Records<'_>, line: u32, fields: &[&[u8]]) {
+    let row = records.next().expect(rt, "a row is left");
+    assert_eq!(rt; row.line(), line);
+    check_fields(rt, &row, fields);
+    assert_eq!(rt; next_text(records), None);
 }
 
 #[test]
@@ -64,43 +96,52 @@ fn fields_and_parts(rt: HostRuntime) {
         line: 2,
     };
     let mut records = Records::of_part(bytes, part);
-    let row = records.next().expect(&rt, "a row is left");
-    assert_eq!(rt; row.line(), 2);
-    assert_eq!(rt; row.field_count(), 6);
-    assert_eq!(rt; row.field(0), b"a".as_slice());
-    assert_eq!(rt; row.field(1), b"".as_slice());
-    assert_eq!(rt; row.field(2), b"ccc".as_slice());
-    assert_eq!(rt; row.field(3), b"d".as_slice());
-    assert_eq!(rt; row.field(4), b"".as_slice());
-    assert_eq!(rt; row.field(5), b"f".as_slice());
-    assert!(rt; records.next().is_none());
+    check_only_row(&rt, &mut records, 2, &[b"a", b"", b"ccc", b"d", b"", b"f"]);
 }
+
+// Fields, with the lowest and the highest number that is allowed, and what is read.
+const NUMBERS: [(&[u8], u64, u64, Result<u64, FaultKind>); 11] = [
+    (b"", 0, u64::MAX, Err(FaultKind::NotNumber)),
+    (b"+5", 0, u64::MAX, Err(FaultKind::NotNumber)),
+    (b"5 ", 0, u64::MAX, Err(FaultKind::NotNumber)),
+    (b"99999999999999999999x", 0, 1, Err(FaultKind::NotNumber)),
+    (b"007", 7, 7, Ok(7)),
+    (b"0", 1, 9, Err(FaultKind::OutOfRange)),
+    (b"100001", 0, 100_000, Err(FaultKind::OutOfRange)),
+    (b"18446744073709551615", 0, u64::MAX, Ok(u64::MAX)),
+    (b"0000018446744073709551615", 0, u64::MAX, Ok(u64::MAX)),
+    (
+        b"18446744073709551616",
+        0,
+        u64::MAX,
+        Err(FaultKind::OutOfRange),
+    ),
+    (
+        b"99999999999999999999999999999999",
+        0,
+        u64::MAX,
+        Err(FaultKind::OutOfRange),
+    ),
+];
 
 #[test]
 fn numbers_and_names(rt: HostRuntime) {
-    let most = u64::MAX;
-    for (text, low, high, read) in [
-        ("", 0, most, Err(FaultKind::NotNumber)),
-        ("+5", 0, most, Err(FaultKind::NotNumber)),
-        ("5 ", 0, most, Err(FaultKind::NotNumber)),
-        ("99999999999999999999x", 0, 1, Err(FaultKind::NotNumber)),
-        ("007", 7, 7, Ok(7)),
-        ("0", 1, 9, Err(FaultKind::OutOfRange)),
-        ("100001", 0, 100_000, Err(FaultKind::OutOfRange)),
-        ("18446744073709551615", 0, most, Ok(most)),
-        ("0000018446744073709551615", 0, most, Ok(most)),
-        ("18446744073709551616", 0, most, Err(FaultKind::OutOfRange)),
-        (
-            "99999999999999999999999999999999",
-            0,
-            most,
-            Err(FaultKind::OutOfRange),
-        ),
-    ] {
-        assert_eq!(rt; number(text.as_bytes(), low, high), read);
+    for (text, low, high, read) in &NUMBERS {
+        assert_eq!(rt; number(text, *low, *high), *read);
     }
-    assert!(rt; type_name(b"SAY").is_ok());
-    assert!(rt; type_name(b"ea").is_err());
+    let names = (type_name(b"SAY").is_ok(), type_name(b"ea").is_ok());
+    assert_eq!(rt; names, (true, false));
+}
+
+// The version and the fields of the header of a file, or the kind of its fault.
+fn header_of(form: &FileForm, bytes: &[u8]) -> Result<(usize, u32), FaultKind>
+    requires { length bytes.now ≤ LARGEST_FILE }
+{
+    let mut records = Records::of_bytes(bytes);
+    match form.read_header(&mut records) {
+        Ok(header) => Ok((header.version, header.fields)),
+        Err(fault) => Err(fault.kind),
+    }
 }
 
 #[test]
@@ -117,18 +158,30 @@ fn first_rows(rt: HostRuntime) {
         ("\u{FEFF}candidate,type,rank\r\n", Ok((0, 3))),
         ("\n\ncandidate,rank", Ok((1, 2))),
     ] {
-        let mut records = Records::of_bytes(bytes.as_bytes());
-        let header = match form.read_header(&mut records) {
-            Ok(header) => Ok((header.version, header.fields)),
-            Err(fault) => Err(fault.kind),
-        };
-        assert_eq!(rt; header, read);
+        assert_eq!(rt; header_of(&form, bytes.as_bytes()), read);
     }
+}
+
+// A line of these fields, and so many digits behind them.
+fn padded_line(alloc: Global, fields: &str, padding: u32) -> Result<Vec<u8>, AllocError> {
+    let mut line = Vec::from_slice(alloc, fields.as_bytes())?;
+    for _ in 0..padding {
+        line.push(b'7')?;
+    }
+    line.extend_from_slice(b"\r\n")?;
+    Ok(line)
+}
+
+// The kind of the fault of a line's row, after so many others.
+fn shape_of(rt: &impl Abort, line: &[u8], index: u32) -> Option<FaultKind> {
+    let form = FileForm::new(FileKind::Ranks, &[b"candidate,type,rank"], 2);
+    assert!(rt; line.len() < 2000);
+    let row = Records::of_bytes(line).next().expect(rt, "a row");
+    form.shape_fault(3, index, &row).map(|fault| fault.kind)
 }
 
 #[test]
 fn shapes_of_rows(rt: HostRuntime) -> Result<(), Fail> {
-    let form = FileForm::new(FileKind::Ranks, &[b"candidate,type,rank"], 2);
     for (fields, index, padding, kind) in [
         ("1,2,", 1, 1020, None),
         ("1,2,", 1, 1021, Some(FaultKind::LineTooLong)),
@@ -137,17 +190,8 @@ fn shapes_of_rows(rt: HostRuntime) -> Result<(), Fail> {
         ("1,2", 1, 0, Some(FaultKind::FieldCount)),
         ("1,2,3,", 1, 0, Some(FaultKind::FieldCount)),
     ] {
-        let mut line = Vec::from_slice(rt.alloc(), fields.as_bytes())?;
-        for _ in 0..padding {
-            line.push(b'7')?;
-        }
-        line.extend_from_slice(b"\r\n")?;
-        assert!(rt; line.len() < 2000);
-        let row = Records::of_bytes(&line).next().expect(&rt, "a row");
-        assert_eq!(rt;
-            form.shape_fault(3, index, &row).map(|fault| fault.kind),
-            kind
-        );
+        let line = padded_line(rt.alloc(), fields, padding)?;
+        assert_eq!(rt; shape_of(&rt, &line, index), kind);
     }
     Ok(())
 }
@@ -167,10 +211,11 @@ fn texts_of_rows(rt: HostRuntime) -> Result<(), Fail> {
     Ok(())
 }
 
-#[test]
-fn rows_of_a_buffer(rt: HostRuntime) {
+// Two rows, after one that is cleared again.
+fn check_buffer(rt: &impl Abort, buffer: &mut RowBuffer)
+    requires { buffer.old ≡ [] }
+{
     let (number, text) = (Field::Number(u64::MAX), Field::Text(b"-"));
-    let mut buffer = RowBuffer::new();
     assert_eq!(rt; buffer.room(), 4096);
     buffer.put_row_4(text, text, number, number);
     buffer.clear();
@@ -187,4 +232,9 @@ fn rows_of_a_buffer(rt: HostRuntime) {
         b"18446744073709551615,-,,18446744073709551615\n-,0,-,NEITHER_LAST_ONE\n".as_slice()
     );
     assert_eq!(rt; buffer.room(), 4096 - 45 - 23);
+}
+
+#[test]
+fn rows_of_a_buffer(rt: HostRuntime) {
+    check_buffer(&rt, &mut RowBuffer::new());
 }
