@@ -1,5 +1,5 @@
 -- The summary of a made market: what is said of it, and how it answers the words.
-use Rattle.std.proofs.Common.{◌≡◌, ℕ, List, Option, Some, None, Result, Ok, Err, refl, sym, subst, ap, ◌∙◌, inl, IfOk}
+use Rattle.std.proofs.Common.{◌≡◌, ℕ, List, Option, Some, Result, Ok, Err, refl, sym, subst, ap, ◌∙◌, inl, IfOk}
 use Rattle.std.specs.Prelude.{IsErrAnd, IsErrOf, IsTrue}
 use Rattle.place_base.specs.declared.fault.FileFault.{FileFault}
 use Rattle.case_maker.specs.MadeMarkets.{HasSizes, made_market}

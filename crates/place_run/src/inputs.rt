@@ -1,5 +1,5 @@
 // The three tables of a market, read from their files, and a placement file beside them.
-ghost use Rattle.std.specs.Prelude.{◌≡◌, ◌≤◌, ◌<◌, ℕ, All, IfOk, IsTrue, Option, Some, length};
+ghost use Rattle.std.specs.Prelude.{◌≡◌, ◌≤◌, ◌<◌, ℕ, All, IfOk, IsTrue, Some, length};
 ghost use Rattle.command_words.specs.Words.{texts};
 ghost use Rattle.place_base.specs.declared.fault.FileKind.TheVariants as file;
 ghost use Rattle.programme_table.specs.Table.{codes_of};

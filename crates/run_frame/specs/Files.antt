@@ -104,9 +104,10 @@ FirstHasBegun None reads before now = ⊤
 FirstHasBegun (Some kind) reads before now = HasBegun (reads kind) before now
 
 -- What reading files came to in a run: there are bytes for each kind of file, those held under the
--- files' names where that is told, such that the result meets what is said over them. Each file up to the one that decides was read once; where a
--- read fault or want of memory decides, some in front were, and of those behind them at most one
--- piece beyond 2^30 was taken. Memory is refused only once the reading of the first file has begun.
+-- files' names where that is told, such that the result meets what is said over them. Each file up
+-- to the one that decides was read once; where a read fault or want of memory decides, some in
+-- front were, and of those behind them at most one piece beyond 2^30 was taken. Memory is refused
+-- only once the reading of the first file has begun.
 pub record AreRead {T W : Type 0} (told : Option Files) (names : FileKind → List ℕ)
     (first : Option FileKind) (said : Reads → Option (Result T (Stop W)))
     (files : Reads → List (List ℕ)) (result : Result T (Stop W))
