@@ -1,4 +1,4 @@
--- Texts that pass through a buffer: what was queued so far, and what was written where a put failed.
+-- Texts that pass through a buffer: what was queued, and what was written where a put failed.
 use Rattle.std.proofs.Common.{◌≡◌, ℕ, ◌+◌, ◌<◌, ◌≤◌, List, [], ◌++◌, length, take, drop, refl, sym, ap, ◌∙◌, append_assoc, append-nil, subst, arith, Option, Result, Ok, Err, length-append}
 use Rattle.std.specs.List.{flat_map, range_with_len}
 use Rattle.std.proofs.lemmas.List.{take-append-drop}

@@ -256,7 +256,8 @@ module _ {W : Type 0} (told : Option Files) (names : FileKind → List ℕ) wher
 
   -- behind a file that says its table, what the other files come to is what all come to
   pub file-reads : {T U : Type 0} (kind : FileKind) (judge : List ℕ → Result T FileStop)
-      (next : T → Reads → Option (Result U (Stop W))) (files : T → Reads → List (List ℕ)) (table : T)
+      (next : T → Reads → Option (Result U (Stop W))) (files : T → Reads → List (List ℕ))
+      (table : T)
       (second : Option FileKind) (result : Result U (Stop W))
       (first before now tally_first tally_before tally_now : ℕ)
       → ((bytes : Option (List ℕ)) (reads : Reads)
