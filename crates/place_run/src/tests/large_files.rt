@@ -1,4 +1,6 @@
 // Files at their limits, and many candidates.
+ghost use Rattle.std.specs.Prelude.{◌<◌};
+
 use super::refused_in_turn::run_failing;
 use super::{FREED_SEAT, PLACE, PLACED, counts_of, ends, run, shelf, words};
 use crate::run_words;
@@ -238,7 +240,9 @@ fn five_thousand_candidates_are_placed_by_twenty_thousand_ranks(
 }
 
 // The rows of the reasons of a candidate of a group, who holds the first programme of its list.
-fn put_reasons(text: &mut Vec<u8>, candidate: u64, group: u64) -> Result<(), AllocError> {
+fn put_reasons(text: &mut Vec<u8>, candidate: u64, group: u64) -> Result<(), AllocError>
+    requires { group < 4 }
+{
     let candidate = Field::Number(candidate);
     for place in 0..4 {
         let code = Field::Number((group + place) % 4 + 1);
