@@ -221,6 +221,71 @@ fn closed(
     Ok(close_round(round, me))
 }
 
+// Both seats find that the first entry of their turn's list has a seat left, and post there, the
+// second of them before the first.
+fn both_post(
+    rt: &impl Abort,
+    round: &SharedRound,
+    dict: &Dict,
+    first: &mut WorkSeat,
+    second: &mut WorkSeat,
+)
+    requires first { IsSeatOf round.now first.old × (dict.now ≡ dict_of round.now) }
+    requires second { IsSeatOf round.now second.old × (dict.now ≡ dict_of round.now) }
+    ensures first { HasStepped round.now first.old first.new true }
+    ensures second { HasStepped round.now second.old second.new true }
+{
+    assert_eq!(rt; looks_at_flags(rt, round, dict, first), true);
+    assert_eq!(rt; looks_at_flags(rt, round, dict, second), true);
+    assert_eq!(rt; reads(rt, round, dict, first), false);
+    assert_eq!(rt; reads(rt, round, dict, second), false);
+    assert_eq!(rt; posts(rt, round, dict, second), 0);
+    assert_eq!(rt; posts(rt, round, dict, first), 0);
+}
+
+// The holder takes the last seat of the entry at its place, and commits this turn there.
+fn fills(rt: &impl Abort, round: &SharedRound, dict: &Dict, me: &mut WorkSeat, turn: u32)
+    requires seat { IsSeatOf round.now me.old × (dict.now ≡ dict_of round.now) }
+    ensures step { HasStepped round.now me.old me.new (knows me.old).core.owes }
+{
+    assert_eq!(rt; weighs(rt, round, dict, me), false);
+    assert_eq!(rt; seats(rt, round, dict, me), true);
+    raises(rt, round, dict, me);
+    assert_eq!(rt; seals(rt, round, dict, me), turn);
+}
+
+// The seat takes the mark, commits both turns, which are posted at place 0, and gives it back.
+fn commits_both(rt: &impl Abort, round: &SharedRound, dict: &Dict, me: &mut WorkSeat)
+    requires seat { IsSeatOf round.now me.old × (dict.now ≡ dict_of round.now) }
+    ensures step { HasStepped round.now me.old me.new false }
+{
+    assert_eq!(rt; takes(rt, round, me), true);
+    // the first turn takes the one seat of its one entry
+    assert_eq!(rt; looks(rt, round, me), Some(0));
+    fills(rt, round, dict, me, 0);
+    // so the second turn, which was posted there, goes to its next entry
+    assert_eq!(rt; looks(rt, round, me), Some(0));
+    assert_eq!(rt; weighs(rt, round, dict, me), true);
+    fills(rt, round, dict, me, 1);
+    assert_eq!(rt; looks(rt, round, me), None);
+    releases(rt, round, me);
+}
+
+// The seat takes the mark, and gives it back at once, as every turn is committed.
+fn commits_none(rt: &impl Abort, round: &SharedRound, me: &mut WorkSeat)
+    requires seat { IsSeatOf round.now me.old }
+    ensures step { HasStepped round.now me.old me.new false }
+{
+    assert_eq!(rt; takes(rt, round, me), true);
+    releases(rt, round, me);
+}
+
+// Both turns are committed, each at its own place.
+fn check_choices(rt: &impl Abort, words: &Words) {
+    assert_eq!(rt; words.committed(), 2);
+    assert_eq!(rt; [words.choice(0), words.choice(1)], [0, 1]);
+}
+
 #[test]
 fn one_seat_commits_what_two_posted(rt: HostRuntime) -> Result<(), Fail> {
     let alloc = rt.alloc();
@@ -229,36 +294,42 @@ fn one_seat_commits_what_two_posted(rt: HostRuntime) -> Result<(), Fail> {
     let (mut first, mut second) = two_seats(&round, both);
     draws(&rt, &round, &mut first, 0);
     draws(&rt, &round, &mut second, 1);
-    assert_eq!(&rt; looks_at_flags(&rt, &round, &dict, &mut first), true);
-    assert_eq!(&rt; looks_at_flags(&rt, &round, &dict, &mut second), true);
-    assert_eq!(&rt; reads(&rt, &round, &dict, &mut first), false);
-    assert_eq!(&rt; reads(&rt, &round, &dict, &mut second), false);
-    assert_eq!(&rt; posts(&rt, &round, &dict, &mut second), 0);
-    assert_eq!(&rt; posts(&rt, &round, &dict, &mut first), 0);
-    assert_eq!(&rt; takes(&rt, &round, &mut first), true);
-    // the first turn takes the one seat of its one entry
-    assert_eq!(&rt; looks(&rt, &round, &mut first), Some(0));
-    assert_eq!(&rt; weighs(&rt, &round, &dict, &mut first), false);
-    assert_eq!(&rt; seats(&rt, &round, &dict, &mut first), true);
-    raises(&rt, &round, &dict, &mut first);
-    assert_eq!(&rt; seals(&rt, &round, &dict, &mut first), 0);
-    // so the second turn, which was posted there, goes to its next entry
-    assert_eq!(&rt; looks(&rt, &round, &mut first), Some(0));
-    assert_eq!(&rt; weighs(&rt, &round, &dict, &mut first), true);
-    assert_eq!(&rt; weighs(&rt, &round, &dict, &mut first), false);
-    assert_eq!(&rt; seats(&rt, &round, &dict, &mut first), true);
-    raises(&rt, &round, &dict, &mut first);
-    assert_eq!(&rt; seals(&rt, &round, &dict, &mut first), 1);
-    assert_eq!(&rt; looks(&rt, &round, &mut first), None);
-    releases(&rt, &round, &mut first);
-    assert_eq!(&rt; takes(&rt, &round, &mut second), true);
-    releases(&rt, &round, &mut second);
+    both_post(&rt, &round, &dict, &mut first, &mut second);
+    commits_both(&rt, &round, &dict, &mut first);
+    commits_none(&rt, &round, &mut second);
     ends(&rt, &round, &mut first);
     ends(&rt, &round, &mut second);
     let words = closed(alloc, &rt, round, &dict, first, second)?;
-    assert_eq!(&rt; words.committed(), 2);
-    assert_eq!(&rt; [words.choice(0), words.choice(1)], [0, 1]);
+    check_choices(&rt, &words);
     Ok(())
+}
+
+// The seat finds that the first entry of its turn's list has a seat left, and posts there.
+fn posts_at_first(rt: &impl Abort, round: &SharedRound, dict: &Dict, me: &mut WorkSeat)
+    requires seat { IsSeatOf round.now me.old × (dict.now ≡ dict_of round.now) }
+    ensures step { HasStepped round.now me.old me.new true }
+{
+    assert_eq!(rt; looks_at_flags(rt, round, dict, me), true);
+    assert_eq!(rt; reads(rt, round, dict, me), false);
+    assert_eq!(rt; posts(rt, round, dict, me), 0);
+}
+
+// The seat takes the mark, and finds the cell of the first uncommitted turn empty.
+fn halts(rt: &impl Abort, round: &SharedRound, me: &mut WorkSeat)
+    requires seat { IsSeatOf round.now me.old }
+    ensures step { HasStepped round.now me.old me.new false }
+{
+    assert_eq!(rt; takes(rt, round, me), true);
+    assert_eq!(rt; looks(rt, round, me), None);
+}
+
+// The seat finds the mark held, and commits nothing.
+fn finds_held(rt: &impl Abort, round: &SharedRound, dict: &Dict, me: &mut WorkSeat)
+    requires seat { IsSeatOf round.now me.old × (dict.now ≡ dict_of round.now) }
+    ensures step { HasStepped round.now me.old me.new false }
+{
+    assert_eq!(rt; takes(rt, round, me), false);
+    assert_eq!(rt; commits(rt, round, dict, me), None);
 }
 
 #[test]
@@ -269,16 +340,10 @@ fn nothing_is_committed_past_an_empty_cell(rt: HostRuntime) -> Result<(), Fail> 
     let (mut first, mut second) = two_seats(&round, both);
     draws(&rt, &round, &mut first, 0);
     draws(&rt, &round, &mut second, 1);
-    assert_eq!(&rt; looks_at_flags(&rt, &round, &dict, &mut second), true);
-    assert_eq!(&rt; reads(&rt, &round, &dict, &mut second), false);
-    assert_eq!(&rt; posts(&rt, &round, &dict, &mut second), 0);
-    assert_eq!(&rt; takes(&rt, &round, &mut second), true);
-    assert_eq!(&rt; looks(&rt, &round, &mut second), None);
-    assert_eq!(&rt; looks_at_flags(&rt, &round, &dict, &mut first), true);
-    assert_eq!(&rt; reads(&rt, &round, &dict, &mut first), false);
-    assert_eq!(&rt; posts(&rt, &round, &dict, &mut first), 0);
-    assert_eq!(&rt; takes(&rt, &round, &mut first), false);
-    assert_eq!(&rt; commits(&rt, &round, &dict, &mut first), None);
+    posts_at_first(&rt, &round, &dict, &mut second);
+    halts(&rt, &round, &mut second);
+    posts_at_first(&rt, &round, &dict, &mut first);
+    finds_held(&rt, &round, &dict, &mut first);
     releases(&rt, &round, &mut second);
     Ok(())
 }
