@@ -136,39 +136,66 @@ fn first_open(rt: &impl Abort, programmes: &[u32], left: &mut [u32]) -> u32 {
     place
 }
 
-// The choices are those of one turn after the other.
-fn compare(alloc: Global, rt: &impl Abort, dict: &Dict, words: &Words) -> Result<(), AllocError> {
-    let mut left = Vec::with_capacity(alloc, 130)?;
+// How many seats each programme has at the opening.
+fn quotas(alloc: Global, dict: &Dict) -> Result<Vec<u32>, AllocError> {
+    let mut quotas = Vec::with_capacity(alloc, 130)?;
     for programme in 0..dict.programmes() {
-        left.push(dict.quota(programme))?;
+        quotas.push(dict.quota(programme))?;
     }
+    Ok(quotas)
+}
+
+// The choices are those of one turn after the other, of which each takes one of the seats left.
+fn compare(rt: &impl Abort, dict: &Dict, words: &Words, left: &mut [u32]) {
     assert_eq!(rt; words.committed(), 128);
     for turn in 0..dict.turns() {
         assert!(rt; turn < words.committed());
-        let place = first_open(rt, dict.list(turn), &mut left);
+        let place = first_open(rt, dict.list(turn), left);
         assert_eq!(rt; words.choice(turn), place, "turn {turn}");
     }
-    Ok(())
 }
 
-// Runs a round of these 128 turns so, and compares its choices.
-fn run_falling(alloc: Global, rt: &impl Abort, dict: &Dict) -> Result<(), AllocError> {
+// Twice all seats draw, and then post in falling order, until no turn is left.
+fn act_to_the_end(
+    alloc: Global,
+    rt: &impl Abort,
+    round: &SharedRound,
+    dict: &Dict,
+    seats: Vec<WorkSeat>,
+) -> Result<Vec<WorkSeat>, AllocError>
+    requires ready { AreWorking round.now seats.items }
+    requires dict { dict.now ≡ dict_of round.now }
+    ensures over { IfOk result (λ over. AreOver round.now over.items) }
+    ensures shares { IfOk result (λ over. shares_of over.items ≡ shares_of seats.items) }
+{
+    let drawn = act_all(alloc, rt, round, dict, seats, Some(0))?;
+    let seats = act_all(alloc, rt, round, dict, drawn, None)?;
+    let drawn = act_all(alloc, rt, round, dict, seats, Some(64))?;
+    let seats = act_all(alloc, rt, round, dict, drawn, None)?;
+    end_all(alloc, rt, round, seats)
+}
+
+// Runs a round of these 128 turns so. The last commit finds nothing left.
+fn run_falling(alloc: Global, rt: &impl Abort, dict: &Dict) -> Result<Words, AllocError> {
     let (round, seats) = open_round(alloc, dict, 64)?;
-    let drawn = act_all(alloc, rt, &round, dict, seats, Some(0))?;
-    let seats = act_all(alloc, rt, &round, dict, drawn, None)?;
-    let drawn = act_all(alloc, rt, &round, dict, seats, Some(64))?;
-    let seats = act_all(alloc, rt, &round, dict, drawn, None)?;
-    let over = end_all(alloc, rt, &round, seats)?;
+    let over = act_to_the_end(alloc, rt, &round, dict, seats)?;
     let mut me = join_all(&round, over);
     assert_eq!(rt; commits(rt, &round, dict, &mut me), Some(0));
-    let words = close_round(round, me);
-    compare(alloc, rt, dict, &words)
+    Ok(close_round(round, me))
+}
+
+// Runs such a round, and compares its choices.
+fn check_falling(alloc: Global, rt: &impl Abort, dict: &Dict) -> Result<(), AllocError> {
+    let mut left = quotas(alloc, dict)?;
+    let words = run_falling(alloc, rt, dict)?;
+    compare(rt, dict, &words, &mut left);
+    Ok(())
 }
 
 #[test]
 fn turns_posted_in_falling_order_are_committed_in_order(rt: HostRuntime) -> Result<(), Fail> {
     let alloc = rt.alloc();
-    run_falling(alloc, &rt, &many_turns(alloc)?)?;
-    run_falling(alloc, &rt, &spread_turns(alloc)?)?;
+    check_falling(alloc, &rt, &many_turns(alloc)?)?;
+    check_falling(alloc, &rt, &spread_turns(alloc)?)?;
     Ok(())
 }
