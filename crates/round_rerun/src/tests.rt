@@ -10,6 +10,7 @@ use market::examples::{exchange, freed_seat, three_rounds};
 use market::{Market, Outcome, Placer, Steps};
 use std::alloc::{AllocError, Global};
 use std::marker::Brand;
+use std::process::Abort;
 use std::sync::ledger::{Blank, Ledger};
 use std::test::Fail;
 use std::thread::Threads;
@@ -42,19 +43,56 @@ fn placed<R: Threads + Sync, L: Ledger>(
     Rounds::new(2, &OpenGate).place(rt, alloc, market, &mut turns)
 }
 
+// Compares what each candidate holds, and the counts of rounds, cuts and turns.
+fn check_outcome(
+    rt: &impl Abort,
+    outcome: &Outcome,
+    held: &[Option<u32>],
+    counts: (u32, u32, u64),
+) {
+    assert_eq!(rt; outcome.placement.held(), held);
+    assert_eq!(rt; (outcome.rounds, outcome.cuts, outcome.turns), counts);
+}
+
+// The same of what teams of so many workers make of a market.
+fn check_teams<R: Threads + Sync + Abort>(
+    rt: &R,
+    alloc: Global,
+    market: &Market,
+    workers: u32,
+    held: &[Option<u32>],
+    counts: (u32, u32, u64),
+) -> Result<(), AllocError>
+    requires workers { (0 < workers) × (workers ≤ MAX_WORKERS) }
+{
+    let outcome = outcome_of::<R, Brand>(rt, alloc, Blank::new(1), market, workers)?;
+    check_outcome(rt, &outcome, held, counts);
+    Ok(())
+}
+
+// The same of what the placer makes of it.
+fn check_placer<R: Threads + Sync + Abort>(
+    rt: &R,
+    alloc: Global,
+    market: &Market,
+    held: &[Option<u32>],
+    counts: (u32, u32, u64),
+) -> Result<(), AllocError> {
+    let outcome = placed::<R, Brand>(rt, alloc, Blank::new(1), market)?;
+    check_outcome(rt, &outcome, held, counts);
+    Ok(())
+}
+
 // In the first round all six turns are run; then three of the second type, and two of the first.
 #[test]
 fn only_changed_turns_run_again(rt: HostRuntime) -> Result<(), Fail> {
     let alloc = rt.alloc();
     let market = three_rounds(alloc)?;
-    let alone = outcome_of::<HostRuntime, Brand>(&rt, alloc, Blank::new(1), &market, 1)?;
-    let two = outcome_of::<HostRuntime, Brand>(&rt, alloc, Blank::new(1), &market, 2)?;
-    let many = outcome_of::<HostRuntime, Brand>(&rt, alloc, Blank::new(1), &market, 64)?;
-    let by_placer = placed::<HostRuntime, Brand>(&rt, alloc, Blank::new(1), &market)?;
-    for outcome in [&alone, &two, &many, &by_placer] {
-        assert_eq!(rt; outcome.placement.held(), &[Some(0), Some(2), Some(1)][..]);
-        assert_eq!(rt; (outcome.rounds, outcome.cuts, outcome.turns), (3, 2, 11));
-    }
+    let held = [Some(0), Some(2), Some(1)];
+    check_teams(&rt, alloc, &market, 1, &held, (3, 2, 11))?;
+    check_teams(&rt, alloc, &market, 2, &held, (3, 2, 11))?;
+    check_teams(&rt, alloc, &market, 64, &held, (3, 2, 11))?;
+    check_placer(&rt, alloc, &market, &held, (3, 2, 11))?;
     Ok(())
 }
 
@@ -62,13 +100,8 @@ fn only_changed_turns_run_again(rt: HostRuntime) -> Result<(), Fail> {
 #[test]
 fn an_untouched_type_is_not_run_again(rt: HostRuntime) -> Result<(), Fail> {
     let alloc = rt.alloc();
-    let uncut = exchange(alloc)?;
-    let outcome = outcome_of::<HostRuntime, Brand>(&rt, alloc, Blank::new(1), &uncut, 2)?;
-    assert_eq!(rt; outcome.placement.held(), &[Some(1), Some(0)][..]);
-    assert_eq!(rt; (outcome.rounds, outcome.cuts, outcome.turns), (1, 0, 4));
-    let cut = freed_seat(alloc)?;
-    let outcome = outcome_of::<HostRuntime, Brand>(&rt, alloc, Blank::new(1), &cut, 2)?;
-    assert_eq!(rt; outcome.placement.held(), &[Some(0), Some(1)][..]);
-    assert_eq!(rt; (outcome.rounds, outcome.cuts, outcome.turns), (2, 1, 6));
+    let (uncut, cut) = ([Some(1), Some(0)], [Some(0), Some(1)]);
+    check_teams(&rt, alloc, &exchange(alloc)?, 2, &uncut, (1, 0, 4))?;
+    check_teams(&rt, alloc, &freed_seat(alloc)?, 2, &cut, (2, 1, 6))?;
     Ok(())
 }
