@@ -8,7 +8,7 @@ use Rattle.market.specs.Choices.{programme_in, empty_table}
 use Rattle.market.proofs.Locals.{none_at}
 use Rattle.market.proofs.Plain.{whole_fit}
 use Rattle.market.proofs.Replays.{run-none, empty_table-count}
-use Rattle.truncation.proofs.tests.nobody_without_several_choices_is_cut.Goals as goal
+use Rattle.truncation.proofs.tests.touched_first.Goals as goal
 
 -- an empty table has nothing anywhere
 empty_table-none : (m : Problem) (t i : ℕ) → programme_in (empty_table m) t i ≡ None
@@ -24,8 +24,8 @@ empty_table-none m t i =
     (cases_lt t m.types)
 
 pub cut_lists-touched-requires-clause-table : goal.cut_lists-touched-requires-clause-table
-cut_lists-touched-requires-clause-table g c =
-    let m = c.in_ok-market.market in
+cut_lists-touched-requires-clause-table c =
+    let m = c.args.market.now in
     let e = c.in_ok-table.ensures.none in
     record {
       types = empty_table-count m c.in_ok-table.table e;
@@ -33,13 +33,13 @@ cut_lists-touched-requires-clause-table g c =
     }
 
 pub cut_lists-touched-requires-clause-cuts : goal.cut_lists-touched-requires-clause-cuts
-cut_lists-touched-requires-clause-cuts g c =
-    subst (IsCuts c.in_ok-market.market) (sym c.in_ok-cuts.ensures.cuts)
-    (whole_fit c.in_ok-market.market)
+cut_lists-touched-requires-clause-cuts c =
+    subst (IsCuts c.args.market.now) (sym c.in_ok-cuts.ensures.cuts)
+    (whole_fit c.args.market.now)
 
 pub cut_lists-touched-requires-clause-within : goal.cut_lists-touched-requires-clause-within
-cut_lists-touched-requires-clause-within g c =
-    let m = c.in_ok-market.market in
+cut_lists-touched-requires-clause-within c =
+    let m = c.args.market.now in
     let empty = λ (t i : ℕ). ap (λ (xs : List (List (Option ℕ))). programme_in xs t i)
     c.in_ok-table.ensures.none ∙ empty_table-none m t i in
     record {
