@@ -83,16 +83,24 @@ fn check_placer<R: Threads + Sync + Abort>(
     Ok(())
 }
 
+// The outcome of the market of three rounds, by teams of three sizes and by the placer.
+fn check_three_rounds<R: Threads + Sync + Abort>(
+    rt: &R,
+    alloc: Global,
+    market: &Market,
+) -> Result<(), AllocError> {
+    let (held, counts) = ([Some(0), Some(2), Some(1)], (3, 2, 11));
+    check_teams(rt, alloc, market, 1, &held, counts)?;
+    check_teams(rt, alloc, market, 2, &held, counts)?;
+    check_teams(rt, alloc, market, 64, &held, counts)?;
+    check_placer(rt, alloc, market, &held, counts)
+}
+
 // In the first round all six turns are run; then three of the second type, and two of the first.
 #[test]
 fn only_changed_turns_run_again(rt: HostRuntime) -> Result<(), Fail> {
     let alloc = rt.alloc();
-    let market = three_rounds(alloc)?;
-    let held = [Some(0), Some(2), Some(1)];
-    check_teams(&rt, alloc, &market, 1, &held, (3, 2, 11))?;
-    check_teams(&rt, alloc, &market, 2, &held, (3, 2, 11))?;
-    check_teams(&rt, alloc, &market, 64, &held, (3, 2, 11))?;
-    check_placer(&rt, alloc, &market, &held, (3, 2, 11))?;
+    check_three_rounds(&rt, alloc, &three_rounds(alloc)?)?;
     Ok(())
 }
 
