@@ -1,12 +1,12 @@
-// Reports on placements of two worked examples, followed by hand: the base ranks, and the reason of
+// Reports on placements of a worked example, followed by hand: the base ranks, and the reason of
 // each list entry.
 
-ghost use Rattle.std.specs.Prelude.{◌≡◌, ◌<◌, ◌∷◌, [], IfOk, IfSome};
+ghost use Rattle.std.specs.Prelude.{◌≡◌, ◌<◌, ◌∷◌, [], length, IfOk, IfSome};
 ghost use Rattle.market.specs.Examples.{exchange};
-ghost use Rattle.reports.specs.BaseTables.{HoldsProgrammes};
+ghost use Rattle.reports.specs.BaseTables.{HoldsProgrammes, IsBaseTable};
 
-use crate::{Reason, base_ranks, reason};
-use market::{Placement, examples};
+use crate::{BaseRanks, Reason, base_ranks, reason};
+use market::{Market, Placement, examples};
 use std::alloc::{AllocError, Global};
 use std::test::Fail;
 
@@ -20,46 +20,59 @@ fn held(alloc: Global, first: Option<u32>, second: Option<u32>) -> Result<Placem
     Ok(Placement::from_vec(vec![in alloc; first, second]?))
 }
 
+// The reasons of the two entries of each of the two lists of the exchange.
 #[tactic(auto, unfolding(market::specs::Problems::list_of))]
+fn reasons(market: &Market, placement: &Placement, bases: &BaseRanks) -> [[Reason; 2]; 2]
+    requires market { market.now ≡ exchange }
+    requires candidates { length placement.now ≡ 2 }
+    requires bases { IsBaseTable exchange placement.now bases.now }
+{
+    [
+        [
+            reason(market, placement, bases, 0, 0),
+            reason(market, placement, bases, 0, 1),
+        ],
+        [
+            reason(market, placement, bases, 1, 0),
+            reason(market, placement, bases, 1, 1),
+        ],
+    ]
+}
+
+// The base rank and the number of holders of the two programmes of the exchange, and the reasons
+// of each list, when this is held.
+fn reports(
+    alloc: Global,
+    first: Option<u32>,
+    second: Option<u32>,
+) -> Result<([(Option<u32>, u32); 2], [[Reason; 2]; 2]), AllocError>
+    requires first { IfSome first (λ p. p < 2) }
+    requires second { IfSome second (λ p. p < 2) }
+{
+    let market = examples::exchange(alloc)?;
+    let placement = held(alloc, first, second)?;
+    let bases = base_ranks(alloc, &market, &placement)?;
+    let programmes = [
+        (bases.base(0), bases.held(0)),
+        (bases.base(1), bases.held(1)),
+    ];
+    Ok((programmes, reasons(&market, &placement, &bases)))
+}
+
 #[test]
 fn each_holds_the_second_wish(rt: HostRuntime) -> Result<(), Fail> {
-    let alloc = rt.alloc();
-    let market = examples::exchange(alloc)?;
-    let placement = held(alloc, Some(1), Some(0))?;
-    let bases = base_ranks(alloc, &market, &placement)?;
-    assert_eq!(rt; (bases.base(0), bases.held(0)), (Some(1), 1));
-    assert_eq!(rt; (bases.base(1), bases.held(1)), (Some(1), 1));
-    assert_eq!(rt;
-        reason(&market, &placement, &bases, 0, 0),
-        Reason::Full(Some(1))
-    );
-    assert_eq!(rt; reason(&market, &placement, &bases, 0, 1), Reason::Placed);
-    assert_eq!(rt;
-        reason(&market, &placement, &bases, 1, 0),
-        Reason::Full(Some(1))
-    );
-    assert_eq!(rt; reason(&market, &placement, &bases, 1, 1), Reason::Placed);
+    let (programmes, entries) = reports(rt.alloc(), Some(1), Some(0))?;
+    assert_eq!(rt; programmes, [(Some(1), 1), (Some(1), 1)]);
+    assert_eq!(rt; entries[0], [Reason::Full(Some(1)), Reason::Placed]);
+    assert_eq!(rt; entries[1], [Reason::Full(Some(1)), Reason::Placed]);
     Ok(())
 }
 
-#[tactic(auto, unfolding(market::specs::Problems::list_of))]
 #[test]
 fn one_holds_the_first_wish_and_one_nothing(rt: HostRuntime) -> Result<(), Fail> {
-    let alloc = rt.alloc();
-    let market = examples::exchange(alloc)?;
-    let placement = held(alloc, Some(0), None)?;
-    let bases = base_ranks(alloc, &market, &placement)?;
-    assert_eq!(rt; (bases.base(0), bases.held(0)), (Some(2), 1));
-    assert_eq!(rt; (bases.base(1), bases.held(1)), (None, 0));
-    assert_eq!(rt; reason(&market, &placement, &bases, 0, 0), Reason::Placed);
-    assert_eq!(rt; reason(&market, &placement, &bases, 0, 1), Reason::Below);
-    assert_eq!(rt;
-        reason(&market, &placement, &bases, 1, 0),
-        Reason::Full(None)
-    );
-    assert_eq!(rt;
-        reason(&market, &placement, &bases, 1, 1),
-        Reason::Full(Some(2))
-    );
+    let (programmes, entries) = reports(rt.alloc(), Some(0), None)?;
+    assert_eq!(rt; programmes, [(Some(2), 1), (None, 0)]);
+    assert_eq!(rt; entries[0], [Reason::Placed, Reason::Below]);
+    assert_eq!(rt; entries[1], [Reason::Full(None), Reason::Full(Some(2))]);
     Ok(())
 }
