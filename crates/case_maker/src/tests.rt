@@ -1,9 +1,10 @@
 // The generator's words, and a market that was made from them by hand.
 
 use crate::make_market;
-use market::Prog;
+use market::{Market, Prog};
 use rand_core::utils::NextWord;
 use rand_pcg::Lcg64Xsh32;
+use std::process::Abort;
 use std::test::Fail;
 
 // The words were computed outside, from the generator's definition (O'Neill 2014).
@@ -20,21 +21,20 @@ fn the_generator_gives_known_words(rt: HostRuntime) {
     }
 }
 
-// Seed 95 with five candidates, three programmes and two types, from a script written after the
-// definition.
-#[test]
-fn a_small_market_is_made_as_defined(rt: HostRuntime) -> Result<(), Fail> {
-    let market = make_market(rt.alloc(), 95, 5, 3, 2)?;
+// Compares how many programmes, candidates and types a market has.
+fn check_counts(rt: &impl Abort, market: &Market, counts: (u32, u32, u32)) {
     assert_eq!(rt;
         (
             market.programme_count(),
             market.candidate_count(),
             market.type_count()
         ),
-        (3, 5, 2)
+        counts
     );
+}
 
-    let programmes = [(0, 1), (1, 3), (0, 0)];
+// Compares the type and the quota of each programme of a market.
+fn check_programmes(rt: &impl Abort, market: &Market, programmes: &[(u32, u32)]) {
     for programme in 0..market.programme_count() {
         let Prog { kind, quota } = market.programme(programme);
         assert_eq!(rt;
@@ -42,20 +42,37 @@ fn a_small_market_is_made_as_defined(rt: HostRuntime) -> Result<(), Fail> {
             Some((kind, quota))
         );
     }
-    let lists: [&[u32]; 5] = [&[1, 2], &[0, 2, 1], &[0, 2], &[], &[1]];
+}
+
+// Compares the list of each candidate of a market.
+fn check_lists(rt: &impl Abort, market: &Market, lists: &[&[u32]]) {
     for candidate in 0..market.candidate_count() {
         assert_eq!(rt;
             lists.get(candidate as usize).copied(),
             Some(market.list(candidate))
         );
     }
-    let orders: [&[u32]; 2] = [&[0, 3, 4, 1], &[0, 2, 1]];
+}
+
+// Compares the turn order of each type of a market.
+fn check_orders(rt: &impl Abort, market: &Market, orders: &[&[u32]]) {
     for kind in 0..market.type_count() {
         assert_eq!(rt;
             orders.get(kind as usize).copied(),
             Some(market.order(kind))
         );
     }
+}
+
+// Seed 95 with five candidates, three programmes and two types, from a script written after the
+// definition.
+#[test]
+fn a_small_market_is_made_as_defined(rt: HostRuntime) -> Result<(), Fail> {
+    let market = make_market(rt.alloc(), 95, 5, 3, 2)?;
+    check_counts(&rt, &market, (3, 5, 2));
+    check_programmes(&rt, &market, &[(0, 1), (1, 3), (0, 0)]);
+    check_lists(&rt, &market, &[&[1, 2], &[0, 2, 1], &[0, 2], &[], &[1]]);
+    check_orders(&rt, &market, &[&[0, 3, 4, 1], &[0, 2, 1]]);
     Ok(())
 }
 
