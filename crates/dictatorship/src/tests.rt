@@ -8,6 +8,7 @@ use market::examples::{exchange, freed_seat, three_rounds, two_turns};
 use market::{Outcome, Placer, Steps};
 use std::alloc::{AllocError, Global};
 use std::marker::Brand;
+use std::process::Abort;
 use std::sync::ledger::{Blank, Ledger};
 use std::test::Fail;
 use std::thread::Threads;
@@ -47,13 +48,23 @@ fn the_second_seat_goes_to_the_second_turn(rt: HostRuntime) -> Result<(), Fail> 
     Ok(())
 }
 
+// Compares what each candidate holds, and the rounds, the cuts and the turns.
+fn check_outcome(
+    rt: &impl Abort,
+    outcome: &Outcome,
+    held: &[Option<u32>],
+    counts: (u32, u32, u64),
+) {
+    assert_eq!(rt; outcome.placement.held(), held);
+    assert_eq!(rt; (outcome.rounds, outcome.cuts, outcome.turns), counts);
+}
+
 // Both candidates would rather exchange. That placement is stable too, and not the mechanism's.
 #[test]
 fn nobody_gets_a_first_wish_in_the_exchange(rt: HostRuntime) -> Result<(), Fail> {
     let alloc = rt.alloc();
     let outcome = mechanism_plain(alloc, &exchange(alloc)?)?;
-    assert_eq!(rt; outcome.placement.held(), &[Some(1), Some(0)][..]);
-    assert_eq!(rt; (outcome.rounds, outcome.cuts, outcome.turns), (1, 0, 4));
+    check_outcome(&rt, &outcome, &[Some(1), Some(0)], (1, 0, 4));
     Ok(())
 }
 
@@ -63,8 +74,7 @@ fn nobody_gets_a_first_wish_in_the_exchange(rt: HostRuntime) -> Result<(), Fail>
 fn a_cut_frees_a_seat(rt: HostRuntime) -> Result<(), Fail> {
     let alloc = rt.alloc();
     let outcome = mechanism_plain(alloc, &freed_seat(alloc)?)?;
-    assert_eq!(rt; outcome.placement.held(), &[Some(0), Some(1)][..]);
-    assert_eq!(rt; (outcome.rounds, outcome.cuts, outcome.turns), (2, 1, 8));
+    check_outcome(&rt, &outcome, &[Some(0), Some(1)], (2, 1, 8));
     Ok(())
 }
 
@@ -72,11 +82,10 @@ fn a_cut_frees_a_seat(rt: HostRuntime) -> Result<(), Fail> {
 #[test]
 fn one_cut_leads_to_the_next(rt: HostRuntime) -> Result<(), Fail> {
     let alloc = rt.alloc();
+    let held = [Some(0), Some(2), Some(1)];
     let by_placer = placed::<HostRuntime, Brand>(&rt, alloc, Blank::new(1))?;
+    check_outcome(&rt, &by_placer, &held, (3, 2, 18));
     let by_mechanism = mechanism_plain(alloc, &three_rounds(alloc)?)?;
-    for outcome in [&by_placer, &by_mechanism] {
-        assert_eq!(rt; outcome.placement.held(), &[Some(0), Some(2), Some(1)][..]);
-        assert_eq!(rt; (outcome.rounds, outcome.cuts, outcome.turns), (3, 2, 18));
-    }
+    check_outcome(&rt, &by_mechanism, &held, (3, 2, 18));
     Ok(())
 }
