@@ -2,16 +2,16 @@
 use Rattle.std.proofs.Common.{◌≡◌, ℕ, zero, suc, ◌+◌, ◌%◌, ◌<◌, ◌≤◌, ◌==◌, List, ◌∷◌, length, map, refl, arith, ⊎_elim, Some, None}
 use Rattle.std.specs.List.{cons_option, filter_map, range_with_len}
 use Rattle.std.proofs.lemmas.Bool.{cond_both}
-use Rattle.case_maker.specs.Draws.{Key, key_of}
+use Rattle.case_maker.specs.Draws.{Key, word_key}
 use Rattle.market.proofs.Copies.{copies, one_if, one_if-cases, one_if-other, one_if-same}
 
 -- the keys that words give the candidates from o on
 abbrev pub keys_from : (ℕ → ℕ) → ℕ → ℕ → List Key
-keys_from words o n = filter_map (λ i. key_of (words i) i) (range_with_len o n)
+keys_from words o n = filter_map (λ i. word_key (words i) i) (range_with_len o n)
 
 -- what holds with and without a key in front holds of it
 front : (P : List Key → Type 0) (word i : ℕ) (rest : List Key) → P rest → P ((word, i) ∷ rest)
-    → P (cons_option (key_of word i) rest)
+    → P (cons_option (word_key word i) rest)
 front P word i rest without with_it =
     cond_both (word % 8 == 0) None (Some (word, i)) (λ key. P (cons_option key rest))
     (λ none. without)

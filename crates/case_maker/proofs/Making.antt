@@ -11,17 +11,17 @@ use Rattle.rand_pcg.specs.Lcg.{Lcg}
 use Rattle.case_maker.specs.declared.sizes.Sizes.{Sizes}
 use Rattle.case_maker.specs.Draws.{Key}
 use Rattle.case_maker.specs.Drawn.{HasDrawn}
-use Rattle.case_maker.specs.MadeMarkets.{made_lists, made_order, made_programmes, made_ranks, market_of}
+use Rattle.case_maker.specs.MadeMarkets.{made_lists, made_order, made_programmes, made_ranks, made_problem}
 use Rattle.case_maker.specs.Turns.{turn_order}
-use Rattle.case_maker.specs.Words.{Words, generator_after, words_after, words_of}
+use Rattle.case_maker.specs.Words.{Words, generator_after, words_behind, words_of}
 use Rattle.case_maker.proofs.Taking.{words_of-after}
 use Rattle.case_maker.proofs.Validity.{length-order}
 
 module _ (s : Sizes) (words : Words) (lists : List (List ℕ)) (keys : List (List Key))
-    (drawn : HasDrawn s (words_after s.programmes words) s.candidates lists keys) where
+    (drawn : HasDrawn s (words_behind s.programmes words) s.candidates lists keys) where
   -- the words of the candidates
   abbrev rest : Words
-  rest = words_after s.programmes words
+  rest = words_behind s.programmes words
 
   order-at : (kind : ℕ) → kind < s.types
       → slice_index_or (map turn_order keys) kind [] ≡ made_order s rest kind
@@ -57,7 +57,7 @@ module _ (s : Sizes) (words : Words) (lists : List (List ℕ)) (keys : List (Lis
       → programmes ≡ made_programmes s words
       → orders ≡ map turn_order keys
       → ranks ≡ map (λ order. range_with_len 1 (length order)) orders
-      → problem s.types programmes lists orders ranks ≡ market_of s words
+      → problem s.types programmes lists orders ranks ≡ made_problem s words
   parts-made programmes orders ranks programmes_are orders_are ranks_are =
       let made = made_programmes s words in
       let drawn_lists = made_lists s rest s.candidates in
@@ -72,7 +72,7 @@ module _ (s : Sizes) (words : Words) (lists : List (List ℕ)) (keys : List (Lis
 module _ (s : Sizes) (start at : Lcg) (lists : List (List ℕ)) (keys : List (List Key))
     (taken : at ≡ generator_after s.programmes start)
     (drawn : HasDrawn s (words_of at) s.candidates lists keys) where
-  drawn-behind : HasDrawn s (words_after s.programmes (words_of start)) s.candidates lists keys
+  drawn-behind : HasDrawn s (words_behind s.programmes (words_of start)) s.candidates lists keys
   drawn-behind =
       subst (λ w. HasDrawn s w s.candidates lists keys)
       (ap words_of taken ∙ words_of-after s.programmes start) drawn
@@ -90,5 +90,5 @@ module _ (s : Sizes) (start at : Lcg) (lists : List (List ℕ)) (keys : List (Li
       → programmes ≡ made_programmes s (words_of start)
       → orders ≡ map turn_order keys
       → ranks ≡ map (λ order. range_with_len 1 (length order)) orders
-      → problem s.types programmes lists orders ranks ≡ market_of s (words_of start)
+      → problem s.types programmes lists orders ranks ≡ made_problem s (words_of start)
   market-made = parts-made s (words_of start) lists keys drawn-behind

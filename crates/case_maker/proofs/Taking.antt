@@ -3,7 +3,7 @@ use Rattle.std.proofs.Common.{◌≡◌, ℕ, zero, suc, ◌+◌, refl, sym, ap,
 use mathlib.Core.Path.{fun_ext}
 use Rattle.rand_pcg.specs.Lcg.{Lcg, started, increment_of}
 use Rattle.rand_pcg.specs.Pcg.{multiplier_64, pcg32}
-use Rattle.case_maker.specs.Words.{generator_after, seeded, words_of, words_after}
+use Rattle.case_maker.specs.Words.{generator_after, seeded, words_of, words_behind}
 
 -- the generator of a seed, as it is begun
 pub seeded-is : (seed : ℕ) → started 64 multiplier_64 seed (increment_of 64 0) ≡ seeded seed
@@ -31,7 +31,8 @@ unfolding words_of
 word_after n k g = ap (λ h. (pcg32 h).0) (after_after k n g)
 
 -- the words that are left
-pub words_of-after : (n : ℕ) (g : Lcg) → words_of (generator_after n g) ≡ words_after n (words_of g)
+pub words_of-after : (n : ℕ) (g : Lcg) → words_of (generator_after n g)
+    ≡ words_behind n (words_of g)
 words_of-after n g = fun_ext (λ k. word_after n k g)
 
 word-next : (g : Lcg) → (pcg32 g).0 ≡ words_of g 0

@@ -8,9 +8,9 @@ use Rattle.market.specs.Problems.{IsValid, HasNoRepeats, kind_of, quota_of, list
 use Rattle.market.specs.declared.programme.Prog.{Prog}
 use Rattle.market.specs.declared.limits.TheConstants.{MAX_PROGRAMMES, MAX_CANDIDATES}
 use Rattle.case_maker.specs.declared.sizes.Sizes.{Sizes}
-use Rattle.case_maker.specs.Words.{Words, words_after, words_of, seeded}
+use Rattle.case_maker.specs.Words.{Words, words_behind, words_of, seeded}
 use Rattle.case_maker.specs.Draws.{draw_count, drawn_entries, drawn_list, list_words}
-use Rattle.case_maker.specs.MadeMarkets.{AreFit, HasSizes, programme_of, own_words, made_keys, made_market, made_order, made_ranks, market_of}
+use Rattle.case_maker.specs.MadeMarkets.{AreFit, HasSizes, drawn_programme, own_words, made_keys, made_market, made_order, made_ranks, made_problem}
 use Rattle.market.proofs.Copies.{copies, copies-at, no_repeats}
 use Rattle.case_maker.proofs.Repeats.{All-without_repeats, HasNoRepeats-without_repeats, length-without_repeats}
 use Rattle.case_maker.proofs.Ordering.{copies-turn_order, length-turn_order}
@@ -83,37 +83,37 @@ module _ (s : Sizes) (words : Words) where
 -- what stands in the market
 module _ (s : Sizes) (words : Words) where
   abbrev rest : Words
-  rest = words_after s.programmes words
+  rest = words_behind s.programmes words
 
   abbrev one : ℕ → Prog
-  one index = programme_of s (words index) index
+  one index = drawn_programme s (words index) index
 
-  kind-at : (p : ℕ) → p < s.programmes → kind_of (market_of s words) p ≡ p % s.types
+  kind-at : (p : ℕ) → p < s.programmes → kind_of (made_problem s words) p ≡ p % s.types
   unfolding kind_of
   kind-at p lt = ap (λ q. q.kind)
       (get_or-map-range_with_len one 0 s.programmes p p no_programme lt (zero-add p))
 
-  quota-at : (p : ℕ) → p < s.programmes → quota_of (market_of s words) p ≡ (one p).quota
+  quota-at : (p : ℕ) → p < s.programmes → quota_of (made_problem s words) p ≡ (one p).quota
   unfolding quota_of
   quota-at p lt = ap (λ q. q.quota)
       (get_or-map-range_with_len one 0 s.programmes p p no_programme lt (zero-add p))
 
   list-at : (i : ℕ) → i < s.candidates
-      → list_of (market_of s words) i ≡ drawn_list s.programmes (own_words s rest i)
+      → list_of (made_problem s words) i ≡ drawn_list s.programmes (own_words s rest i)
   unfolding list_of
   list-at i lt = get_or-map-range_with_len
       (λ i. drawn_list s.programmes (own_words s rest i)) 0 s.candidates i i [] lt (zero-add i)
 
-  order-at : (t : ℕ) → t < s.types → order_of (market_of s words) t ≡ made_order s rest t
+  order-at : (t : ℕ) → t < s.types → order_of (made_problem s words) t ≡ made_order s rest t
   unfolding order_of
   order-at t lt = get_or-map-range_with_len (made_order s rest) 0 s.types t t [] lt (zero-add t)
 
-  ranks-at : (t : ℕ) → t < s.types → ranks_of (market_of s words) t ≡ made_ranks s rest t
+  ranks-at : (t : ℕ) → t < s.types → ranks_of (made_problem s words) t ≡ made_ranks s rest t
   unfolding ranks_of
   ranks-at t lt = get_or-map-range_with_len (made_ranks s rest) 0 s.types t t [] lt (zero-add t)
 
-  rank-at : (t k : ℕ) → t < s.types → k < length (ranks_of (market_of s words) t)
-      → slice_index (ranks_of (market_of s words) t) k ≡ 1 + k
+  rank-at : (t k : ℕ) → t < s.types → k < length (ranks_of (made_problem s words) t)
+      → slice_index (ranks_of (made_problem s words) t) k ≡ 1 + k
   rank-at t k lt inside =
       let turns = length (made_order s rest t) in
       let size = ap (λ xs. length {A = ℕ} xs) (ranks-at t lt) in
@@ -122,13 +122,13 @@ module _ (s : Sizes) (words : Words) where
       ∙ get_or-range_with_len 1 turns k 0 (omega arith)
 
   ranks-length : (t : ℕ) → t < s.types
-      → length (ranks_of (market_of s words) t) ≡ length (made_order s rest t)
+      → length (ranks_of (made_problem s words) t) ≡ length (made_order s rest t)
   ranks-length t lt =
       ap (λ xs. length {A = ℕ} xs) (ranks-at t lt)
       ∙ length-range_with_len 1 (length (made_order s rest t))
 
-  pub market_of-sizes : HasSizes (market_of s words) s.candidates s.programmes s.types
-  market_of-sizes = record {
+  pub made_problem-sizes : HasSizes (made_problem s words) s.candidates s.programmes s.types
+  made_problem-sizes = record {
     candidates_are = length-map-range_with_len
         (λ i. drawn_list s.programmes (own_words s rest i)) 0 s.candidates;
     programmes_are = length-map-range_with_len one 0 s.programmes;
@@ -141,11 +141,11 @@ module _ (s : Sizes) (words : Words) where
         omega arith;
   }
 
-  pub market_of-valid : AreFit s → IsValid (market_of s words)
-  market_of-valid fit =
-      let m = market_of s words in
-      let n : length m.lists ≡ s.candidates = market_of-sizes.candidates_are in
-      let p_n : length m.programmes ≡ s.programmes = market_of-sizes.programmes_are in
+  pub made_problem-valid : AreFit s → IsValid (made_problem s words)
+  made_problem-valid fit =
+      let m = made_problem s words in
+      let n : length m.lists ≡ s.candidates = made_problem-sizes.candidates_are in
+      let p_n : length m.programmes ≡ s.programmes = made_problem-sizes.programmes_are in
       let few : s.candidates ≤ MAX_CANDIDATES = fit.candidates in
       let few_p : s.programmes ≤ MAX_PROGRAMMES = fit.programmes in
       record {
@@ -195,11 +195,12 @@ pub made_market-valid : (seed candidates programmes types : ℕ)
     → AreFit (record { candidates = candidates; programmes = programmes; types = types })
     → IsValid (made_market seed candidates programmes types)
 unfolding made_market
-made_market-valid seed candidates programmes types fit = market_of-valid _ (words_of (seeded seed)) fit
+made_market-valid seed candidates programmes types fit = made_problem-valid _
+    (words_of (seeded seed)) fit
 
 pub made_market-sizes : (seed candidates programmes types : ℕ)
     → HasSizes (made_market seed candidates programmes types) candidates programmes types
 unfolding made_market
 made_market-sizes seed candidates programmes types =
-    market_of-sizes (record { candidates = candidates; programmes = programmes; types = types })
+    made_problem-sizes (record { candidates = candidates; programmes = programmes; types = types })
     (words_of (seeded seed))

@@ -2,7 +2,7 @@
 use Rattle.std.specs.Prelude.{◌≡◌, ℕ, ◌<◌, ◌≤◌, List, [], ◌++◌, length, slice_index_or}
 use Rattle.std.specs.List.{cons_option}
 use Rattle.case_maker.specs.Words.{Words}
-use Rattle.case_maker.specs.Draws.{Key, key_of}
+use Rattle.case_maker.specs.Draws.{Key, word_key}
 use Rattle.case_maker.specs.MadeMarkets.{made_lists, made_keys}
 use Rattle.case_maker.specs.declared.sizes.Sizes.{Sizes}
 
@@ -19,5 +19,5 @@ pub record HasGained (words : Words) (candidate : ℕ) (old new : List (List Key
     : Type 0 where
   pub types : length new ≡ length old
   pub gained : (kind : ℕ) → kind < count → slice_index_or new kind []
-      ≡ slice_index_or old kind [] ++ cons_option (key_of (words kind) candidate) []
+      ≡ slice_index_or old kind [] ++ cons_option (word_key (words kind) candidate) []
   pub others : (kind : ℕ) → count ≤ kind → slice_index_or new kind [] ≡ slice_index_or old kind []

@@ -26,8 +26,8 @@ abbrev pub Key : Type 0
 Key = ℕ × ℕ
 
 -- the key that a word gives a candidate in a type: the word itself; one word in eight gives no rank
-abbrev pub key_of : ℕ → ℕ → Option Key
-key_of word candidate = if word % 8 == 0 then None else Some (word, candidate)
+abbrev pub word_key : ℕ → ℕ → Option Key
+word_key word candidate = if word % 8 == 0 then None else Some (word, candidate)
 
 -- how many words come before those of the types
 abbrev pub list_words : ℕ → Words → ℕ
@@ -36,8 +36,8 @@ list_words programmes words = 1 + draw_count programmes words
 -- the key in a type
 abbrev pub drawn_key : ℕ → Words → ℕ → ℕ → Option Key
 drawn_key programmes words kind candidate =
-    key_of (words (list_words programmes words + kind)) candidate
+    word_key (words (list_words programmes words + kind)) candidate
 
 -- how many words are drawn in all
-abbrev pub word_count : ℕ → ℕ → Words → ℕ
-word_count programmes types words = list_words programmes words + types
+abbrev pub drawn_word_count : ℕ → ℕ → Words → ℕ
+drawn_word_count programmes types words = list_words programmes words + types

@@ -4,8 +4,8 @@ use Rattle.std.specs.List.{filter_map, range_with_len}
 use Rattle.market.specs.Problems.{Problem, list_of, problem}
 use Rattle.market.specs.declared.limits.TheConstants.{MAX_TYPES, MAX_PROGRAMMES, MAX_CANDIDATES}
 use Rattle.market.specs.declared.programme.Prog.{Prog}
-use Rattle.case_maker.specs.Words.{Words, words_of, words_after, seeded}
-use Rattle.case_maker.specs.Draws.{Key, drawn_list, drawn_key, word_count}
+use Rattle.case_maker.specs.Words.{Words, words_of, words_behind, seeded}
+use Rattle.case_maker.specs.Draws.{Key, drawn_list, drawn_key, drawn_word_count}
 use Rattle.case_maker.specs.Turns.{turn_order}
 use Rattle.case_maker.specs.declared.sizes.Sizes.{Sizes}
 
@@ -17,8 +17,8 @@ pub record AreFit (sizes : Sizes) : Type 0 where
   pub some_type : 0 < sizes.types
 
 -- the programme that a word gives: its type by its index, its quota by the word, at most 100,000
-abbrev pub programme_of : Sizes → ℕ → ℕ → Prog
-programme_of sizes word index = record {
+abbrev pub drawn_programme : Sizes → ℕ → ℕ → Prog
+drawn_programme sizes word index = record {
   kind = index % sizes.types;
   quota = min 100000 (word % (2 * (sizes.candidates / sizes.programmes) + 2));
 }
@@ -26,18 +26,18 @@ programme_of sizes word index = record {
 -- the programmes: a word for each, the first of all words
 abbrev pub made_programmes : Sizes → Words → List Prog
 made_programmes sizes words =
-    map (λ index. programme_of sizes (words index) index) (range_with_len 0 sizes.programmes)
+    map (λ index. drawn_programme sizes (words index) index) (range_with_len 0 sizes.programmes)
 
 -- how many words the candidates before this one draw
 unfoldable pub words_before : Sizes → Words → ℕ → ℕ
 words_before sizes words zero = 0
 words_before sizes words (suc candidate) =
     let before = words_before sizes words candidate in
-    before + word_count sizes.programmes sizes.types (words_after before words)
+    before + drawn_word_count sizes.programmes sizes.types (words_behind before words)
 
 -- the words of a candidate, among those of all candidates
 abbrev pub own_words : Sizes → Words → ℕ → Words
-own_words sizes words candidate = words_after (words_before sizes words candidate) words
+own_words sizes words candidate = words_behind (words_before sizes words candidate) words
 
 -- the preference lists of the first so many candidates
 abbrev pub made_lists : Sizes → Words → ℕ → List (List ℕ)
@@ -60,9 +60,9 @@ abbrev pub made_ranks : Sizes → Words → ℕ → List ℕ
 made_ranks sizes words kind = range_with_len 1 (length (made_order sizes words kind))
 
 -- the market that words give: first the programmes draw, then the candidates
-abbrev pub market_of : Sizes → Words → Problem
-market_of sizes words =
-    let rest = words_after sizes.programmes words in
+abbrev pub made_problem : Sizes → Words → Problem
+made_problem sizes words =
+    let rest = words_behind sizes.programmes words in
     problem sizes.types
     (made_programmes sizes words)
     (made_lists sizes rest sizes.candidates)
@@ -72,7 +72,7 @@ market_of sizes words =
 -- the market of a seed, with so many candidates, programmes and types
 unfoldable pub made_market : ℕ → ℕ → ℕ → ℕ → Problem
 made_market seed candidates programmes types =
-    market_of (record { candidates = candidates; programmes = programmes; types = types })
+    made_problem (record { candidates = candidates; programmes = programmes; types = types })
     (words_of (seeded seed))
 
 -- a market has so many candidates, programmes and types, and lists of at most 24 entries

@@ -21,5 +21,5 @@ unfoldable pub seeded : ℕ → Lcg
 seeded seed = started 64 multiplier_64 seed (increment_of 64 0)
 
 -- the words behind the first so many
-abbrev pub words_after : ℕ → Words → Words
-words_after count words n = words (count + n)
+abbrev pub words_behind : ℕ → Words → Words
+words_behind count words n = words (count + n)

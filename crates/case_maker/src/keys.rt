@@ -3,7 +3,7 @@
 ghost use Rattle.std.specs.Prelude.{◌≡◌, ◌++◌, ◌≤◌, ◌%◌, [], map, IfOk, OnOk};
 ghost use Rattle.std.specs.List.{cons_option, range_with_len};
 ghost use Rattle.market.specs.declared.limits.TheConstants.{MAX_CANDIDATES};
-ghost use Rattle.case_maker.specs.Draws.{key_of};
+ghost use Rattle.case_maker.specs.Draws.{word_key};
 ghost use Rattle.case_maker.specs.Turns.{turn_order};
 
 use market::List;
@@ -46,7 +46,7 @@ impl Keys {
 
     /// Adds the key that a word gives the candidate, if it gives one.
     pub(crate) fn add(&mut self, word: u32, candidate: u32) -> Result<(), AllocError>
-        ensures { OnOk result (self.new ≡ self.old ++ cons_option (key_of word candidate) []) }
+        ensures { OnOk result (self.new ≡ self.old ++ cons_option (word_key word candidate) []) }
     {
         if word % NO_RANK_DIVISOR == 0 {
             return Ok(());

@@ -4,7 +4,7 @@ ghost use Rattle.std.specs.Prelude.{◌≡◌, ◌<◌, ◌≤◌, ℕ, [], map,
 ghost use Rattle.std.specs.List.{range_with_len};
 ghost use Rattle.market.specs.Problems.{IsValid};
 ghost use Rattle.market.specs.declared.limits.TheConstants.{MAX_CANDIDATES, MAX_PROGRAMMES, MAX_TYPES};
-ghost use Rattle.case_maker.specs.MadeMarkets.{AreFit, HasSizes, made_market, market_of};
+ghost use Rattle.case_maker.specs.MadeMarkets.{AreFit, HasSizes, made_market, made_problem};
 ghost use Rattle.case_maker.specs.Turns.{turn_order};
 ghost use Rattle.case_maker.specs.Words.{seeded, words_of};
 
@@ -51,7 +51,7 @@ pub fn make_market(
 // The market of a seed.
 fn make(alloc: Global, seed: u64, sizes: Sizes) -> Result<Market, AllocError>
     requires { AreFit sizes }
-    ensures { IfOk result (λ m. m ≡ market_of sizes (words_of (seeded seed))) }
+    ensures { IfOk result (λ m. m ≡ made_problem sizes (words_of (seeded seed))) }
 {
     let mut words = Lcg64Xsh32::new(seed, 0);
     let made = draw_programmes(alloc, &mut words, sizes)?;

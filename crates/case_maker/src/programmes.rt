@@ -1,7 +1,7 @@
 // The programmes.
 
 ghost use Rattle.std.specs.Prelude.{◌≡◌, ◌<◌, IfOk, OnOk};
-ghost use Rattle.case_maker.specs.MadeMarkets.{AreFit, made_programmes, programme_of as made_programme};
+ghost use Rattle.case_maker.specs.MadeMarkets.{AreFit, made_programmes, drawn_programme as made_programme};
 ghost use Rattle.case_maker.specs.Words.{generator_after, words_of};
 
 use crate::sizes::Sizes;
@@ -23,14 +23,14 @@ pub(crate) fn draw_programmes(
     let mut made = Vec::with_capacity(alloc, sizes.programmes as usize)?;
     for index in 0..sizes.programmes {
         let word = words.next_word();
-        made.push(programme_of(sizes, word, index))?;
+        made.push(drawn_programme(sizes, word, index))?;
     }
     Ok(made)
 }
 
 // The programme that a word gives. Quotas below this bound are expected to add up to about the
 // number of candidates.
-fn programme_of(sizes: Sizes, word: u32, index: u32) -> Prog
+fn drawn_programme(sizes: Sizes, word: u32, index: u32) -> Prog
     requires fit { AreFit sizes }
     requires one { index < sizes.programmes }
     ensures { result ≡ made_programme sizes word index }

@@ -9,7 +9,7 @@ use Rattle.interleaving_core.specs.declared.parts.Phase.TheVariants.{Idle, Halte
 use Rattle.interleaving_core.specs.Core.{turn_count, entry, is_committed, hold_at}
 use Rattle.interleaving_core.specs.Events.{Looks, Weighs, Seats, Seals, Releases, IsAllowed, CanSeal, phase_after_look}
 use Rattle.word_rule.specs.Layout.{cell_of}
-use Rattle.word_rule.specs.Copies.{place_of}
+use Rattle.word_rule.specs.Copies.{phase_place}
 use Rattle.word_rule.specs.Views.{SeatMe}
 use Rattle.word_rule.specs.Holder.{look_by, TellsLook}
 use Rattle.word_rule.proofs.Layouts.{place_in, shows_small}
@@ -68,7 +68,7 @@ pub next_entry : (round : SharedRound) (me : WorkSeat) (place : ℕ) → IsSeatO
     → me.phase ≡ Some (Scan place) → MayWeigh me → NextEntry round me place
 next_entry round me place of_round is m =
     let h = held me m.committed (Scan m.place) m.allowed.0 in
-    let same : m.place ≡ place = ap (λ o. place_of (phase_or o)) (sym h.0 ∙ is) in
+    let same : m.place ≡ place = ap (λ o. phase_place (phase_or o)) (sym h.0 ∙ is) in
     let may = subst
     (λ (z : Dictatorship × (ℕ × ℕ)). IsAllowed z.0 (knows me).core (Weighs z.1.0 z.1.1))
     (λ i. (of_round.dict i, (sym h.1 i, same i))) m.allowed in
@@ -95,7 +95,7 @@ pub next_seat : (round : SharedRound) (me : WorkSeat) (place : ℕ) → IsSeatOf
     → me.phase ≡ Some (Ready place) → MaySeat me → NextSeat round me place
 next_seat round me place of_round is m =
     let h = held me m.committed (Ready m.place) m.allowed in
-    let same : m.place ≡ place = ap (λ o. place_of (phase_or o)) (sym h.0 ∙ is) in
+    let same : m.place ≡ place = ap (λ o. phase_place (phase_or o)) (sym h.0 ∙ is) in
     let may = subst
     (λ (z : Dictatorship × (ℕ × ℕ)). IsAllowed z.0 (knows me).core (Seats z.1.0 z.1.1))
     (λ i. (of_round.dict i, (sym h.1 i, same i))) m.allowed in
@@ -119,7 +119,7 @@ pub record NextSeal (round : SharedRound) (me : WorkSeat) (place : ℕ) : Type 0
   pub turn : me.committed < turn_count (dict_of round)
   pub short : place ≤ 48
 
-seal_place : (places j : ℕ) (x : Phase) → CanSeal places j x → place_of x ≡ j
+seal_place : (places j : ℕ) (x : Phase) → CanSeal places j x → phase_place x ≡ j
 seal_place places j Idle e = absurd e
 seal_place places j Halted e = absurd e
 seal_place places j (Scan i) e = e.0
@@ -128,12 +128,12 @@ seal_place places j (Seated i filled) e = e.0
 seal_place places j (Raised i) e = e
 
 pub next_seal : (round : SharedRound) (me : WorkSeat) (place : ℕ) (x : Phase) → IsSeatOf round me
-    → me.phase ≡ Some x → place_of x ≡ place → MaySeal me → NextSeal round me place
+    → me.phase ≡ Some x → phase_place x ≡ place → MaySeal me → NextSeal round me place
 next_seal round me place x of_round is at m =
     let h = held me m.committed m.phase m.allowed.0 in
     let same_phase : m.phase ≡ x = ap phase_or (sym h.0 ∙ is) in
     let same : m.place ≡ place =
-    sym (seal_place _ m.place m.phase m.allowed.1) ∙ (ap place_of same_phase ∙ at) in
+    sym (seal_place _ m.place m.phase m.allowed.1) ∙ (ap phase_place same_phase ∙ at) in
     let may = subst
     (λ (z : Dictatorship × (ℕ × ℕ)). IsAllowed z.0 (knows me).core (Seals z.1.0 z.1.1 m.phase))
     (λ i. (of_round.dict i, (sym h.1 i, same i))) m.allowed in

@@ -1,7 +1,7 @@
 // The six calls of the mark's holder, and of who tries to take it.
 
 ghost use Rattle.std.specs.Prelude.{◌≡◌};
-ghost use Rattle.word_rule.specs.Copies.{place_of};
+ghost use Rattle.word_rule.specs.Copies.{phase_place};
 ghost use Rattle.word_rule.specs.Rounds.{IsSeatOf, Stays, dict_of};
 ghost use Rattle.commit_book.specs.Holder.{MayTake, MayLook, MayWeigh, MaySeat, MaySeal, MayRelease};
 ghost use Rattle.commit_book.specs.Holder.{IsTake, IsLook, IsWeigh, IsSeat, IsSeal, IsRelease};
@@ -128,7 +128,7 @@ pub fn seal(round: &SharedRound, dict: &Dict, me: &mut WorkSeat) -> u32
 
 // The holder's place in the list of the first uncommitted turn, 0 in a phase that has none.
 fn place_in(phase: PhaseCopy) -> u32
-    ensures { result ≡ place_of phase }
+    ensures { result ≡ phase_place phase }
 {
     match phase {
         PhaseCopy::Scan(place)

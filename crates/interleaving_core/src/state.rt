@@ -23,7 +23,6 @@ use std::marker::Model;
 
 /// A core state with the dictatorship that it runs. It makes one event at a time, takes no memory
 /// once it is open, and is sound whatever it is asked to do.
-#[derive(Drop)]
 pub struct CoreState {
     dict: Dict,
     claim_number: u32,
@@ -33,6 +32,22 @@ pub struct CoreState {
     cells: Vec<Cell>,
     flags: Vec<u64>,
     workers: Vec<Worker>,
+}
+
+// By hand, so that letting one go is one call in the proof of whoever holds it.
+impl Drop for CoreState {
+    fn drop(self) {
+        let Self {
+            dict: _dict,
+            claim_number: _,
+            mark_held: _,
+            mark_number: _,
+            seats: _seats,
+            cells: _cells,
+            flags: _flags,
+            workers: _workers,
+        } = self;
+    }
 }
 
 impl Model for CoreState {

@@ -10,7 +10,7 @@ use Rattle.std.proofs.lemmas.List.Sums.{position_or_len_is, prefix_len-le-length
 use Rattle.market.specs.Counting.{is_programme, count_below}
 use Rattle.market.specs.Problems.{Problem, IsValid, place_of, programme_at, kind_of, list_of, order_of, turn_of}
 use Rattle.market.specs.Mechanism.{IsCuts, has_several_in, best_in, cut_in, cuts_in, several_in}
-use Rattle.market.specs.Choices.{programme_in, IsWithinCuts}
+use Rattle.market.specs.Choices.{held_in_table, IsWithinCuts}
 use Rattle.market.specs.Reruns.{is_beyond, is_cut_away, changed_turn, turn_or_none, least_turn, noted}
 use Rattle.market.specs.declared.programme.Prog.{Prog}
 use Rattle.market.proofs.Turns.{one_more, no_more, is_programme-from, some_from}
@@ -46,32 +46,32 @@ first-le f xs p t l =
 -- the best of several choices stands within the cut
 pub best-within : (m : Problem) (table : List (List (Option ℕ))) (cuts : List ℕ) (i : ℕ)
     → IsCuts m cuts → IsWithinCuts m table cuts → i < length m.lists
-    → has_several_in m (programme_in table) i ≡ true
-    → best_in m (programme_in table) i < slice_index cuts i
+    → has_several_in m (held_in_table table) i ≡ true
+    → best_in m (held_in_table table) i < slice_index cuts i
 unfolding has_several_in best_in
 best-within m table cuts i f w l e =
-    let two = count_some_two (λ t. is_some (programme_in table t i)) m.types (ltb-true _ _ e) in
-    let s = some_from (programme_in table two.first i) two.first_passes in
+    let two = count_some_two (λ t. is_some (held_in_table table t i)) m.types (ltb-true _ _ e) in
+    let s = some_from (held_in_table table two.first i) two.first_passes in
     let in_cut = w.within two.first i s.0 s.1 in
     let fits = f.within i l in
     let k = w.kind two.first i s.0 s.1 in
-    let t = is_programme-from s.0 (programme_in table (kind_of m s.0) i)
-    (ap (λ (u : ℕ). programme_in table u i) k ∙ s.1) in
-    let h = first-le (λ p. is_programme p (programme_in table (kind_of m p) i)) (list_of m i) s.0 t
+    let t = is_programme-from s.0 (held_in_table table (kind_of m s.0) i)
+    (ap (λ (u : ℕ). held_in_table table u i) k ∙ s.1) in
+    let h = first-le (λ p. is_programme p (held_in_table table (kind_of m p) i)) (list_of m i) s.0 t
     (omega arith) in
     omega arith
 
 -- who is not cut loses no choice
 pub uncut : (m : Problem) (table : List (List (Option ℕ))) (cuts : List ℕ) (t i : ℕ)
-    → IsWithinCuts m table cuts → has_several_in m (programme_in table) i ≡ false
-    → is_cut_away m (programme_in table) cuts t i ≡ false
+    → IsWithinCuts m table cuts → has_several_in m (held_in_table table) i ≡ false
+    → is_cut_away m (held_in_table table) cuts t i ≡ false
 unfolding is_cut_away
 uncut m table cuts t i w e =
-    ap (λ (n : ℕ). is_beyond (list_of m i) n (programme_in table t i))
-    (cut-same m (programme_in table) cuts i e)
-    ∙ by_choice (programme_in table t i) refl
+    ap (λ (n : ℕ). is_beyond (list_of m i) n (held_in_table table t i))
+    (cut-same m (held_in_table table) cuts i e)
+    ∙ by_choice (held_in_table table t i) refl
   where
-    by_choice : (o : Option ℕ) → programme_in table t i ≡ o
+    by_choice : (o : Option ℕ) → held_in_table table t i ≡ o
         → is_beyond (list_of m i) (slice_index cuts i) o ≡ false
     by_choice None h = refl
     by_choice (Some p) h = ap not (lt-ltb _ _ (w.within t i p h))
@@ -250,31 +250,31 @@ some_away list cut (Some p) e = (p, refl)
 
 -- a choice that is cut away is a programme
 away_some : (m : Problem) (table : List (List (Option ℕ))) (old : List ℕ) (t k : ℕ)
-    → is_cut_away m (programme_in table) old t k ≡ true → (p : ℕ) × (programme_in table t k ≡ Some
+    → is_cut_away m (held_in_table table) old t k ≡ true → (p : ℕ) × (held_in_table table t k ≡ Some
     p)
 unfolding is_cut_away
 away_some m table old t k h =
-    some_away (list_of m k) (cut_in m (programme_in table) old k) (programme_in table t k) h
+    some_away (list_of m k) (cut_in m (held_in_table table) old k) (held_in_table table t k) h
 
 -- a candidate who is cut, and whose choice in the type may be cut away
 pub IsFirstUpto-cut : (m : Problem) (table : List (List (Option ℕ))) (old : List ℕ) (t k : ℕ)
     (o new : Option ℕ)
     → IsWithinCuts m table old
-    → new ≡ noted (is_cut_away m (programme_in table) old t k) o (turn_of m t k)
-    → IsFirstUpto m (programme_in table) old t k o → IsFirstUpto m (programme_in table) old t (k +
+    → new ≡ noted (is_cut_away m (held_in_table table) old t k) o (turn_of m t k)
+    → IsFirstUpto m (held_in_table table) old t k o → IsFirstUpto m (held_in_table table) old t (k +
     1) new
 IsFirstUpto-cut m table old t k o new w e f =
     ⊎_elim
     (λ yes'.
     let away = away_some m table old t k yes' in
-    subst (IsFirstUpto m (programme_in table) old t (k + 1))
+    subst (IsFirstUpto m (held_in_table table) old t (k + 1))
     (sym (e ∙ ap (λ (b : Bool). noted b o (turn_of m t k)) yes'))
-    (IsFirstUpto-note m (programme_in table) old t k o (w.turn t k away.0 away.1) yes' f))
+    (IsFirstUpto-note m (held_in_table table) old t k o (w.turn t k away.0 away.1) yes' f))
     (λ no'.
-    subst (IsFirstUpto m (programme_in table) old t (k + 1))
+    subst (IsFirstUpto m (held_in_table table) old t (k + 1))
     (sym (e ∙ ap (λ (b : Bool). noted b o (turn_of m t k)) no'))
-    (IsFirstUpto-keep m (programme_in table) old t k o no' f))
-    (cases_Bool (is_cut_away m (programme_in table) old t k))
+    (IsFirstUpto-keep m (held_in_table table) old t k o no' f))
+    (cases_Bool (is_cut_away m (held_in_table table) old t k))
 
 -- after all candidates this is the first changed turn of the type
 pub IsFirstUpto-all : (m : Problem) → IsValid m

@@ -13,7 +13,7 @@ use Rattle.market.specs.Stability.{held_by}
 use Rattle.market.specs.Dictatorships.{pick, seats_taken}
 use Rattle.market.specs.Mechanism.{tentative, type_dictatorship, has_several, best_place, is_taken, next_cut, next_cuts, several_count, best_programmes, best_programme, best_in, cut_in, cuts_in, has_several_in, several_in}
 use Rattle.market.specs.LocalNumbers.{programmes_of, local_of, IsFill, IsFillBefore}
-use Rattle.market.specs.Choices.{IsRound, programme_in, empty_table, IsTable, IsWithinCuts, best_programmes_in, FitsNumber}
+use Rattle.market.specs.Choices.{IsRound, held_in_table, empty_table, IsChoiceTable, IsWithinCuts, best_programmes_in, FitsNumber}
 use Rattle.market.specs.Reruns.{is_beyond, is_cut_away, first_changed, changed_turn, IsRunUpto, kept_seats, IsKeptFill}
 use Rattle.market.proofs.Firsts.{place_get}
 use Rattle.market.proofs.Seats.{position_agree}
@@ -28,26 +28,26 @@ use Rattle.market.proofs.Reruns.{keeps_upto, no_turn_none}
 
 -- a round's table has a row for each type, with an entry for each candidate
 pub round-table : (m : Problem) (cuts : List ℕ) (table : List (List (Option ℕ)))
-    → IsRound m cuts table → IsTable m table
+    → IsRound m cuts table → IsChoiceTable m table
 round-table m cuts table r = record { types = r.types; candidates = r.candidates }
 
 -- who has several choices in it has several tentative programmes
 pub round-several : (m : Problem) (cuts : List ℕ) (table : List (List (Option ℕ))) (i : ℕ)
     → IsRound m cuts table → i < length m.lists
-    → has_several_in m (programme_in table) i ≡ has_several m cuts i
+    → has_several_in m (held_in_table table) i ≡ has_several m cuts i
 unfolding has_several_in has_several
 round-several m cuts table i r l =
-    ap (nat_lt 1) (count_agree (λ t. is_some (programme_in table t i))
+    ap (nat_lt 1) (count_agree (λ t. is_some (held_in_table table t i))
     (λ t. is_some (tentative m cuts t i)) m.types
     (λ t lt. ap (λ (o : Option ℕ). is_some o) (r.each t i lt l)))
 
 -- the best choice is the best tentative programme
 pub round-best : (m : Problem) → IsValid m
     → (cuts : List ℕ) (table : List (List (Option ℕ))) (i : ℕ) → IsRound m cuts table
-    → i < length m.lists → best_in m (programme_in table) i ≡ best_place m cuts i
+    → i < length m.lists → best_in m (held_in_table table) i ≡ best_place m cuts i
 unfolding best_in best_place is_taken
 round-best m v cuts table i r l =
-    position_agree (λ p. is_programme p (programme_in table (kind_of m p) i))
+    position_agree (λ p. is_programme p (held_in_table table (kind_of m p) i))
     (λ p. is_programme p (tentative m cuts (kind_of m p) i)) (list_of m i)
     (λ j lj. let p = slice_index (list_of m i) j in ap (is_programme p)
     (r.each (kind_of m p) i (v.kinds p (entry_lt m v i j l lj)) l))
@@ -55,42 +55,42 @@ round-best m v cuts table i r l =
 -- a candidate's next cut, read from the table
 pub round-cut : (m : Problem) → IsValid m → (cuts : List ℕ) (table : List (List (Option ℕ))) (i : ℕ)
     → IsRound m cuts table → i < length m.lists
-    → cut_in m (programme_in table) cuts i ≡ next_cut m cuts i
+    → cut_in m (held_in_table table) cuts i ≡ next_cut m cuts i
 unfolding cut_in next_cut has_several has_several_in best_place best_in
 round-cut m v cuts table i r l =
-    ap (λ (b : Bool). cond b (best_in m (programme_in table) i + 1) (slice_index cuts i))
+    ap (λ (b : Bool). cond b (best_in m (held_in_table table) i + 1) (slice_index cuts i))
     (round-several m cuts table i r l)
     ∙ ap (λ (n : ℕ). cond (has_several m cuts i) (n + 1) (slice_index cuts i))
     (round-best m v cuts table i r l)
 
 -- the next cuts, read from the table
 pub round-cuts : (m : Problem) → IsValid m → (cuts : List ℕ) (table : List (List (Option ℕ)))
-    → IsRound m cuts table → cuts_in m (programme_in table) cuts ≡ next_cuts m cuts
+    → IsRound m cuts table → cuts_in m (held_in_table table) cuts ≡ next_cuts m cuts
 unfolding cuts_in next_cuts next_cut cut_in
 round-cuts m v cuts table r =
     fill_by_all (next_cut m cuts)
-    (map (cut_in m (programme_in table) cuts) (range_with_len 0 (length m.lists))) (length m.lists)
+    (map (cut_in m (held_in_table table) cuts) (range_with_len 0 (length m.lists))) (length m.lists)
     0
-    (length-map-range_with_len (cut_in m (programme_in table) cuts) 0 (length m.lists))
-    (λ i l. get_or-map-range_with_len (cut_in m (programme_in table) cuts) 0 (length m.lists) i i 0
+    (length-map-range_with_len (cut_in m (held_in_table table) cuts) 0 (length m.lists))
+    (λ i l. get_or-map-range_with_len (cut_in m (held_in_table table) cuts) 0 (length m.lists) i i 0
     l
     (omega arith) ∙ round-cut m v cuts table i r l)
 
 -- how many have several, read from the table
 pub round-count : (m : Problem) (cuts : List ℕ) (table : List (List (Option ℕ)))
-    → IsRound m cuts table → several_in m (programme_in table) ≡ several_count m cuts
+    → IsRound m cuts table → several_in m (held_in_table table) ≡ several_count m cuts
 unfolding several_in several_count has_several has_several_in
 round-count m cuts table r =
-    count_agree (has_several_in m (programme_in table)) (has_several m cuts) (length m.lists)
+    count_agree (has_several_in m (held_in_table table)) (has_several m cuts) (length m.lists)
     (λ i l. round-several m cuts table i r l)
 
 -- what each gets, read from the table
 pub round-best_programmes : (m : Problem) → IsValid m → (cuts : List ℕ) (table : List (List (Option
     ℕ)))
-    → IsRound m cuts table → best_programmes_in m (programme_in table) ≡ best_programmes m cuts
+    → IsRound m cuts table → best_programmes_in m (held_in_table table) ≡ best_programmes m cuts
 unfolding best_programmes_in best_programmes best_programme
 round-best_programmes m v cuts table r =
-    let f = λ (i : ℕ). slice_get (list_of m i) (best_in m (programme_in table) i) in
+    let f = λ (i : ℕ). slice_get (list_of m i) (best_in m (held_in_table table) i) in
     let g = λ (i : ℕ). slice_get (list_of m i) (best_place m cuts i) in
     fill_by_all g (map f (range_with_len 0 (length m.lists))) (length m.lists) None
     (length-map-range_with_len f 0 (length m.lists))
@@ -98,8 +98,8 @@ round-best_programmes m v cuts table r =
     ∙ ap (slice_get (list_of m i)) (round-best m v cuts table i r l))
 
 -- a choice is one of a type and a candidate that there are
-choice_past : (m : Problem) (table : List (List (Option ℕ))) (t i p : ℕ) → IsTable m table
-    → programme_in table t i ≡ Some p → (t < m.types) × (i < length m.lists)
+choice_past : (m : Problem) (table : List (List (Option ℕ))) (t i p : ℕ) → IsChoiceTable m table
+    → held_in_table table t i ≡ Some p → (t < m.types) × (i < length m.lists)
 choice_past m table t i p s e =
     let n = s.types in
     let lt : t < m.types =
@@ -120,7 +120,7 @@ choice_past m table t i p s e =
 pub round-within : (m : Problem) (cuts : List ℕ) (table : List (List (Option ℕ)))
     → IsRound m cuts table → IsWithinCuts m table cuts
 round-within m cuts table r =
-    let took = λ (t i p : ℕ) (e : programme_in table t i ≡ Some p).
+    let took = λ (t i p : ℕ) (e : held_in_table table t i ≡ Some p).
     let at = choice_past m table t i p (round-table m cuts table r) e in
     tentative-takes m cuts t i p (sym (r.each t i at.0 at.1) ∙ e) in
     record {
@@ -132,21 +132,21 @@ round-within m cuts table r =
 -- whether a choice is cut away, read from the table
 away-agree : (m : Problem) → IsValid m → (cuts : List ℕ) (table : List (List (Option ℕ))) (t i : ℕ)
     → IsRound m cuts table → t < m.types → i < length m.lists
-    → is_cut_away m (programme_in table) cuts t i ≡ is_cut_away m (tentative m cuts) cuts t i
+    → is_cut_away m (held_in_table table) cuts t i ≡ is_cut_away m (tentative m cuts) cuts t i
 unfolding is_cut_away cut_in has_several_in best_in next_cut has_several best_place is_taken
 away-agree m v cuts table t i r lt l =
-    ap (λ (n : ℕ). is_beyond (list_of m i) n (programme_in table t i)) (round-cut m v cuts table i
+    ap (λ (n : ℕ). is_beyond (list_of m i) n (held_in_table table t i)) (round-cut m v cuts table i
     r l)
     ∙ ap (is_beyond (list_of m i) (next_cut m cuts i)) (r.each t i lt l)
 
 -- the first changed turn, read from the table
 pub round-changed : (m : Problem) → IsValid m
     → (cuts : List ℕ) (table : List (List (Option ℕ))) (t : ℕ) → IsRound m cuts table → t < m.types
-    → unwrap_or (changed_turn m (programme_in table) cuts t) (length (order_of m t))
+    → unwrap_or (changed_turn m (held_in_table table) cuts t) (length (order_of m t))
     ≡ first_changed m (tentative m cuts) cuts t
 unfolding changed_turn first_changed
 round-changed m v cuts table t r lt =
-    let f = is_cut_away m (programme_in table) cuts t in
+    let f = is_cut_away m (held_in_table table) cuts t in
     let g = is_cut_away m (tentative m cuts) cuts t in
     let n = length (order_of m t) in
     let same =
@@ -273,7 +273,7 @@ kept-suc m c t k p = refl
 pub kept_at : (m : Problem) → IsValid m
     → (cuts : List ℕ) (table : List (List (Option ℕ))) (t k j : ℕ) → t < m.types
     → k ≤ length (order_of m t) → j < k → IsRunUpto m cuts t k (slice_index_or table t [])
-    → programme_in table t (slice_index (order_of m t) j) ≡ pick (type_dictatorship m cuts t) j
+    → held_in_table table t (slice_index (order_of m t) j) ≡ pick (type_dictatorship m cuts t) j
 kept_at m v cuts table t k j lt le l f =
     let i = slice_index (order_of m t) j in
     let at = turn_at m v t j lt (omega arith) in
@@ -299,10 +299,10 @@ kept_seats-seats_taken m c cuts t p (suc k) h =
 pub kept_fills : (m : Problem) → IsValid m
     → (cuts fill : List ℕ) (table : List (List (Option ℕ))) (t k : ℕ) → t < m.types
     → k ≤ length (order_of m t) → IsRunUpto m cuts t k (slice_index_or table t [])
-    → IsKeptFill m (programme_in table) t k fill → IsFillBefore m cuts t k fill
+    → IsKeptFill m (held_in_table table) t k fill → IsFillBefore m cuts t k fill
 kept_fills m v cuts fill table t k lt le f s j l =
     s.each j l
-    ∙ kept_seats-seats_taken m (programme_in table) cuts t (slice_index (programmes_of m t) j) k
+    ∙ kept_seats-seats_taken m (held_in_table table) cuts t (slice_index (programmes_of m t) j) k
     (λ i li. kept_at m v cuts table t k i lt le li f)
 
 -- these seats are a fill
@@ -323,7 +323,7 @@ kept_fill-fits m cuts fill t k n h = record {
 pub kept_kind : (m : Problem) → IsValid m
     → (cuts : List ℕ) (table : List (List (Option ℕ))) (t k j p : ℕ) → t < m.types
     → k ≤ length (order_of m t) → j < k → IsRunUpto m cuts t k (slice_index_or table t [])
-    → programme_in table t (slice_index (order_of m t) j) ≡ Some p
+    → held_in_table table t (slice_index (order_of m t) j) ≡ Some p
     → (p < length m.programmes) × (kind_of m p ≡ t)
 kept_kind m v cuts table t k j p lt le l f e =
     let i = slice_index (order_of m t) j in

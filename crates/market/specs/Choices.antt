@@ -5,15 +5,15 @@ use Rattle.market.specs.Problems.{Problem, place_of, kind_of, list_of, order_of,
 use Rattle.market.specs.Mechanism.{tentative, best_in}
 
 -- what a table has for a type and a candidate
-abbrev pub programme_in : List (List (Option ℕ)) → ℕ → ℕ → Option ℕ
-programme_in table t i = slice_index_or (slice_index_or table t []) i None
+abbrev pub held_in_table : List (List (Option ℕ)) → ℕ → ℕ → Option ℕ
+held_in_table table t i = slice_index_or (slice_index_or table t []) i None
 
 -- the table with no choice anywhere
 unfoldable pub empty_table : Problem → List (List (Option ℕ))
 empty_table m = replicate m.types (replicate (length m.lists) None)
 
 -- one row for each type, with an entry for each candidate
-pub record IsTable (m : Problem) (table : List (List (Option ℕ))) : Type 0 where
+pub record IsChoiceTable (m : Problem) (table : List (List (Option ℕ))) : Type 0 where
   pub types : length table ≡ m.types
   pub candidates : (t : ℕ) → t < m.types → length (slice_index_or table t []) ≡ length m.lists
 
@@ -37,9 +37,10 @@ FitsNumber (Some p) = p + 1 < 2 ^ 32
 -- the candidate's cut
 pub record IsWithinCuts (m : Problem) (table : List (List (Option ℕ))) (cuts : List ℕ) : Type 0
   where
-    pub kind : (t i p : ℕ) → programme_in table t i ≡ Some p → kind_of m p ≡ t
-    pub turn : (t i p : ℕ) → programme_in table t i ≡ Some p → turn_of m t i < length (order_of m t)
-    pub within : (t i p : ℕ) → programme_in table t i ≡ Some p
+    pub kind : (t i p : ℕ) → held_in_table table t i ≡ Some p → kind_of m p ≡ t
+    pub turn : (t i p : ℕ) → held_in_table table t i ≡ Some p
+        → turn_of m t i < length (order_of m t)
+    pub within : (t i p : ℕ) → held_in_table table t i ≡ Some p
         → place_of p (list_of m i) < slice_index cuts i
 
 -- the best choice of each candidate

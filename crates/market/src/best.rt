@@ -4,7 +4,7 @@ ghost use Rattle.std.specs.Prelude.{◌≡◌, ◌<◌, ◌≤◌, length, slice
 ghost use Rattle.market.specs.Counting.{is_programme};
 ghost use Rattle.market.specs.Problems.{IsValid, kind_of, list_of};
 ghost use Rattle.market.specs.Mechanism.{has_several_in, best_in};
-ghost use Rattle.market.specs.Choices.{programme_in, IsTable, best_programmes_in};
+ghost use Rattle.market.specs.Choices.{held_in_table, IsChoiceTable, best_programmes_in};
 
 use crate::{Market, Tentative};
 use std::alloc::{AllocError, Global};
@@ -14,8 +14,8 @@ impl Tentative {
     #[tactic(auto, unfolding(crate::specs::Mechanism::has_several_in))]
     pub fn has_several(&self, market: &Market, candidate: u32) -> bool
         requires candidate { candidate < length market.now.lists }
-        requires table { IsTable market.now self.now }
-        ensures { result ≡ has_several_in market.now (programme_in self.now) candidate }
+        requires table { IsChoiceTable market.now self.now }
+        ensures { result ≡ has_several_in market.now (held_in_table self.now) candidate }
     {
         let mut count: u32 = 0;
         for kind in 0..market.type_count() {
@@ -30,8 +30,8 @@ impl Tentative {
     /// there is no choice.
     pub fn best_place(&self, market: &Market, candidate: u32) -> u32
         requires candidate { candidate < length market.now.lists }
-        requires table { IsTable market.now self.now }
-        ensures place { result ≡ best_in market.now (programme_in self.now) candidate }
+        requires table { IsChoiceTable market.now self.now }
+        ensures place { result ≡ best_in market.now (held_in_table self.now) candidate }
         ensures within { result ≤ length (list_of market.now candidate) }
     {
         let list = market.list(candidate);
@@ -49,9 +49,9 @@ impl Tentative {
         alloc: Global,
         market: &Market,
     ) -> Result<Vec<Option<u32>>, AllocError>
-        requires { IsTable market.now self.now }
+        requires { IsChoiceTable market.now self.now }
         ensures { IfOk result (λ held. held.items
-            ≡ best_programmes_in market.now (programme_in self.now)) }
+            ≡ best_programmes_in market.now (held_in_table self.now)) }
     {
         let mut held = Vec::new(alloc);
         for candidate in 0..market.candidate_count() {
@@ -66,10 +66,10 @@ impl Tentative {
     fn has(&self, market: &Market, candidate: u32, programme: u32) -> bool
         requires valid { IsValid market.now }
         requires candidate { candidate < length market.now.lists }
-        requires table { IsTable market.now self.now }
+        requires table { IsChoiceTable market.now self.now }
         requires programme { programme < length market.now.programmes }
         ensures { result ≡ is_programme programme
-            (programme_in self.now (kind_of market.now programme) candidate) }
+            (held_in_table self.now (kind_of market.now programme) candidate) }
     {
         let kind = market.programme(programme).kind;
         is_choice(self.choice(kind, candidate), programme)

@@ -17,11 +17,21 @@ pub enum Lists {
 
 /// One serial dictatorship: for each programme its quota and the seats taken before the first turn,
 /// and for each turn its list. Contracts see it as a `Dictatorship`, which is always valid.
-#[derive(Drop)]
 pub struct Dict {
     quota: Vec<u32>,
     fill: Vec<u32>,
     lists: Lists,
+}
+
+// By hand, so that letting one go is one call in the proof of whoever holds it.
+impl Drop for Dict {
+    fn drop(self) {
+        let Self {
+            quota: _quota,
+            fill: _fill,
+            lists: _lists,
+        } = self;
+    }
 }
 
 impl Model for Dict {

@@ -7,10 +7,19 @@ use std::alloc::{AllocError, Global};
 use std::marker::Model;
 
 /// Lists of numbers in one piece of memory: all items, and the bounds between the lists.
-#[derive(Drop)]
 pub struct FlatLists {
     items: Vec<u32>,
     bounds: Vec<u32>,
+}
+
+// By hand, so that letting one go is one call in the proof of whoever holds it.
+impl Drop for FlatLists {
+    fn drop(self) {
+        let Self {
+            items: _items,
+            bounds: _bounds,
+        } = self;
+    }
 }
 
 impl Model for FlatLists {

@@ -19,7 +19,6 @@ use std::thread::Threads;
 
 /// Score types, programmes with quotas, and candidates with preference lists and ranks. Contracts
 /// see it as a `Problem`, which is always valid.
-#[derive(Drop)]
 pub struct Market {
     parts: Parts,
     // For each type the turn of each candidate, or the number of turns for none.
@@ -30,6 +29,19 @@ pub struct Market {
     locals: Vec<u32>,
     // For each type the lists of its turns, as local numbers.
     type_lists: Vec<TypeLists>,
+}
+
+// By hand, so that letting one go is one call in the proof of whoever holds it.
+impl Drop for Market {
+    fn drop(self) {
+        let Self {
+            parts: _parts,
+            turns: _turns,
+            members: _members,
+            locals: _locals,
+            type_lists: _type_lists,
+        } = self;
+    }
 }
 
 impl Model for Market {

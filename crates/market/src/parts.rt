@@ -8,13 +8,25 @@ use std::marker::Model;
 
 /// The programmes, the preference list of each candidate, and for each type the candidates in turn
 /// order and their ranks. Contracts see them as a `Problem`, which is always valid.
-#[derive(Drop)]
 pub struct Parts {
     types: u32,
     programmes: Vec<Prog>,
     lists: Vec<List>,
     orders: Vec<List>,
     ranks: Vec<List>,
+}
+
+// By hand, so that letting one go is one call in the proof of whoever holds it.
+impl Drop for Parts {
+    fn drop(self) {
+        let Self {
+            types: _,
+            programmes: _programmes,
+            lists: _lists,
+            orders: _orders,
+            ranks: _ranks,
+        } = self;
+    }
 }
 
 impl Model for Parts {

@@ -2,7 +2,7 @@
 
 ghost use Rattle.std.specs.Prelude.{◌≡◌, ◌<◌, [], length, slice_index_or, slice_set, replicate, IfOk};
 ghost use Rattle.market.specs.Problems.{IsValid};
-ghost use Rattle.market.specs.Choices.{programme_in, empty_table, decode, FitsNumber};
+ghost use Rattle.market.specs.Choices.{held_in_table, empty_table, decode, FitsNumber};
 
 use crate::{List, Market};
 use std::alloc::{AllocError, Global};
@@ -39,7 +39,7 @@ impl Tentative {
     pub fn choice(&self, kind: u32, candidate: u32) -> Option<u32>
         requires kind { kind < length self.now }
         requires candidate { candidate < length (slice_index_or self.now kind []) }
-        ensures { result ≡ programme_in self.now kind candidate }
+        ensures { result ≡ held_in_table self.now kind candidate }
     {
         let row = &self.rows[kind as usize];
         decoded(row.items()[candidate as usize])

@@ -12,11 +12,21 @@ use std::marker::Model;
 
 /// The lists of a type's turns, restricted to the type and whole: local numbers, and beside each
 /// its place in the preference list, so that a cut keeps those whose place is below it.
-#[derive(Drop)]
 pub struct TypeLists {
     items: Vec<u32>,
     places: Vec<u8>,
     bounds: Vec<u32>,
+}
+
+// By hand, so that letting one go is one call in the proof of whoever holds it.
+impl Drop for TypeLists {
+    fn drop(self) {
+        let Self {
+            items: _items,
+            places: _places,
+            bounds: _bounds,
+        } = self;
+    }
 }
 
 impl Model for TypeLists {

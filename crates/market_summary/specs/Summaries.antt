@@ -15,8 +15,8 @@ unfoldable pub seat_count : Problem → ℕ
 seat_count m = sum_below (quota_of m) (length m.programmes)
 
 -- a line: a word, a space, a number and an LF
-abbrev pub line_text : List ℕ → ℕ → List ℕ
-line_text word number = word ++ 32 ∷ decimal number ++ 10 ∷ []
+abbrev pub count_line : List ℕ → ℕ → List ℕ
+count_line word number = word ++ 32 ∷ decimal number ++ 10 ∷ []
 
 -- the words of the lines, each with its number
 abbrev pub summary_lines : Problem → Outcome → List (List ℕ × ℕ)
@@ -34,4 +34,4 @@ summary_lines m outcome =
 -- the summary: these lines
 unfoldable pub summary : Problem → Outcome → List ℕ
 summary m outcome =
-    flat_map (λ (line : List ℕ × ℕ). line_text line.0 line.1) (summary_lines m outcome)
+    flat_map (λ (line : List ℕ × ℕ). count_line line.0 line.1) (summary_lines m outcome)

@@ -1,7 +1,7 @@
 // The text of a summary.
 
 ghost use Rattle.std.specs.Prelude.{◌≡◌, ◌++◌, IfOk, OnOk};
-ghost use Rattle.market_summary.specs.Summaries.{line_text, summary};
+ghost use Rattle.market_summary.specs.Summaries.{count_line, summary};
 
 use crate::counts::{entry_count, placed_count, seat_count};
 use itoa::Buffer;
@@ -33,7 +33,7 @@ pub fn summary_text(
 
 // Appends a line: a word, a space, a number and a line feed.
 fn put_line(text: &mut Vec<u8>, word: &str, number: u64) -> Result<(), AllocError>
-    ensures { OnOk result (text.new.items ≡ text.old.items ++ line_text word.now number) }
+    ensures { OnOk result (text.new.items ≡ text.old.items ++ count_line word.now number) }
 {
     let mut buffer = Buffer::new();
     text.extend_from_slice(word.as_bytes())?;

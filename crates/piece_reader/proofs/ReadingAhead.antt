@@ -10,13 +10,13 @@ use Rattle.std.proofs.lemmas.List.Elements.{All-append, All-nil}
 use Rattle.std.proofs.lemmas.Option.{slice_get-get_or}
 use Rattle.record_files.specs.FirstFaults.{FileRules, fault_behind, fault_in, first_row_fault, least_fault}
 use Rattle.record_files.specs.Form.{header_in}
-use Rattle.record_files.specs.ReadTo.{AreTaken}
+use Rattle.record_files.specs.ReadTo.{AreRowsTaken}
 use Rattle.record_files.specs.Rows.{Row, data_rows, part_rows, rows}
 use Rattle.record_files.specs.declared.form.Header.{Header}
 use Rattle.record_files.specs.declared.reading.RowsRead.{RowsRead}
 use Rattle.record_files.specs.declared.rows.RowPart.{RowPart}
-use Rattle.record_files.proofs.FirstFaultLemmas.{AreTaken-whole, least_fault-each}
-use Rattle.piece_reader.specs.Ahead.{ArePartsRead, AreRead, AreTablesOf, IsClean, IsPartRead}
+use Rattle.record_files.proofs.FirstFaultLemmas.{AreRowsTaken-whole, least_fault-each}
+use Rattle.piece_reader.specs.Ahead.{ArePartsRead, AreReadAhead, AreTablesOf, IsClean, IsPartRead}
 use Rattle.piece_reader.specs.Header.{BeginsWithRow, data_lists}
 use Rattle.piece_reader.proofs.CleanParts.{IsClean-from}
 use Rattle.piece_reader.proofs.DataRows.{data_rows-of_lists}
@@ -45,12 +45,12 @@ AllZip-each R (x ∷ xs) (y ∷ ys) same each = (
 module _ {G : Type 0} (rules : FileRules) (header : Header) (HasRows : List Row → G → Type 0) where
   -- the rows of a part, where no fault of them was told
   pub IsPartRead-from : (all : List Row) (read : RowsRead G) → read.fault ≡ None
-      → AreTaken rules None header HasRows all read → IsPartRead rules header HasRows all read
+      → AreRowsTaken rules None header HasRows all read → IsPartRead rules header HasRows all read
   IsPartRead-from all read none taken =
       let count = taken.whole none in
       let least = subst (λ n. least_fault (fault_in rules header all) n ≡ None) count taken.none in
       record {
-        has = AreTaken-whole rules header HasRows all None read taken none;
+        has = AreRowsTaken-whole rules header HasRows all None read taken none;
         clean = λ k d below. IsClean-from rules header (take k all) (get_or all k d)
             (sym (ap (option_and_then (fault_behind rules header (take k all)))
             (slice_get-get_or all k d below))
@@ -167,13 +167,13 @@ IfSome-weaker None P Q w h = tt
 IfSome-weaker (Some x) P Q w h = w x h
 
 -- the tables of the parts of a file
-pub AreRead-from : {G : Type 0} (rules : FileRules) (HasRows : List Row → G → Type 0)
+pub AreReadAhead-from : {G : Type 0} (rules : FileRules) (HasRows : List Row → G → Type 0)
     (bytes : List ℕ) (parts : List RowPart) (header : Header) (tables : List G)
     → first_row_fault rules.form (rows bytes) ≡ None → header ≡ header_in rules.form (rows bytes)
     → BeginsWithRow bytes parts → flat_map (part_rows bytes) parts ≡ rows bytes
     → AreTablesOf rules header HasRows (data_lists bytes parts) tables
-    → AreRead rules HasRows bytes tables
-AreRead-from rules HasRows bytes parts header tables passed same first all t =
+    → AreReadAhead rules HasRows bytes tables
+AreReadAhead-from rules HasRows bytes parts header tables passed same first all t =
     let whole : flat_map (λ rows. rows) (data_lists bytes parts) ≡ data_rows bytes =
     data_rows-of_lists bytes parts first ∙ ap (drop 1) all in
     let few = t.few in

@@ -21,7 +21,7 @@ pub record IsPartRead {G : Type 0} (rules : FileRules) (header : Header)
 
 -- the header and each row of a file are right by themselves, there are no more rows than the file
 -- may have, and these tables hold its rows, part by part
-pub record AreRead {G : Type 0} (rules : FileRules) (HasRows : List Row → G → Type 0)
+pub record AreReadAhead {G : Type 0} (rules : FileRules) (HasRows : List Row → G → Type 0)
     (bytes : List ℕ) (tables : List G) : Type 0 where
   pub header : first_row_fault rules.form (rows bytes) ≡ None
   pub clean : All (IsClean rules (header_in rules.form (rows bytes))) (data_rows bytes)

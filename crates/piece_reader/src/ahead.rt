@@ -3,7 +3,7 @@ ghost use Rattle.std.specs.Prelude.{◌≡◌, ◌≤◌, ◌<◌, ◌++◌, ◌
 ghost use Rattle.record_files.specs.Form.{IsHeaderOf};
 ghost use Rattle.record_files.specs.Rows.{Row, part_rows};
 ghost use Rattle.record_files.specs.declared.form.Header.{Header as FileHeader};
-ghost use Rattle.piece_reader.specs.Ahead.{AreRead, ArePartsRead, AreTablesOf, IsClean, IsPartRead};
+ghost use Rattle.piece_reader.specs.Ahead.{AreReadAhead, ArePartsRead, AreTablesOf, IsClean, IsPartRead};
 ghost use Rattle.piece_reader.specs.Header.{data_lists};
 ghost use Rattle.piece_reader.specs.Parts.{IsPartOf};
 
@@ -30,7 +30,7 @@ pub fn read_parts<R: Threads + Sync, B: Sync, G: PartTable<B> + Send + Drop>(
     requires size { length bytes.now ≤ LARGEST_FILE }
     requires pieces { (1 ≤ pieces) × (pieces ≤ MOST_PIECES) }
     ensures { IfOk result (λ read. IfSome read (λ tables.
-        AreRead (G.rules beside.now) (G.has_rows beside.now) bytes.now tables.items)) }
+        AreReadAhead (G.rules beside.now) (G.has_rows beside.now) bytes.now tables.items)) }
 {
     let form = G::form(beside);
     let Ok(header) = form.read_header(&mut Records::of_bytes(bytes)) else {

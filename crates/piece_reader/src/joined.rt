@@ -4,7 +4,7 @@ ghost use Rattle.std.specs.List.{AllZip, flat_map};
 ghost use Rattle.record_files.specs.FirstFaults.{first_fault};
 ghost use Rattle.record_files.specs.ReadTo.{IsFileRead, IsRowTaken};
 ghost use Rattle.record_files.specs.Rows.{Row, data_rows};
-ghost use Rattle.piece_reader.specs.Ahead.{AreRead};
+ghost use Rattle.piece_reader.specs.Ahead.{AreReadAhead};
 ghost use Rattle.piece_reader.specs.Joined.{by_themselves, meanings};
 
 use crate::ahead::read_parts;
@@ -66,7 +66,7 @@ fn join<B, A: AheadRow<B> + Drop, T: TakesAhead<B, A> + Drop>(
     table: T,
 ) -> Result<T, TableStop>
     requires empty { T.has_rows beside.now [] table }
-    requires parts { AreRead (by_themselves (T.rules beside.now))
+    requires parts { AreReadAhead (by_themselves (T.rules beside.now))
         (λ rows part. AllZip (A.keeps beside.now) rows part.rows.items) bytes.now parts.items }
     ensures { IsFileRead (first_fault (T.rules beside.now) bytes.now)
         (T.has_rows beside.now (data_rows bytes.now)) result }

@@ -19,14 +19,14 @@ use Rattle.run_frame.proofs.Answering.{answered-stop, opened-no-words}
 use Rattle.run_frame.proofs.Endings as frame
 use Rattle.run_frame.proofs.Endings.{AreApart, answered-finished, stopped, whole-run}
 use Rattle.run_frame.proofs.JudgedTables.{judged-ok}
-use Rattle.place_run.specs.Runs.{AreFilesRead, HasCause, IsAnswering, IsComplete, LeavesSink, PlacesWhole, PrintsReports, PrintsSummary, PrintsVerdict, PrintsWorstStable, ReadsNothing, RunsWithoutFile, endings}
+use Rattle.place_run.specs.Runs.{AreFilesRead, HasStatusCause, IsAnswering, IsComplete, LeavesSink, PlacesWhole, PrintsReports, PrintsSummary, PrintsVerdict, PrintsWorstStable, ReadsNothing, RunsWithoutFile, endings}
 use Rattle.place_run.specs.Answers.{Answer, done}
 use Rattle.place_run.specs.Says.{KeepsPromise, audited_said, behind_tables, files_read, named, says, tables_said}
 use Rattle.place_run.specs.Statuses.{ended, status_of}
 use Rattle.run_frame.specs.Stops.{is_free_stop}
 use Rattle.place_run.specs.Tables.{HasNoFault, Tables, ThreeFiles, candidates_said, codes_in, numbers_in, programmes_said, ranks_said, tables_in}
 use Rattle.place_run.specs.commands.Make.{summary_of}
-use Rattle.place_run.specs.commands.Place.{AreThree, placement_of}
+use Rattle.place_run.specs.commands.Place.{AreThree, printed_placement}
 use Rattle.place_run.specs.declared.status.Ending.{Ending}
 use Rattle.place_run.specs.declared.status.Ending.TheVariants as ending
 use Rattle.place_run.specs.declared.status.Status.{Status}
@@ -204,13 +204,14 @@ places-whole (Some files) words status old new before now (reads, held, whole) =
       candidates = sym (held file.Candidates) ∙ read.candidates;
       ranks = sym (held file.Ranks) ∙ read.ranks;
     } in
-    let said : says (command_of words) reads ≡ Some (Ok (done (placement_of (tables_in three)))) =
+    let said : says (command_of words) reads
+    ≡ Some (Ok (done (printed_placement (tables_in three)))) =
     ap (λ v. says v reads) accepted
-    ∙ ap (λ v. answered (λ tables. done (placement_of tables)) v)
+    ∙ ap (λ v. answered (λ tables. done (printed_placement tables)) v)
     (three-said reads three seen faultless) in
     ⊎_elim (λ refused. inl refused)
-    (λ other. let same : other.1 ≡ Ok (done (placement_of (tables_in three))) = cc (other.2, said)
-    in
+    (λ other. let same : other.1 ≡ Ok (done (printed_placement (tables_in three))) =
+    cc (other.2, said) in
     let all = subst (λ v. IsDone endings v status old new) same other.3 in
     inr (all.0, subst (λ v. Appended old new v) (printed-in three) all.1))
     whole
@@ -314,8 +315,8 @@ module _ {K : Type 0} (written : K → Option (List ℕ)) (faults : K → ℕ) (
 
   pub causes-run : ((refused : WordsFault) → command_of words ≡ Err refused
       → answer ≡ Err (Words refused))
-      → HasCause (command_of words) status before now tally_before tally_now (faults old) (faults
-      new)
+      → HasStatusCause (command_of words) status before now tally_before tally_now (faults old)
+      (faults new)
   causes-run exact = record {
     refusal = frame.causes-run are-apart written faults (command_of words) status old new
         answers.reading finished (says-refused (command_of words) answers.reading.reads) exact;

@@ -29,7 +29,7 @@ use Rattle.place_run.specs.Tables.{HasNoFault, Tables, ThreeFiles, candidates_sa
 use Rattle.placement_file.specs.Texts.{placement_text}
 use Rattle.place_run.specs.commands.Audit.{Audited, IsAudit, verdict_ending}
 use Rattle.place_run.specs.commands.Base.{IsBaseText, base_text, bases_of}
-use Rattle.place_run.specs.commands.Place.{AreThree, IsOfWorstStable, IsWorstStableText, placement_of}
+use Rattle.place_run.specs.commands.Place.{AreThree, IsOfWorstStable, IsWorstStableText, printed_placement}
 use Rattle.place_run.specs.commands.Reasons.{IsReasonsText, reasons_of, reasons_text}
 use Rattle.place_run.specs.declared.status.Ending.TheVariants.{Done}
 use Rattle.run_frame.specs.declared.stop.Stop.{Stop}
@@ -61,14 +61,14 @@ same-tables p q c d r t e f g =
     ap (λ v. tables_with v c r) e ∙ ap (λ v. tables_with q v r) f ∙ ap (λ v. tables_with q d v) g
 
 -- three files whose tables were read have no fault, and have these tables
-record AreRead (reads : Reads) (tables : Tables) : Type 0 where
+record AreTablesRead (reads : Reads) (tables : Tables) : Type 0 where
   three : ThreeFiles
   read : AreThree reads three
   faultless : HasNoFault three
   tables_are : tables ≡ tables_in three
 
 are-read : (reads : Reads) (tables : Tables) → tables_said reads ≡ Some (Ok tables)
-    → AreRead reads tables
+    → AreTablesRead reads tables
 unfolding tables_in codes_in numbers_in
 are-read reads tables e =
     let p = said-from (reads file.Programmes) programmes_said _ tables e in
@@ -104,10 +104,10 @@ are-read reads tables e =
     }
 
 -- what is printed of the tables of three files is printed of the files
-pub printed-in : (three : ThreeFiles) → placement_of (tables_in three)
+pub printed-in : (three : ThreeFiles) → printed_placement (tables_in three)
     ≡ placement_text (codes_in three) (numbers_in three)
     (mechanism_placement (problem_of (tables_in three)))
-unfolding placement_of tables_in codes_in numbers_in
+unfolding printed_placement tables_in codes_in numbers_in
 printed-in three = refl
 
 bases-in : (three : ThreeFiles) → bases_of (tables_in three)
@@ -133,7 +133,7 @@ pub record IsMade (make : Tables → List ℕ) (tables : Tables) (text : List �
 made-of : (make : Tables → List ℕ) (print : ThreeFiles → List ℕ)
     → ((three : ThreeFiles) → make (tables_in three) ≡ print three)
     → (reads : Reads) (tables : Tables) (text : List ℕ) → IsMade make tables text
-    → (files : AreRead reads tables) → IsOfWorstStable print reads text
+    → (files : AreTablesRead reads tables) → IsOfWorstStable print reads text
 made-of make print same reads tables text made files =
     let of_files = subst (λ (v : Tables). IsMade make v text) files.tables_are made in
     record {
@@ -146,10 +146,10 @@ made-of make print same reads tables text made files =
     }
 
 pub worst-text : (reads : Reads) (tables : Tables) (text : List ℕ)
-    → tables_said reads ≡ Some (Ok tables) → IsMade placement_of tables text
+    → tables_said reads ≡ Some (Ok tables) → IsMade printed_placement tables text
     → IsWorstStableText reads text
 worst-text reads tables text said made =
-    made-of placement_of _ printed-in reads tables text made (are-read reads tables said)
+    made-of printed_placement _ printed-in reads tables text made (are-read reads tables said)
 
 pub bases-text : (reads : Reads) (tables : Tables) (text : List ℕ)
     → tables_said reads ≡ Some (Ok tables) → IsMade bases_of tables text → IsBaseText reads text

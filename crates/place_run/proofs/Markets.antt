@@ -25,7 +25,7 @@ use Rattle.reports.specs.FullEntries.{FullMeansFilled}
 use Rattle.place_run.specs.Placings.{IsNamed, IsNamedPlacement, IsPlacedOf}
 use Rattle.place_run.specs.Problems.{IsProblemOf}
 use Rattle.place_run.specs.commands.Base.{base_text, bases_of}
-use Rattle.place_run.specs.commands.Place.{placement_of}
+use Rattle.place_run.specs.commands.Place.{printed_placement}
 use Rattle.place_run.specs.commands.Reasons.{reasons_of, reasons_text}
 use Rattle.place_run.specs.declared.placing.Placed.{Placed}
 use Rattle.place_run.specs.declared.problem.Problem.{Problem as Named}
@@ -204,10 +204,11 @@ made print make tables placed text is same printed =
 pub placement-made : (tables : Tables) (placed : Placed) (text : List ℕ) → IsPlacedOf tables placed
     → text ≡ placement_text (codes_of placed.problem.programmes.rows)
     (numbers_of placed.problem.numbers) placed.placement
-    → IsMade placement_of tables text
-unfolding placement_of
+    → IsMade printed_placement tables text
+unfolding printed_placement
 placement-made tables placed text is printed =
-    made (λ programmes numbers m held. placement_text programmes numbers held) placement_of tables
+    made (λ programmes numbers m held. placement_text programmes numbers held) printed_placement
+    tables
     placed text is refl printed
 
 pub bases-made : (tables : Tables) (placed : Placed) (text : List ℕ) → IsPlacedOf tables placed

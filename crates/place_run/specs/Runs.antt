@@ -149,9 +149,10 @@ RunsWithoutFile command status old new =
 
 -- Each refusal has its cause: words by the grammar, and the others by the counts. Only an audit
 -- says that a placement is not stable.
-pub record HasCause (command : Result Command WordsFault) (status : Status)
+pub record HasStatusCause (command : Result Command WordsFault) (status : Status)
     (before now tally_before tally_now out_before out_now : ℕ) : Type 0 where
-  pub refusal : frame.HasCause endings command status before now tally_before tally_now out_before
+  pub refusal : frame.HasStatusCause endings command status before now tally_before tally_now
+      out_before
       out_now
   pub unstable : status ≡ ends.AuditNo → (workers : ℕ) × (command ≡ Ok (Audit workers))
 

@@ -17,7 +17,7 @@ use Rattle.place_run.specs.Tables.{Tables, candidates_said, placement_said, prog
 use Rattle.place_run.specs.commands.Audit.{Audited, IsAudit, audit_of}
 use Rattle.place_run.specs.commands.Base.{IsBaseText, bases_of}
 use Rattle.place_run.specs.commands.Make.{IsSummaryOf, summary_of}
-use Rattle.place_run.specs.commands.Place.{IsWorstStableText, placement_of}
+use Rattle.place_run.specs.commands.Place.{IsWorstStableText, printed_placement}
 use Rattle.place_run.specs.commands.Reasons.{IsReasonsText, reasons_of}
 use Rattle.run_frame.specs.declared.stop.Stop.{Stop}
 use Rattle.run_frame.specs.declared.stop.Stop.TheVariants.{Words}
@@ -84,7 +84,7 @@ audited_read reads = tables_read reads ++ placement_read (tables_said reads) (re
 abbrev pub says : Result Command WordsFault → Reads → Option (Result Answer (Stop WordsFault))
 says (Err refused) reads = Some (Err (Words refused))
 says (Ok (Place workers)) reads =
-    answered (λ tables. done (placement_of tables)) (tables_said reads)
+    answered (λ tables. done (printed_placement tables)) (tables_said reads)
 says (Ok (Base workers)) reads =
     answered (λ tables. done (bases_of tables)) (tables_said reads)
 says (Ok (Reasons workers)) reads =

@@ -12,14 +12,14 @@ use Rattle.place_run.specs.declared.status.Status.{Status}
 use Rattle.place_run.specs.declared.status.Status.TheVariants.{Done, Words, FileFault, ReadFault, WriteFault, Memory, AuditNo}
 
 -- the number of a status
-abbrev pub code_of : Status → ℕ
-code_of Done = 0
-code_of (Words _) = 2
-code_of (FileFault _) = 3
-code_of ReadFault = 4
-code_of WriteFault = 5
-code_of Memory = 6
-code_of AuditNo = 7
+abbrev pub status_code : Status → ℕ
+status_code Done = 0
+status_code (Words _) = 2
+status_code (FileFault _) = 3
+status_code ReadFault = 4
+status_code WriteFault = 5
+status_code Memory = 6
+status_code AuditNo = 7
 
 -- the status of an answer whose text was written whole
 abbrev pub ended : Ending → Status

@@ -6,9 +6,9 @@ use Rattle.place_run.specs.declared.answer.Text.{Text}
 use Rattle.place_run.specs.declared.answer.Text.TheVariants.{Whole, Reasons}
 
 -- the bytes that a text has
-abbrev pub bytes_of : Text → List ℕ
-bytes_of (Whole bytes) = bytes.items
-bytes_of (Reasons rows) = rows
+abbrev pub text_bytes : Text → List ℕ
+text_bytes (Whole bytes) = bytes.items
+text_bytes (Reasons rows) = rows
 
 -- a text was queued: what was written, and behind it what the buffer has now, is what it had, and
 -- the text behind it

@@ -35,11 +35,11 @@ enum Text {
 
 impl Model for Answer {
     ghost use Rattle.place_run.specs.Answers.{Answer};
-    ghost use Rattle.place_run.specs.Texts.{bytes_of};
+    ghost use Rattle.place_run.specs.Texts.{text_bytes};
 
     ghost Value = { Answer };
 
-    ghost view = { λ a. record { ending = a.ending; text = bytes_of a.text } };
+    ghost view = { λ a. record { ending = a.ending; text = text_bytes a.text } };
 }
 
 impl Answer {

@@ -4,7 +4,7 @@ ghost use Rattle.command_words.specs.Words.{command_of, texts};
 ghost use Rattle.place_edges.specs.Causes.{Rose};
 ghost use Rattle.run_frame.specs.Lines.{IsNoted};
 ghost use Rattle.run_frame.specs.Runs.{IsConstant, IsFinished};
-ghost use Rattle.place_run.specs.Runs.{HasCause, IsComplete, IsAnsweredRun, IsWordsRefusal, LeavesSink, HasNoLine, PrintsReports, PrintsSummary, PrintsVerdict, PrintsWorstStable, RunsWithoutFile, endings};
+ghost use Rattle.place_run.specs.Runs.{HasStatusCause, IsComplete, IsAnsweredRun, IsWordsRefusal, LeavesSink, HasNoLine, PrintsReports, PrintsSummary, PrintsVerdict, PrintsWorstStable, RunsWithoutFile, endings};
 ghost use Rattle.place_run.specs.Says.{MayOpen};
 ghost use Rattle.place_run.specs.Statuses.{status_line};
 
@@ -80,7 +80,7 @@ pub fn run_words<R: Threads + Sync, H: Shelf, K: Sink, N: Sink, G: Gate>(
     ensures unnoted { HasNoLine result → notes.new ≡ notes.old }
 
     // Each refusal has its cause, whether or not the shelf and the sinks tell their bytes.
-    ensures causes { HasCause (command_of (texts words.now)) result
+    ensures causes { HasStatusCause (command_of (texts words.now)) result
         (H.faults shelf.old) (H.faults shelf.new) (H.tally shelf.old) (H.tally shelf.new)
         (K.faults out.old) (K.faults out.new) }
 

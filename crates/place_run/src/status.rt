@@ -1,6 +1,6 @@
 // How a run ends.
 ghost use Rattle.std.specs.Prelude.{◌≡◌};
-ghost use Rattle.place_run.specs.Statuses.{code_of, ended, status_of};
+ghost use Rattle.place_run.specs.Statuses.{status_code, ended, status_of};
 
 use command_words::WordsFault;
 use place_base::FileFault;
@@ -28,7 +28,7 @@ pub enum Status {
 impl Status {
     /// The number that the process ends with.
     pub fn code(&self) -> u8
-        ensures { result ≡ code_of self.now }
+        ensures { result ≡ status_code self.now }
     {
         match *self {
             Status::Done => 0,

@@ -22,7 +22,7 @@ use Rattle.record_files.specs.Rows.{Row}
 use Rattle.programme_table.proofs.FirstAppearances.{any-first, any-insert_key_added, length-insert_key, first_appearances-snoc, place-insert_key_other, place-within}
 use Rattle.programme_table.specs.Growth.{IsFieldsOf, clash, with_programme, is_full_for}
 use Rattle.programme_table.specs.Rows.{code_of, first_appearances, is_type_too_many, meaning, quota_of, type_of, types_of}
-use Rattle.programme_table.specs.Table.{IsTable, Programmes, kind_in, programme_in, table_of}
+use Rattle.programme_table.specs.Table.{IsTable, Programmes, kind_named, programme_row_in, table_of}
 use Rattle.programme_table.specs.declared.row.Fields.{Fields}
 
 -- the row's type is among the names
@@ -45,15 +45,16 @@ typed (row ∷ rows) = (
 )
 
 -- a type that is added leaves the programmes of the others as they were
-map-programme_in : (names : List (List ℕ)) (added : List ℕ) (rows : List Row)
+map-programme_row_in : (names : List (List ℕ)) (added : List ℕ) (rows : List Row)
     → AllByRecursion (IsTyped names) rows
-    → map (programme_in (insert_key bytes_eq names added)) rows ≡ map (programme_in names) rows
-map-programme_in names added [] all = refl
-map-programme_in names added (row ∷ rows) all =
-    let same : programme_in (insert_key bytes_eq names added) row ≡ programme_in names row =
+    → map (programme_row_in (insert_key bytes_eq names added)) rows
+    ≡ map (programme_row_in names) rows
+map-programme_row_in names added [] all = refl
+map-programme_row_in names added (row ∷ rows) all =
+    let same : programme_row_in (insert_key bytes_eq names added) row ≡ programme_row_in names row =
     ap (λ kind. record { code = code_of row; kind = kind; quota = quota_of row })
     (place-insert_key_other names (type_of row) added all.0) in
-    let later = map-programme_in names added rows all.1 in
+    let later = map-programme_row_in names added rows all.1 in
     cc
 
 -- the table of one more row
@@ -69,22 +70,22 @@ table_of-snoc rows row fields f =
     let names : types_of (rows ++ row ∷ []) ≡ after =
     ap first_appearances (map-append type_of rows (row ∷ []))
     ∙ first_appearances-snoc (map type_of rows) (type_of row) in
-    let programmes_are : map (programme_in (types_of (rows ++ row ∷ []))) (rows ++ row ∷ [])
-    ≡ map (programme_in before) rows ++ programme_in after row ∷ [] =
-    ap (λ types. map (programme_in types) (rows ++ row ∷ [])) names
-    ∙ map-append (programme_in after) rows (row ∷ [])
-    ∙ ap (λ earlier. earlier ++ programme_in after row ∷ [])
-    (map-programme_in before (type_of row) rows (typed rows)) in
+    let programmes_are : map (programme_row_in (types_of (rows ++ row ∷ []))) (rows ++ row ∷ [])
+    ≡ map (programme_row_in before) rows ++ programme_row_in after row ∷ [] =
+    ap (λ types. map (programme_row_in types) (rows ++ row ∷ [])) names
+    ∙ map-append (programme_row_in after) rows (row ∷ [])
+    ∙ ap (λ earlier. earlier ++ programme_row_in after row ∷ [])
+    (map-programme_row_in before (type_of row) rows (typed rows)) in
     let codes = map-append (with_line code_of) rows (row ∷ []) in
     let grown : with_programme (table_of rows) fields ≡ record {
-      rows = map (programme_in before) rows ++ programme_in after row ∷ [];
+      rows = map (programme_row_in before) rows ++ programme_row_in after row ∷ [];
       codes = map (with_line code_of) rows ++ with_line code_of row ∷ [];
       names = after;
     } = λ j.
     let all = insert_key bytes_eq before (name j) in
     record {
-      rows = map (programme_in before) rows
-          ++ record { code = code j; kind = kind_in all (name j); quota = quota j } ∷ [];
+      rows = map (programme_row_in before) rows
+          ++ record { code = code j; kind = kind_named all (name j); quota = quota j } ∷ [];
       codes = map (with_line code_of) rows ++ (code j, line j) ∷ [];
       names = all;
     } in
@@ -148,9 +149,9 @@ pub IsTable-with : (table : Programmes) (fields : Fields) → IsTable table
 IsTable-with table fields fits room none =
     let names = insert_key bytes_eq table.names fields.name in
     let row : ProgrammeRow =
-    record { code = fields.code; kind = kind_in names fields.name; quota = fields.quota } in
+    record { code = fields.code; kind = kind_named names fields.name; quota = fields.quota } in
     let grown : length table.names ≤ length names = length-insert_key table.names fields.name in
-    let kind : kind_in names fields.name < length names =
+    let kind : kind_named names fields.name < length names =
     place-within (bytes_eq fields.name) names (any-insert_key_added table.names fields.name) in
     record {
       codes = map-append (λ (at : ℕ × ℕ). at.0) table.codes ((fields.code, fields.line) ∷ [])

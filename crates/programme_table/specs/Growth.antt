@@ -10,7 +10,7 @@ use Rattle.record_files.specs.FirstFaults.{duplicate_at, fault_at, fault_if, fir
 use Rattle.record_files.specs.Keys.{line_of}
 use Rattle.record_files.specs.Rows.{Row}
 use Rattle.programme_table.specs.Rows.{code_of, type_of, quota_of}
-use Rattle.programme_table.specs.Table.{Programmes, kind_in}
+use Rattle.programme_table.specs.Table.{Programmes, kind_named}
 use Rattle.programme_table.specs.declared.row.Fields.{Fields}
 
 -- these are the fields of the row
@@ -39,7 +39,11 @@ with_programme table fields =
     record {
       rows =
           table.rows
-          ++ record { code = fields.code; kind = kind_in names fields.name; quota = fields.quota }
+          ++ record {
+            code = fields.code;
+            kind = kind_named names fields.name;
+            quota = fields.quota;
+          }
           ∷ [];
       codes = table.codes ++ (fields.code, fields.line) ∷ [];
       names = names;

@@ -16,18 +16,18 @@ pub record Programmes : Type 0 where
   pub names : List (List ℕ)
 
 -- the index of a name among names
-abbrev pub kind_in : List (List ℕ) → List ℕ → ℕ
-kind_in names name = position_or_len (bytes_eq name) names
+abbrev pub kind_named : List (List ℕ) → List ℕ → ℕ
+kind_named names name = position_or_len (bytes_eq name) names
 
 -- the programme that a row holds, beside the names of the types
-abbrev pub programme_in : List (List ℕ) → Row → ProgrammeRow
-programme_in names row =
-    record { code = code_of row; kind = kind_in names (type_of row); quota = quota_of row }
+abbrev pub programme_row_in : List (List ℕ) → Row → ProgrammeRow
+programme_row_in names row =
+    record { code = code_of row; kind = kind_named names (type_of row); quota = quota_of row }
 
 -- the table of data rows
 abbrev pub table_of : List Row → Programmes
 table_of rows = record {
-  rows = map (programme_in (types_of rows)) rows;
+  rows = map (programme_row_in (types_of rows)) rows;
   codes = map (with_line code_of) rows;
   names = types_of rows;
 }

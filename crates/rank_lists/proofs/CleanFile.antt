@@ -8,9 +8,9 @@ use Rattle.std.proofs.lemmas.List.Elements.{All-append, All-nil, filter-append, 
 use Rattle.record_files.specs.FirstFaults.{row_fault, least_fault, shape_fault}
 use Rattle.record_files.specs.Form.{header_in}
 use Rattle.record_files.specs.Rows.{Row, rows, data_rows}
-use Rattle.piece_reader.specs.Ahead.{AreRead, IsClean}
+use Rattle.piece_reader.specs.Ahead.{AreReadAhead, IsClean}
 use Rattle.piece_reader.proofs.CleanParts.{shape-anywhere}
-use Rattle.rank_lists.specs.Clean.{AreAllCleanTurns, AreCleanTurns, HasStandings, IsCleanFile, key_of, keys_in}
+use Rattle.rank_lists.specs.Clean.{AreAllCleanTurns, AreCleanTurns, HasStandings, IsCleanFile, standing_key, keys_in}
 use Rattle.rank_lists.specs.Groups.{candidate_group, rank_group}
 use Rattle.rank_lists.specs.Repeats.{HasNoRepeat}
 use Rattle.rank_lists.specs.Rows.{ranks_form, own_rules, row_at}
@@ -27,7 +27,7 @@ keys-of_parts : (names : List (List ℕ)) (numbers : List ℕ) (kind : ℕ) → 
     → (lists : List (List Row)) (parts : List PartRanks)
     → AllZip (HasStandings names numbers) lists parts
     → keys_in kind parts
-    ≡ map key_of (in_type kind (standings names numbers (flat_map (λ rows. rows) lists)))
+    ≡ map standing_key (in_type kind (standings names numbers (flat_map (λ rows. rows) lists)))
 keys-of_parts names numbers kind lt [] [] each = refl
 keys-of_parts names numbers kind lt [] (part ∷ parts) each = absurd each
 keys-of_parts names numbers kind lt (rows ∷ lists) [] each = absurd each
@@ -40,7 +40,8 @@ keys-of_parts names numbers kind lt (rows ∷ lists) (part ∷ parts) each =
     ap (in_type kind) (filter_map-append (standing_in names numbers) rows later)
     ∙ filter-append (λ s. s.kind == kind) first more in
     (λ j. each.0.given kind lt j ++ keys-of_parts names numbers kind lt lists parts each.1 j)
-    ∙ sym (map-append key_of (in_type kind first) (in_type kind more)) ∙ ap (map key_of) (sym both)
+    ∙ sym (map-append standing_key (in_type kind first) (in_type kind more))
+    ∙ ap (map standing_key) (sym both)
 
 -- and where no part has a row of an unknown type or candidate, there is none
 known-of_parts : (names : List (List ℕ)) (numbers : List ℕ) (lists : List (List Row))
@@ -56,7 +57,8 @@ known-of_parts names numbers (rows ∷ lists) (part ∷ parts) each clear =
     (known-of_parts names numbers lists parts each.1 (λ k d lt. clear (suc k) d (omega arith)))
 
 module _ (names : List (List ℕ)) (numbers bytes : List ℕ) (few : length numbers ≤ INDEXES)
-    (parts : List PartRanks) (read : AreRead own_rules (HasStandings names numbers) bytes parts)
+    (parts : List PartRanks)
+    (read : AreReadAhead own_rules (HasStandings names numbers) bytes parts)
     (clear : All (λ part. part.unknown ≡ false) parts) (orders ranks : List (List ℕ))
     (turns : AreAllCleanTurns (length names) parts orders ranks) where
   abbrev body : List Row
@@ -84,13 +86,13 @@ module _ (names : List (List ℕ)) (numbers bytes : List ℕ) (few : length numb
   fields k lt = HasFields-from (row_at body k) (clean-at k lt).reading
 
   -- the turns of the standings of a type
-  turns-at : (kind : ℕ) → kind < length names → AreCleanTurns (map key_of (in_type kind all))
+  turns-at : (kind : ℕ) → kind < length names → AreCleanTurns (map standing_key (in_type kind all))
       (slice_index_or orders kind []) (slice_index_or ranks kind [])
   turns-at kind lt =
       subst (λ keys. AreCleanTurns keys (slice_index_or orders kind [])
       (slice_index_or ranks kind []))
       (keys-of_parts names numbers kind lt read.lists parts read.each
-      ∙ ap (λ (rows : List Row). map key_of (in_type kind (standings names numbers rows)))
+      ∙ ap (λ (rows : List Row). map standing_key (in_type kind (standings names numbers rows)))
       read.whole)
       (turns.turns kind lt)
 

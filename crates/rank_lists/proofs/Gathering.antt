@@ -11,7 +11,7 @@ use Rattle.std.proofs.lemmas.List.Elements.{filter-append}
 use Rattle.record_files.specs.Rows.{Row}
 use Rattle.rank_lists.specs.declared.keys.TheConstants.{INDEXES, NUMBERS}
 use Rattle.place_base.specs.declared.limits.TheConstants.{LARGEST_NUMBER}
-use Rattle.rank_lists.specs.Clean.{key_of}
+use Rattle.rank_lists.specs.Clean.{standing_key}
 use Rattle.rank_lists.specs.Growth.{row_key, is_kind, in_kind, given_in, with_rank, HasRows}
 use Rattle.rank_lists.specs.Groups.{candidate_group, rank_group}
 use Rattle.rank_lists.specs.Rows.{candidate_in, type_in, rank_in, row_at}
@@ -106,12 +106,12 @@ module _ (names : List (List ℕ)) (numbers : List ℕ) (kind : ℕ) where
   front : (type candidate : Option ℕ) (row : Row) (rows : List Row) (ss : List Standing)
       → known_key numbers (row_key row) ≡ option_map (λ index. rank_in row * INDEXES + index)
       candidate
-      → known_keys numbers (map row_key rows) ≡ map key_of (in_type kind ss)
+      → known_keys numbers (map row_key rows) ≡ map standing_key (in_type kind ss)
       → known_keys numbers (map row_key (cond (is_kind kind type) (row ∷ rows) rows))
-      ≡ map key_of (in_type kind (cons_option (standing_of type candidate (rank_in row)) ss))
+      ≡ map standing_key (in_type kind (cons_option (standing_of type candidate (rank_in row)) ss))
   front None candidate row rows ss known rest = rest
   front (Some k) None row rows ss known rest = cond_both (k == kind) (row ∷ rows) rows
-      (λ all. known_keys numbers (map row_key all) ≡ map key_of (in_type kind ss))
+      (λ all. known_keys numbers (map row_key all) ≡ map standing_key (in_type kind ss))
       (λ yes. ap (λ o. cons_option o (known_keys numbers (map row_key rows))) known ∙ rest)
       (λ no. rest)
   front (Some k) (Some index) row rows ss known rest = ⊎_elim
@@ -121,12 +121,13 @@ module _ (names : List (List ℕ)) (numbers : List ℕ) (kind : ℕ) where
       let right : in_type kind (s ∷ ss) ≡ s ∷ in_type kind ss = rw yes refl in
       ap (λ all. known_keys numbers (map row_key all)) left
       ∙ ap (λ o. cons_option o (known_keys numbers (map row_key rows))) known
-      ∙ ap (λ keys. key_of s ∷ keys) rest ∙ sym (ap (map key_of) right))
+      ∙ ap (λ keys. standing_key s ∷ keys) rest ∙ sym (ap (map standing_key) right))
       (λ (no : (k == kind) ≡ false).
       let s : Standing = record { kind = k; candidate = index; rank = rank_in row } in
       let left : cond (k == kind) (row ∷ rows) rows ≡ rows = rw no refl in
       let right : in_type kind (s ∷ ss) ≡ in_type kind ss = rw no refl in
-      ap (λ all. known_keys numbers (map row_key all)) left ∙ rest ∙ sym (ap (map key_of) right))
+      ap (λ all. known_keys numbers (map row_key all)) left ∙ rest
+      ∙ sym (ap (map standing_key) right))
       (cases_Bool (k == kind))
 
   -- the key of a row within the limits
@@ -145,7 +146,7 @@ module _ (names : List (List ℕ)) (numbers : List ℕ) (kind : ℕ) where
   -- the ranks of known candidates that rows give in a type are the type's standings
   pub known-given : (rows : List Row) → ((k : ℕ) → k < length rows → HasFields (row_at rows k))
       → known_keys numbers (given_in names kind rows)
-      ≡ map key_of (in_type kind (standings names numbers rows))
+      ≡ map standing_key (in_type kind (standings names numbers rows))
   known-given [] h = refl
   known-given (row ∷ rows) h =
       front (position (bytes_eq (type_in row)) names) (position (nat_eq (candidate_in row)) numbers)

@@ -7,7 +7,7 @@ use Rattle.std.proofs.lemmas.Bool.Decides.{nat_tests}
 use Rattle.std.proofs.lemmas.List.{append-nil, get_or-set_other, get_or-set_same, map-append}
 use Rattle.std.proofs.lemmas.List.Elements.{All-push, filter-append, filter_map-append}
 use Rattle.record_files.specs.Rows.{Row}
-use Rattle.rank_lists.specs.Clean.{HasStandings, key_of}
+use Rattle.rank_lists.specs.Clean.{HasStandings, standing_key}
 use Rattle.rank_lists.specs.Growth.{with_rank}
 use Rattle.rank_lists.specs.Rows.{candidate_in, type_in, rank_in}
 use Rattle.rank_lists.specs.Table.{Standing, in_type, standing_in, standing_of, standings}
@@ -41,26 +41,26 @@ given-next given k key keys kind lt h = ⊎_elim
 
 -- the keys of a standing in a type
 keys-one : (kind : ℕ) (s : Standing)
-    → map key_of (in_type kind (s ∷ [])) ≡ cond (s.kind == kind) (key_of s ∷ []) []
+    → map standing_key (in_type kind (s ∷ [])) ≡ cond (s.kind == kind) (standing_key s ∷ []) []
 keys-one kind s = by (s.kind == kind)
   where
-    by : (t : Bool) → map key_of (cond t (s ∷ []) []) ≡ cond t (key_of s ∷ []) []
+    by : (t : Bool) → map standing_key (cond t (s ∷ []) []) ≡ cond t (standing_key s ∷ []) []
     by true = refl
     by false = refl
 
 module _ (names : List (List ℕ)) (numbers : List ℕ) (earlier : List Row) (row : Row) where
   -- the keys of a type with one more row
   keys-next : (kind : ℕ) (o : Option Standing) → standing_in names numbers row ≡ o
-      → map key_of (in_type kind (standings names numbers (earlier ++ row ∷ [])))
-      ≡ map key_of (in_type kind (standings names numbers earlier))
-      ++ map key_of (in_type kind (cons_option o []))
+      → map standing_key (in_type kind (standings names numbers (earlier ++ row ∷ [])))
+      ≡ map standing_key (in_type kind (standings names numbers earlier))
+      ++ map standing_key (in_type kind (cons_option o []))
   keys-next kind o e =
       let first = standings names numbers earlier in
-      ap (λ ss. map key_of (in_type kind ss))
+      ap (λ ss. map standing_key (in_type kind ss))
       (filter_map-append (standing_in names numbers) earlier (row ∷ [])
       ∙ ap (λ found. first ++ cons_option found []) e)
-      ∙ ap (map key_of) (filter-append (λ s. s.kind == kind) first (cons_option o []))
-      ∙ map-append key_of (in_type kind first) (in_type kind (cons_option o []))
+      ∙ ap (map standing_key) (filter-append (λ s. s.kind == kind) first (cons_option o []))
+      ∙ map-append standing_key (in_type kind first) (in_type kind (cons_option o []))
 
   -- a row of a known candidate in a known type
   pub HasStandings-known : (old new : PartRanks) (k index : ℕ)
@@ -80,9 +80,9 @@ module _ (names : List (List ℕ)) (numbers : List ℕ) (earlier : List Row) (ro
             ∙ length-with_rank old.given.items (Some k) (rank_in row * INDEXES + index) ∙ h.types;
         given = λ kind lt. ap (λ all. slice_index_or all kind []) given
             ∙ given-next old.given.items k (rank_in row * INDEXES + index)
-            (map key_of (in_type kind (standings names numbers earlier))) kind (omega arith)
+            (map standing_key (in_type kind (standings names numbers earlier))) kind (omega arith)
             (h.given kind lt)
-            ∙ ap (λ keys. map key_of (in_type kind (standings names numbers earlier)) ++ keys)
+            ∙ ap (λ keys. map standing_key (in_type kind (standings names numbers earlier)) ++ keys)
             (sym (keys-one kind s)) ∙ sym (keys-next kind (Some s) one);
         known = λ clear. All-push (λ row. IsSome (standing_in names numbers row)) earlier row
             (h.known (sym unknown ∙ clear)) (subst (λ o. IsSome o) (sym one) refl);
@@ -97,7 +97,7 @@ module _ (names : List (List ℕ)) (numbers : List ℕ) (earlier : List Row) (ro
   HasStandings-unknown old new h none given unknown last = record {
     types = ap (λ all. length all.items) given ∙ h.types;
     given = λ kind lt. ap (λ all. slice_index_or all.items kind []) given ∙ h.given kind lt
-        ∙ sym (append-nil (map key_of (in_type kind (standings names numbers earlier))))
+        ∙ sym (append-nil (map standing_key (in_type kind (standings names numbers earlier))))
         ∙ sym (keys-next kind None none);
     known = λ clear. absurd (cc);
     last = last;

@@ -10,7 +10,7 @@ use Rattle.place_base.specs.declared.fault.FileFault.{FileFault}
 use Rattle.place_base.specs.declared.fault.FileKind.TheVariants.{Ranks}
 use Rattle.record_files.specs.FirstFaults.{first_of, first_row_fault, row_fault, least_fault, duplicate_at}
 use Rattle.record_files.specs.Form.{header_in}
-use Rattle.record_files.specs.ReadTo.{AreRowsRead, AreTaken}
+use Rattle.record_files.specs.ReadTo.{AreRowsRead, AreRowsTaken}
 use Rattle.record_files.specs.Rows.{Row, rows, data_rows}
 use Rattle.record_files.specs.declared.reading.RowsRead.{RowsRead}
 use Rattle.record_files.proofs.FirstFaultLemmas.{first_of-none, least_fault-found}
@@ -38,7 +38,7 @@ first_of-behind None (Some x) c f h = h
 first_of-behind None None c f h = absurd (cc)
 
 module _ (names : List (List ℕ)) (numbers : List ℕ) (bytes : List ℕ) (read : RowsRead RankRows)
-    (g : AreTaken own_rules (first_row_fault ranks_form (rows bytes))
+    (g : AreRowsTaken own_rules (first_row_fault ranks_form (rows bytes))
     (header_in ranks_form (rows bytes)) (HasRows names) (data_rows bytes) read) where
   abbrev body : List Row
   body = data_rows bytes

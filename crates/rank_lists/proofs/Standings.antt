@@ -5,7 +5,7 @@ use Rattle.std.specs.Prelude.{slice_index, slice_index_or, IsPermutation}
 use Rattle.std.proofs.lemmas.Bool.{cond_both}
 use Rattle.std.proofs.lemmas.Bool.Decides.{nat_tests}
 use Rattle.rank_lists.specs.declared.keys.TheConstants.{INDEXES}
-use Rattle.rank_lists.specs.Clean.{key_of}
+use Rattle.rank_lists.specs.Clean.{standing_key}
 use Rattle.rank_lists.specs.Table.{Standing}
 use Rattle.market.proofs.Copies.{copies, one_if, copies-permutation, Rises, Rises-unique}
 
@@ -44,11 +44,11 @@ abbrev pub AreSmall : List Standing → Type 0
 AreSmall = Each (λ s. s.candidate < INDEXES)
 
 before-key : (s t : Standing) → s.candidate < INDEXES → t.candidate < INDEXES
-    → is_before s t ≡ true → key_of s ≤ key_of t
+    → is_before s t ≡ true → standing_key s ≤ standing_key t
 before-key s t a b e = grind (arith, nat_tests)
 
 behind-key : (s t : Standing) → s.candidate < INDEXES → t.candidate < INDEXES
-    → is_before s t ≡ false → key_of t ≤ key_of s
+    → is_before s t ≡ false → standing_key t ≤ standing_key s
 behind-key s t a b e = grind (arith, nat_tests)
 
 -- no number is below a bound
@@ -78,23 +78,24 @@ Climbs-Rises (x ∷ xs) h zero (suc j) le lt = AtLeast-at x xs h.0 j (omega arit
 Climbs-Rises (x ∷ xs) h (suc i) zero le lt = absurd (omega arith)
 Climbs-Rises (x ∷ xs) h (suc i) (suc j) le lt = Climbs-Rises xs h.1 i j (omega arith) (omega arith)
 
-AtLeast-put_in : (x : ℕ) (s : Standing) (ts : List Standing) → x ≤ key_of s
-    → AtLeast x (map key_of ts) → AtLeast x (map key_of (put_in s ts))
+AtLeast-put_in : (x : ℕ) (s : Standing) (ts : List Standing) → x ≤ standing_key s
+    → AtLeast x (map standing_key ts) → AtLeast x (map standing_key (put_in s ts))
 AtLeast-put_in x s [] le h = (le, tt)
 AtLeast-put_in x s (t ∷ ts) le h =
-    cond_both (is_before s t) (s ∷ t ∷ ts) (t ∷ put_in s ts) (λ all. AtLeast x (map key_of all))
+    cond_both (is_before s t) (s ∷ t ∷ ts) (t ∷ put_in s ts)
+    (λ all. AtLeast x (map standing_key all))
     (λ yes. (le, h))
     (λ no. (h.0, AtLeast-put_in x s ts le h.1))
 
 put_in-Climbs : (s : Standing) (ts : List Standing) → s.candidate < INDEXES → AreSmall ts
-    → Climbs (map key_of ts) → Climbs (map key_of (put_in s ts))
+    → Climbs (map standing_key ts) → Climbs (map standing_key (put_in s ts))
 put_in-Climbs s [] a b h = (tt, tt)
 put_in-Climbs s (t ∷ ts) a b h =
-    cond_both (is_before s t) (s ∷ t ∷ ts) (t ∷ put_in s ts) (λ all. Climbs (map key_of all))
-    (λ yes. let le : key_of s ≤ key_of t = before-key s t a b.0 yes in
-    ((le, AtLeast-lower (key_of s) (key_of t) (map key_of ts) le h.0), h))
-    (λ no. let le : key_of t ≤ key_of s = behind-key s t a b.0 no in
-    (AtLeast-put_in (key_of t) s ts le h.0, put_in-Climbs s ts a b.1 h.1))
+    cond_both (is_before s t) (s ∷ t ∷ ts) (t ∷ put_in s ts) (λ all. Climbs (map standing_key all))
+    (λ yes. let le : standing_key s ≤ standing_key t = before-key s t a b.0 yes in
+    ((le, AtLeast-lower (standing_key s) (standing_key t) (map standing_key ts) le h.0), h))
+    (λ no. let le : standing_key t ≤ standing_key s = behind-key s t a b.0 no in
+    (AtLeast-put_in (standing_key t) s ts le h.0, put_in-Climbs s ts a b.1 h.1))
 
 module _ (P : Standing → Type 0) where
   put_in-Each : (s : Standing) (ts : List Standing) → P s → Each P ts → Each P (put_in s ts)
@@ -136,7 +137,7 @@ pub sorted-AreSmall : (ss : List Standing) → AreSmall ss → AreSmall (sorted 
 sorted-AreSmall = sorted-Each (λ s. s.candidate < INDEXES)
 
 -- sorted, the keys climb
-sorted-Climbs : (ss : List Standing) → AreSmall ss → Climbs (map key_of (sorted ss))
+sorted-Climbs : (ss : List Standing) → AreSmall ss → Climbs (map standing_key (sorted ss))
 sorted-Climbs [] h = tt
 sorted-Climbs (s ∷ ss) h =
     put_in-Climbs s (sorted ss) h.0 (sorted-AreSmall ss h.1) (sorted-Climbs ss h.1)
@@ -159,32 +160,32 @@ module _ (f : Standing → ℕ) where
       ∙ ap (λ n. one_if x (f s) + n) (copies-sorted x ss)
 
 -- the keys of the standings by rising rank rise
-pub sorted-Rises : (ss : List Standing) → AreSmall ss → Rises (map key_of (sorted ss))
-sorted-Rises ss small = Climbs-Rises (map key_of (sorted ss)) (sorted-Climbs ss small)
+pub sorted-Rises : (ss : List Standing) → AreSmall ss → Rises (map standing_key (sorted ss))
+sorted-Rises ss small = Climbs-Rises (map standing_key (sorted ss)) (sorted-Climbs ss small)
 
 -- the sorted keys are the keys of the standings by rising rank
 pub sorted-keys : (ss : List Standing) (keys : List ℕ) → AreSmall ss
-    → IsPermutation (map key_of ss) keys → Rises keys → keys ≡ map key_of (sorted ss)
+    → IsPermutation (map standing_key ss) keys → Rises keys → keys ≡ map standing_key (sorted ss)
 sorted-keys ss keys small p up =
-    Rises-unique keys (map key_of (sorted ss)) up (Climbs-Rises _ (sorted-Climbs ss small))
-    (λ x. copies-permutation x (map key_of ss) keys p ∙ sym (copies-sorted key_of x ss))
+    Rises-unique keys (map standing_key (sorted ss)) up (Climbs-Rises _ (sorted-Climbs ss small))
+    (λ x. copies-permutation x (map standing_key ss) keys p ∙ sym (copies-sorted standing_key x ss))
 
 -- the candidates of the sorted keys
 pub keys-candidates : (ss : List Standing) → AreSmall ss
-    → map (λ key. key % INDEXES) (map key_of ss) ≡ map (λ s. s.candidate) ss
+    → map (λ key. key % INDEXES) (map standing_key ss) ≡ map (λ s. s.candidate) ss
 keys-candidates [] h = refl
 keys-candidates (s ∷ ss) h =
     let small : s.candidate < INDEXES = h.0 in
-    let head : key_of s % INDEXES ≡ s.candidate = omega arith in
+    let head : standing_key s % INDEXES ≡ s.candidate = omega arith in
     let rest = keys-candidates ss h.1 in
     cc
 
 -- the ranks of the sorted keys
 pub keys-ranks : (ss : List Standing) → AreSmall ss
-    → map (λ key. key / INDEXES) (map key_of ss) ≡ map (λ s. s.rank) ss
+    → map (λ key. key / INDEXES) (map standing_key ss) ≡ map (λ s. s.rank) ss
 keys-ranks [] h = refl
 keys-ranks (s ∷ ss) h =
     let small : s.candidate < INDEXES = h.0 in
-    let head : key_of s / INDEXES ≡ s.rank = omega arith in
+    let head : standing_key s / INDEXES ≡ s.rank = omega arith in
     let rest = keys-ranks ss h.1 in
     cc

@@ -11,7 +11,7 @@ use Rattle.rank_lists.specs.declared.keys.TheConstants.{INDEXES}
 use Rattle.place_base.specs.declared.limits.TheConstants.{LARGEST_RANK}
 use Rattle.rank_lists.specs.Groups.{candidate_group, rank_group}
 use Rattle.rank_lists.specs.Table.{Standing, standings, in_type, by_rank, turns_of, ranks_of, RankTable, table_of, order_at, ranks_at}
-use Rattle.rank_lists.specs.Clean.{key_of}
+use Rattle.rank_lists.specs.Clean.{standing_key}
 use Rattle.rank_lists.specs.Repeats.{HasNoRepeat, HasUnequalNeighbours}
 use Rattle.rank_lists.specs.Rows.{row_at}
 use Rattle.rank_lists.specs.Table.{IsSound}
@@ -81,10 +81,10 @@ module _ (names : List (List ℕ)) (numbers : List ℕ) (rows : List Row)
 
   -- the turns of a type are its standings by rising rank
   turns-are : (kind : ℕ) (order ranks : List ℕ)
-      → AreTurns (map key_of (in_type kind all)) order ranks
+      → AreTurns (map standing_key (in_type kind all)) order ranks
       → (order ≡ order_in kind) × (ranks ≡ ranks_in kind)
   turns-are kind order ranks t =
-      let same : t.sorted ≡ map key_of (sorted_in kind) =
+      let same : t.sorted ≡ map standing_key (sorted_in kind) =
       sorted-keys (in_type kind all) t.sorted (small kind) t.permutation t.rises in
       let fits = sorted-AreSmall (in_type kind all) (small kind) in (
         t.order_is ∙ ap (map (λ key. key % INDEXES)) same ∙ keys-candidates (sorted_in kind) fits,
@@ -93,7 +93,7 @@ module _ (names : List (List ℕ)) (numbers : List ℕ) (rows : List Row)
 
   -- where no candidate stands behind two keys of a type, none has two standings in it
   pub once-candidate : (kind x : ℕ)
-      → HasNoRepeats (map (λ key. key % INDEXES) (map key_of (in_type kind all)))
+      → HasNoRepeats (map (λ key. key % INDEXES) (map standing_key (in_type kind all)))
       → copies x (map (λ s. s.candidate) (in_type kind all)) ≤ 1
   once-candidate kind x h =
       copies-once x (map (λ s. s.candidate) (in_type kind all))
@@ -101,7 +101,7 @@ module _ (names : List (List ℕ)) (numbers : List ℕ) (rows : List Row)
 
   -- where no two neighbours of its ranks in turn order are equal, no rank has two standings in it
   pub once-rank : (kind x : ℕ) (order ranks : List ℕ)
-      → AreTurns (map key_of (in_type kind all)) order ranks
+      → AreTurns (map standing_key (in_type kind all)) order ranks
       → HasUnequalNeighbours ranks (length ranks)
       → copies x (map (λ s. s.rank) (in_type kind all)) ≤ 1
   once-rank kind x order ranks t differ =
@@ -150,9 +150,9 @@ module _ (names : List (List ℕ)) (numbers : List ℕ) (rows : List Row)
     rank-at kind k lt = get_or-map (λ s. s.rank) (sorted_in kind) k first 0 lt
 
     key-at : (kind k : ℕ) → k < length (sorted_in kind)
-        → slice_index (map key_of (sorted_in kind)) k
-        ≡ key_of (slice_index_or (sorted_in kind) k first)
-    key-at kind k lt = get_or-map key_of (sorted_in kind) k first 0 lt
+        → slice_index (map standing_key (sorted_in kind)) k
+        ≡ standing_key (slice_index_or (sorted_in kind) k first)
+    key-at kind k lt = get_or-map standing_key (sorted_in kind) k first 0 lt
 
     distinct : (kind : ℕ) → HasNoRepeats (order_in kind)
     distinct kind i j below lt same =
@@ -181,11 +181,11 @@ module _ (names : List (List ℕ)) (numbers : List ℕ) (rows : List Row)
         → slice_index (ranks_in kind) j < slice_index (ranks_in kind) k
     rise kind j k below lt =
         let size = length-map (sorted_in kind) (λ s. s.rank) in
-        let keys_size = length-map (sorted_in kind) key_of in
+        let keys_size = length-map (sorted_in kind) standing_key in
         let low = (good-at kind j (omega arith)).candidate in
         let high = (good-at kind k (omega arith)).candidate in
-        let keys : slice_index (map key_of (sorted_in kind)) j ≤ slice_index
-        (map key_of (sorted_in kind)) k =
+        let keys : slice_index (map standing_key (sorted_in kind)) j ≤ slice_index
+        (map standing_key (sorted_in kind)) k =
         sorted-Rises (in_type kind all) (small kind) j k (omega arith) (omega arith) in
         let key_j = key-at kind j (omega arith) in
         let key_k = key-at kind k (omega arith) in
@@ -212,7 +212,7 @@ module _ (names : List (List ℕ)) (numbers : List ℕ) (rows : List Row)
     -- the turns of all types are the table
     pub all-turns : (orders ranks : List (List ℕ)) → length orders ≡ length names
         → length ranks ≡ length names
-        → ((kind : ℕ) → kind < length names → AreTurns (map key_of (in_type kind all))
+        → ((kind : ℕ) → kind < length names → AreTurns (map standing_key (in_type kind all))
         (slice_index_or orders kind []) (slice_index_or ranks kind []))
         → (orders ≡ table.orders) × (ranks ≡ table.ranks)
     all-turns orders ranks orders_here ranks_here turns =

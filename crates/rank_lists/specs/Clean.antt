@@ -13,15 +13,15 @@ use Rattle.rank_lists.specs.declared.part_ranks.PartRanks.{PartRanks}
 use Rattle.rank_lists.specs.declared.turns.Turns.{Turns}
 
 -- a rank with its candidate behind it
-abbrev pub key_of : Standing → ℕ
-key_of s = s.rank * INDEXES + s.candidate
+abbrev pub standing_key : Standing → ℕ
+standing_key s = s.rank * INDEXES + s.candidate
 
 -- the standings that rows give in each type are in a table, which knows whether there are others
 pub record HasStandings (names : List (List ℕ)) (numbers : List ℕ) (rows : List Row)
     (table : PartRanks) : Type 0 where
   pub types : length table.given.items ≡ length names
   pub given : (kind : ℕ) → kind < length names → slice_index_or table.given.items kind []
-      ≡ map key_of (in_type kind (standings names numbers rows))
+      ≡ map standing_key (in_type kind (standings names numbers rows))
   pub known : table.unknown ≡ false → All (λ row. IsSome (standing_in names numbers row)) rows
   pub last : table.index ≡ position (nat_eq table.number) numbers
 

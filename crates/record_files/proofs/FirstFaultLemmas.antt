@@ -10,7 +10,7 @@ use Rattle.place_base.specs.declared.fault.FaultKind.TheVariants.{TooManyRows}
 use Rattle.place_base.specs.declared.fault.FileFault.{FileFault}
 use Rattle.record_files.specs.FirstFaults.{FileRules, fault_at, fault_if, first_of, first_row_fault, long_fault, shape_fault, fault_behind, fault_in, row_fault, least_fault}
 use Rattle.record_files.specs.Form.{header_in}
-use Rattle.record_files.specs.ReadTo.{AreRowsRead, AreTaken, IsRowTaken}
+use Rattle.record_files.specs.ReadTo.{AreRowsRead, AreRowsTaken, IsRowTaken}
 use Rattle.record_files.specs.Rows.{Row, rows, data_rows}
 use Rattle.record_files.specs.declared.form.Header.{Header}
 use Rattle.record_files.specs.declared.reading.RowsRead.{RowsRead}
@@ -155,7 +155,7 @@ module _ {T : Type 0} (rules : FileRules) (header : Header) (HasRows : List Row 
 
     -- with one reading stops
     pub TakesTo-stops : (f : FileFault) → found ≡ Some f
-        → AreTaken rules None header HasRows all
+        → AreRowsTaken rules None header HasRows all
         (record { table = new; count = count; fault = Some f })
     TakesTo-stops f e = record {
       within = t.within;
@@ -168,7 +168,7 @@ module _ {T : Type 0} (rules : FileRules) (header : Header) (HasRows : List Row 
 
   -- where no row is left all were taken
   pub TakesTo-ends : (count : ℕ) (table : T) → TakesTo count table []
-      → AreTaken rules None header HasRows all
+      → AreRowsTaken rules None header HasRows all
       (record { table = table; count = count; fault = None })
   TakesTo-ends count table t =
       let sizes : 0 ≡ length all - count = ap length t.left_is ∙ length-drop count all in
@@ -183,9 +183,9 @@ module _ {T : Type 0} (rules : FileRules) (header : Header) (HasRows : List Row 
       }
 
   -- the fault that was told is the least
-  pub AreTaken-least : (read : RowsRead T) → AreTaken rules None header HasRows all read
+  pub AreRowsTaken-least : (read : RowsRead T) → AreRowsTaken rules None header HasRows all read
       → least_fault (fault_in rules header all) (length all) ≡ read.fault
-  AreTaken-least read t = by read.fault t.here t.whole
+  AreRowsTaken-least read t = by read.fault t.here t.whole
     where
       by : (f : Option FileFault) → fault_in rules header all read.count ≡ f
           → (f ≡ None → read.count ≡ length all)
@@ -202,10 +202,10 @@ module _ {T : Type 0} (rules : FileRules) (header : Header) (HasRows : List Row 
           (cases_lt read.count (length all))
 
   -- where none was told the table is that of all rows
-  pub AreTaken-whole : (of_header : Option FileFault) (read : RowsRead T)
-      → AreTaken rules of_header header HasRows all read → read.fault ≡ None
+  pub AreRowsTaken-whole : (of_header : Option FileFault) (read : RowsRead T)
+      → AreRowsTaken rules of_header header HasRows all read → read.fault ≡ None
       → HasRows all read.table
-  AreTaken-whole of_header read t none =
+  AreRowsTaken-whole of_header read t none =
       let size = t.whole none in
       subst (λ rows. HasRows rows read.table) (take_all read.count all (omega arith)) t.has
 
@@ -213,14 +213,14 @@ module _ {T : Type 0} (rules : FileRules) (bytes : List ℕ) (HasRows : List Row
   -- the rows behind a header without a fault
   pub AreRowsRead-taken : (header : Header) (read : RowsRead T)
       → first_row_fault rules.form (rows bytes) ≡ None → header ≡ header_in rules.form (rows bytes)
-      → AreTaken rules None header HasRows (data_rows bytes) read
+      → AreRowsTaken rules None header HasRows (data_rows bytes) read
       → AreRowsRead rules bytes HasRows read
   AreRowsRead-taken header read passed same taken =
-      let t = subst (λ h. AreTaken rules None h HasRows (data_rows bytes) read) same taken in
+      let t = subst (λ h. AreRowsTaken rules None h HasRows (data_rows bytes) read) same taken in
       record {
-        first = rw passed (AreTaken-least rules (header_in rules.form (rows bytes)) HasRows
+        first = rw passed (AreRowsTaken-least rules (header_in rules.form (rows bytes)) HasRows
             (data_rows bytes) read t);
-        taken = subst (λ front. AreTaken rules front (header_in rules.form (rows bytes)) HasRows
+        taken = subst (λ front. AreRowsTaken rules front (header_in rules.form (rows bytes)) HasRows
             (data_rows bytes) read) (sym passed) t;
       }
 

@@ -29,7 +29,7 @@ IsRowTaken fault before grown (Some found) = (fault ≡ Some found) × before
 -- what reading a list of rows comes to, behind a header that may have a fault: the first so many
 -- have no fault, and this holds of them; the fault that is told is the header's, and then no row
 -- was read, or that of the row behind them; where none is told all were read
-pub record AreTaken {T : Type 0} (rules : FileRules) (of_header : Option FileFault)
+pub record AreRowsTaken {T : Type 0} (rules : FileRules) (of_header : Option FileFault)
     (header : Header) (HasRows : List Row → T → Type 0) (all : List Row) (read : RowsRead T)
     : Type 0 where
   pub within : read.count ≤ length all
@@ -44,5 +44,5 @@ pub record AreTaken {T : Type 0} (rules : FileRules) (of_header : Option FileFau
 pub record AreRowsRead {T : Type 0} (rules : FileRules) (bytes : List ℕ)
     (HasRows : List Row → T → Type 0) (read : RowsRead T) : Type 0 where
   pub first : first_fault rules bytes ≡ read.fault
-  pub taken : AreTaken rules (first_row_fault rules.form (rows bytes))
+  pub taken : AreRowsTaken rules (first_row_fault rules.form (rows bytes))
       (header_in rules.form (rows bytes)) HasRows (data_rows bytes) read

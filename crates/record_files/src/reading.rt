@@ -2,7 +2,7 @@
 ghost use Rattle.std.specs.Prelude.{◌≡◌, ◌≤◌, ◌++◌, ◌∷◌, [], List, length, None, Some, IfOk, MatchResult};
 ghost use Rattle.record_files.specs.FirstFaults.{fault_behind, first_fault};
 ghost use Rattle.record_files.specs.Form.{IsHeaderOf};
-ghost use Rattle.record_files.specs.ReadTo.{AreRowsRead, AreTaken, IsFileRead, IsRowTaken};
+ghost use Rattle.record_files.specs.ReadTo.{AreRowsRead, AreRowsTaken, IsFileRead, IsRowTaken};
 ghost use Rattle.record_files.specs.Rows.{Row, data_rows};
 
 use crate::form::{FileForm, Header};
@@ -58,7 +58,7 @@ pub fn take_rows<B, T: RowTable<B> + Drop>(
 ) -> Result<RowsRead<T>, AllocError>
     requires header { IsHeaderOf (T.rules beside.now).form header }
     requires empty { T.has_rows beside.now [] table }
-    ensures { IfOk result (AreTaken (T.rules beside.now) None header (T.has_rows beside.now)
+    ensures { IfOk result (AreRowsTaken (T.rules beside.now) None header (T.has_rows beside.now)
         records.entry) }
 {
     let form = T::form(beside);

@@ -10,10 +10,10 @@ use Rattle.placement_file.specs.SeatLists.{SeatRows, candidates_of}
 use Rattle.registration_desk.specs.declared.reply.Reply.{Reply}
 use Rattle.registration_desk.specs.declared.reply.Reply.TheVariants.{Registered, Already, NotPlaced, Unknown}
 use Rattle.registration_desk.specs.declared.report.DeskNumbers.{DeskNumbers}
-use Rattle.registration_desk.specs.Seats.{row_at, seat_of}
+use Rattle.registration_desk.specs.Seats.{seat_row_at, seat_of}
 use Rattle.registration_desk.specs.Replies.{IsReply, is_again, is_not_placed, is_registration, is_unknown, registrations}
 use Rattle.registration_desk.specs.States.{DeskValue, IsDesk}
-use Rattle.registration_desk.specs.Reports.{is_named, numbers_of, registered_rows, replies_of, says_nothing, says_placed, says_without, with_reply}
+use Rattle.registration_desk.specs.Reports.{is_named, desk_numbers, registered_rows, replies_of, says_nothing, says_placed, says_without, with_reply}
 use Rattle.registration_desk.proofs.Reports.{number_named}
 
 -- a number with one more where the test holds
@@ -185,14 +185,15 @@ module _ (desk : DeskValue) (numbers : List ℕ) (total : ℕ) (h : IsDesk desk 
       desk.seats h.wide (λ i n row number seat.
       let inside = slice_get_within desk.seats i row seat in
       let kept : get_or numbers i 0 ≡ n = get_or_from_slice_get numbers i n 0 number in
-      let at : row_at desk.seats i ≡ row = get_or_from_slice_get desk.seats i row (0, None) seat in
+      let at : seat_row_at desk.seats i
+      ≡ row = get_or_from_slice_get desk.seats i row (0, None) seat in
       ap (λ m. bit (nat_lt 0 m)) (sym kept)
       ∙ ap bit (number_named desk numbers total h all distinct i inside)
       ∙ ap (λ r. bit (is_named desk.requests r)) at)
       ∙ sym (length-filter (is_named desk.requests) desk.seats)
 
   -- the numbers of the replies are those of the placement and the requests
-  pub replies_are : replies_of desk.history ≡ numbers_of desk.seats desk.requests
+  pub replies_are : replies_of desk.history ≡ desk_numbers desk.seats desk.requests
   replies_are =
       let placed = counts (λ r. bit (is_registration r) + bit (is_again r))
       (λ c. bit (says_placed (seat_of desk.seats c))) (tells_placed desk.seats desk.requests) in

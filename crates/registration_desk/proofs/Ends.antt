@@ -10,7 +10,7 @@ use Rattle.atomic_table.specs.Table.{Seen, Final, opening}
 use Rattle.registration_desk.specs.declared.reply.Reply.{Reply}
 use Rattle.registration_desk.specs.States.{DeskValue}
 use Rattle.registration_desk.specs.Clerks.{ClerkKnows, spent_clerk}
-use Rattle.registration_desk.specs.Rule.{DeskTable, share_of, left_of, served_of, hold_bit, number_of, HasReplies, IsClerk, IsOrderly, first_of}
+use Rattle.registration_desk.specs.Rule.{DeskTable, share_of, left_of, served_of, hold_bit, served_number, HasReplies, IsClerk, IsOrderly, first_clerk_of}
 use Rattle.registration_desk.specs.declared.rule.DeskKey.{DeskKey}
 use Rattle.interleaving_core.proofs.Places.{at_set, sum_set, terms_le, sum_zero}
 use Rattle.registration_desk.proofs.Belonging.{there, is_none, Belongs}
@@ -20,10 +20,10 @@ module _ (key : DeskKey) where
   pub desk_opens : (words : List ℕ) (slots : List (Option DeskValue)) (state : DeskValue)
       → words ≡ 0 ∷ [] → slots ≡ Some state ∷ [] → state ≡ key.desk.value → state.history ≡ []
       → length state.requests ≤ MOST_REQUESTS → 0 < key.clerks
-      → IsOrderly key (opening words slots (first_of key))
+      → IsOrderly key (opening words slots (first_clerk_of key))
   desk_opens words slots state first filled same empty few staffed =
       subst (λ (z : List ℕ × List (Option DeskValue)). IsOrderly key
-      (opening z.0 z.1 (first_of key)))
+      (opening z.0 z.1 (first_clerk_of key)))
       (λ k. (sym first k, sym filled k))
       record {
         few = let r = ap (λ (d : DeskValue). length d.requests) same in omega arith;
@@ -46,9 +46,10 @@ module _ (key : DeskKey) where
             };
       }
     where
-      one : (i : ℕ) (z : ClerkKnows) → slice_get (first_of key ∷ []) i ≡ Some z → Belongs key 0 z
+      one : (i : ℕ) (z : ClerkKnows) → slice_get (first_clerk_of key ∷ []) i ≡ Some z
+          → Belongs key 0 z
       one zero z is =
-          let same : first_of key ≡ z = cc (is) in
+          let same : first_clerk_of key ≡ z = cc (is) in
           subst (Belongs key 0) same
           (inr record {
             some = staffed;
@@ -77,7 +78,7 @@ module _ (key : DeskKey) (s : DeskTable) (h : IsOrderly key s) (id : ℕ) (x : C
       let all = h.shares in
       ⊎_elim
       (λ (spent : z ≡ spent_clerk). spent)
-      (λ (c : IsClerk key (number_of s.words) z). absurd (let l = c.some in omega arith))
+      (λ (c : IsClerk key (served_number s.words) z). absurd (let l = c.some in omega arith))
       (h.each i z at_z)
 
   -- so a sum over the views is its own number

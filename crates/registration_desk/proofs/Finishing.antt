@@ -16,7 +16,7 @@ use Rattle.run_frame.specs.Runs.{IsDone, IsFinished, IsWhole}
 use Rattle.run_frame.specs.Stops.{is_free_stop}
 use Rattle.run_frame.specs.declared.stop.FileStop.TheVariants.{Fault, ReadFault, Memory}
 use Rattle.registration_desk.specs.Reports.{DeskReport, report_on}
-use Rattle.registration_desk.specs.Runs.{AreTwo, HasCause, IsAnswering, IsComplete, LeavesSink, PrintsRegistered, ServesWhole, endings, line_in}
+use Rattle.registration_desk.specs.Runs.{AreTwo, HasStatusCause, IsAnswering, IsComplete, LeavesSink, PrintsRegistered, ServesWhole, endings, line_in}
 use Rattle.registration_desk.specs.Says.{DeskFiles, both_said, files_read, named, numbers_said, reported, says}
 use Rattle.registration_desk.specs.Statuses.{status_line, status_of}
 use Rattle.registration_desk.specs.Words.{clerks_of}
@@ -149,7 +149,7 @@ module _ {K : Type 0} (written : K → Option (List ℕ)) (faults : K → ℕ) (
 
   pub causes-run : ((refused : DeskWords) → clerks_of words ≡ Err refused
       → answer ≡ Err (Words refused))
-      → HasCause (clerks_of words) status before now tally_before tally_now (faults old)
+      → HasStatusCause (clerks_of words) status before now tally_before tally_now (faults old)
       (faults new)
   causes-run exact =
       frame.causes-run are-apart written faults (clerks_of words) status old new answers finished

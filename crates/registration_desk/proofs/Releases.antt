@@ -7,7 +7,7 @@ use Rattle.atomic_table.specs.Table.{gives, put_back, Allows}
 use Rattle.atomic_table.proofs.Lists.{set_here}
 use Rattle.registration_desk.specs.States.{DeskValue}
 use Rattle.registration_desk.specs.Clerks.{ClerkKnows, released}
-use Rattle.registration_desk.specs.Rule.{share_of, left_of, served_of, hold_bit, number_of, held_bit, HasReplies, IsOrderly}
+use Rattle.registration_desk.specs.Rule.{share_of, left_of, served_of, hold_bit, served_number, held_bit, HasReplies, IsOrderly}
 use Rattle.registration_desk.specs.Steps.{ClerkMe, ReleaseTold}
 use Rattle.registration_desk.specs.declared.rule.DeskKey.{DeskKey}
 use Rattle.interleaving_core.proofs.Places.{at_set, sum_set, term_le, terms_le}
@@ -25,12 +25,12 @@ module _ (key : DeskKey) where
       let x : ClerkKnows = me.0 in
       let y = released x in
       let here = there s.views id x at in
-      let c = is_clerk key (number_of s.words) x live (h.each id x here) in
+      let c = is_clerk key (served_number s.words) x live (h.each id x here) in
       let mine = c.held number hold in
       let at_number = mine.0 in
       let some_left = mine.1 in
       let now = word_now s.words word h.wide in
-      let half : number_of (set s.words 0 word) ≡ number + 1 =
+      let half : served_number (set s.words 0 word) ≡ number + 1 =
       ap (λ (z : ℕ). z / 2) now ∙ (let e : word / 2 ≡ number + 1 = omega arith in e) in
       let bit : held_bit (set s.words 0 word) ≡ 0 =
       ap (λ (z : ℕ). z % 2) now ∙ (let e : word % 2 ≡ 0 = omega arith in e) in
@@ -58,7 +58,7 @@ module _ (key : DeskKey) where
           each = λ i z at_z.
               ⊎_elim
               (λ (t : (i ≡ id) × (y ≡ z)).
-              subst (Belongs key (number_of (set s.words 0 word))) t.1
+              subst (Belongs key (served_number (set s.words 0 word))) t.1
               (inr record {
                 some = c.some;
                 same_seats = c.same_seats;
@@ -67,7 +67,7 @@ module _ (key : DeskKey) where
                 held = λ n e. absurd (cc (e));
               }))
               (λ (t : (i ≢ id) × (slice_get s.views i ≡ Some z)).
-              moved key (number_of s.words) (number_of (set s.words 0 word)) z
+              moved key (served_number s.words) (served_number (set s.words 0 word)) z
               (let two = terms_le hold_bit s.views id i x z t.0 here t.1 in omega arith)
               (h.each i z t.1))
               (at_set s.views id i y z at_z);

@@ -16,7 +16,7 @@ use Rattle.record_files.specs.Texts.{row_text}
 use Rattle.registration_desk.specs.declared.reply.Reply.{Reply}
 use Rattle.registration_desk.specs.declared.reply.Reply.TheVariants.{Registered, Already, NotPlaced, Unknown}
 use Rattle.placement_file.specs.SeatLists.{SeatRows, candidates_of}
-use Rattle.registration_desk.specs.Seats.{row_at, seat_of}
+use Rattle.registration_desk.specs.Seats.{seat_row_at, seat_of}
 use Rattle.registration_desk.specs.Replies.{IsUnregistered, IsReply}
 use Rattle.registration_desk.specs.States.{DeskValue, NumberFits, IsDesk}
 use Rattle.registration_desk.specs.Reports.{is_named, named_at, number_row, registered_text}
@@ -45,18 +45,18 @@ first_place p xs i inside is before =
 module _ (seats : SeatRows) (distinct : IsDistinct nat_eq (candidates_of seats)) where
   -- a candidate is found at its own index
   pub own_place : (i : ℕ) → i < length seats
-      → position (nat_eq (row_at seats i).0) (candidates_of seats) ≡ Some i
+      → position (nat_eq (seat_row_at seats i).0) (candidates_of seats) ≡ Some i
   own_place i inside =
       let long = length-map seats (λ (row : ℕ × Option ℕ). row.0) in
-      let at : get_or (candidates_of seats) i 0 ≡ (row_at seats i).0 =
+      let at : get_or (candidates_of seats) i 0 ≡ (seat_row_at seats i).0 =
       get_or-map (λ (row : ℕ × Option ℕ). row.0) seats i (0, None) 0 inside in
-      first_place (nat_eq (row_at seats i).0) (candidates_of seats) i (omega arith)
+      first_place (nat_eq (seat_row_at seats i).0) (candidates_of seats) i (omega arith)
       (eq-eqb _ _ (sym at))
       (λ k below.
       let apart =
       apart_from_distinct nat_eq (candidates_of seats) k i 0 distinct below (omega arith) in
       flip (get_or (candidates_of seats) k 0) (get_or (candidates_of seats) i 0)
-      (row_at seats i).0 at apart)
+      (seat_row_at seats i).0 at apart)
     where
       flip : (a b c : ℕ) → b ≡ c → nat_eq a b ≡ false → nat_eq c a ≡ false
       flip a b c e apart = by (nat_eq c a) refl
@@ -68,10 +68,11 @@ module _ (seats : SeatRows) (distinct : IsDistinct nat_eq (candidates_of seats))
           by false is = refl
 
   -- what the placement says of it
-  pub own_row : (i : ℕ) → i < length seats → seat_of seats (row_at seats i).0
-      ≡ Some (row_at seats i).1
+  pub own_row : (i : ℕ) → i < length seats → seat_of seats (seat_row_at seats i).0
+      ≡ Some (seat_row_at seats i).1
   own_row i inside =
-      lookup_from_place nat_eq_equiv seats i (row_at seats i).0 (row_at seats i).1 distinct
+      lookup_from_place nat_eq_equiv seats i (seat_row_at seats i).0 (seat_row_at seats i).1
+      distinct
       (slice_get-get_or seats i (0, None) inside)
 
 module _ (desk : DeskValue) (numbers : List ℕ) (total : ℕ) (h : IsDesk desk numbers total)
@@ -113,39 +114,41 @@ module _ (desk : DeskValue) (numbers : List ℕ) (total : ℕ) (h : IsDesk desk 
 
   -- a number is kept at an index exactly where the candidate is placed and named
   pub number_named : (i : ℕ) → i < length desk.seats
-      → nat_lt 0 (get_or numbers i 0) ≡ is_named desk.requests (row_at desk.seats i)
+      → nat_lt 0 (get_or numbers i 0) ≡ is_named desk.requests (seat_row_at desk.seats i)
   number_named i inside =
       by (get_or numbers i 0)
-      (h.agree (row_at desk.seats i).0 i (own_place desk.seats distinct i inside))
+      (h.agree (seat_row_at desk.seats i).0 i (own_place desk.seats distinct i inside))
     where
-      without : (held : Option ℕ) (b : Bool) → (row_at desk.seats i).1 ≡ held
-          → list_any (nat_eq (row_at desk.seats i).0) desk.requests ≡ b
-          → IsUnregistered desk.requests desk.history (row_at desk.seats i).0 → false
+      without : (held : Option ℕ) (b : Bool) → (seat_row_at desk.seats i).1 ≡ held
+          → list_any (nat_eq (seat_row_at desk.seats i).0) desk.requests ≡ b
+          → IsUnregistered desk.requests desk.history (seat_row_at desk.seats i).0 → false
           ≡ (is_some held && b)
       without None b e f free = refl
       without (Some code) false e f free = refl
       without (Some code) true e f free =
           absurd
-          (was_named (row_at desk.seats i).0 code (own_row desk.seats distinct i inside ∙ ap Some e)
-          (Any-from_list_any (nat_eq (row_at desk.seats i).0) desk.requests f) free)
+          (was_named (seat_row_at desk.seats i).0 code
+          (own_row desk.seats distinct i inside ∙ ap Some e)
+          (Any-from_list_any (nat_eq (seat_row_at desk.seats i).0) desk.requests f) free)
 
-      by : (n : ℕ) → NumberFits desk.requests desk.history (row_at desk.seats i).0 n → nat_lt 0 n
-          ≡ is_named desk.requests (row_at desk.seats i)
+      by : (n : ℕ) → NumberFits desk.requests desk.history (seat_row_at desk.seats i).0 n
+          → nat_lt 0 n
+          ≡ is_named desk.requests (seat_row_at desk.seats i)
       by zero free =
-          without (row_at desk.seats i).1
-          (list_any (nat_eq (row_at desk.seats i).0) desk.requests) refl refl free
+          without (seat_row_at desk.seats i).1
+          (list_any (nat_eq (seat_row_at desk.seats i).0) desk.requests) refl refl free
       by (suc n) was =
           let placed =
-          only_placed desk.seats desk.requests desk.history h.history (row_at desk.seats i).0
+          only_placed desk.seats desk.requests desk.history h.history (seat_row_at desk.seats i).0
           (suc n) was in
-          let holds : (row_at desk.seats i).1 ≡ Some placed.0 =
+          let holds : (seat_row_at desk.seats i).1 ≡ Some placed.0 =
           let own = own_row desk.seats distinct i inside in
           let its = placed.1 in
           cc (own, its) in
           let named =
-          any_passes_from_place (nat_eq (row_at desk.seats i).0) desk.requests was.place
-          (row_at desk.seats i).0 was.request
-          (eq-eqb (row_at desk.seats i).0 (row_at desk.seats i).0 refl) in
+          any_passes_from_place (nat_eq (seat_row_at desk.seats i).0) desk.requests was.place
+          (seat_row_at desk.seats i).0 was.request
+          (eq-eqb (seat_row_at desk.seats i).0 (seat_row_at desk.seats i).0 refl) in
           lt-ltb 0 (suc n) (omega arith) ∙ (λ k. is_some (sym holds k) && sym named k)
 
 -- the text so far
@@ -156,7 +159,7 @@ text_to seats requests n =
 
 module _ (seats : SeatRows) (requests : List ℕ) (n : ℕ) (inside : n < length seats) where
   abbrev row_n : ℕ × Option ℕ
-  row_n = row_at seats n
+  row_n = seat_row_at seats n
 
   more : filter (is_named requests) (take (n + 1) seats)
       ≡ filter (is_named requests) (take n seats) ++ cond (is_named requests row_n) (row_n ∷ []) []
@@ -203,18 +206,18 @@ text_all seats requests n all =
 
 -- a number is kept at an index, or none
 pub named_some : (seats : SeatRows) (requests : List ℕ) (i n number : ℕ) → n ≢ 0
-    → nat_lt 0 n ≡ is_named requests (row_at seats i) → number ≡ (row_at seats i).0
+    → nat_lt 0 n ≡ is_named requests (seat_row_at seats i) → number ≡ (seat_row_at seats i).0
     → Some number ≡ named_at seats requests i
 named_some seats requests i zero number some_number is same = absurd (some_number refl)
 named_some seats requests i (suc n) number some_number is same =
     ap Some same
-    ∙ ap (λ (b : Bool). cond b (Some (row_at seats i).0) None)
+    ∙ ap (λ (b : Bool). cond b (Some (seat_row_at seats i).0) None)
     (sym (lt-ltb 0 (suc n) (omega arith)) ∙ is)
 
 pub named_none : (seats : SeatRows) (requests : List ℕ) (i n : ℕ) → n ≡ 0
-    → nat_lt 0 n ≡ is_named requests (row_at seats i) → None ≡ named_at seats requests i
+    → nat_lt 0 n ≡ is_named requests (seat_row_at seats i) → None ≡ named_at seats requests i
 named_none seats requests i n none is =
-    ap (λ (b : Bool). cond b (Some (row_at seats i).0) None) (ap (nat_lt 0) (sym none) ∙ is)
+    ap (λ (b : Bool). cond b (Some (seat_row_at seats i).0) None) (ap (nat_lt 0) (sym none) ∙ is)
 
 -- an element that was read
 pub read_at : (l : List ℕ) (i x : ℕ) → i < length l → x ≡ get_or l i x → get_or l i 0 ≡ x
@@ -223,7 +226,7 @@ read_at l i x inside is =
 
 -- the number of a candidate
 pub number_is : (seats : SeatRows) (i number : ℕ) → i < length seats
-    → slice_get (candidates_of seats) i ≡ Some number → number ≡ (row_at seats i).0
+    → slice_get (candidates_of seats) i ≡ Some number → number ≡ (seat_row_at seats i).0
 number_is seats i number inside is =
     sym (get_or_from_slice_get (candidates_of seats) i number 0 is)
     ∙ get_or-map (λ (row : ℕ × Option ℕ). row.0) seats i (0, None) 0 inside

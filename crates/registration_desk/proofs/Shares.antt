@@ -5,7 +5,7 @@ use Rattle.std.specs.List.{sum_by}
 use Rattle.std.proofs.lemmas.List.Sums.{sum_by-append, sum_by-cons}
 use Rattle.atomic_table.specs.Table.{Splits, Joins}
 use Rattle.registration_desk.specs.Clerks.{ClerkKnows, spent_clerk, next_part, kept_part, new_part, joined}
-use Rattle.registration_desk.specs.Rule.{share_of, left_of, served_of, hold_bit, number_of, IsOrderly}
+use Rattle.registration_desk.specs.Rule.{share_of, left_of, served_of, hold_bit, served_number, IsOrderly}
 use Rattle.registration_desk.specs.declared.rule.DeskKey.{DeskKey}
 use Rattle.interleaving_core.proofs.Places.{at_set, at_snoc, sum_set}
 use Rattle.registration_desk.proofs.Belonging.{there, not_holding, is_none, Belongs, is_clerk}
@@ -18,7 +18,7 @@ module _ (key : DeskKey) where
       let left = kept_part x in
       let right = new_part x in
       let here = there s.views id x at in
-      let c = is_clerk key (number_of s.words) x (omega arith) (h.each id x here) in
+      let c = is_clerk key (served_number s.words) x (omega arith) (h.each id x here) in
       let sums : (g : ClerkKnows → ℕ) → sum_by g (set s.views id left ++ right ∷ []) + g x
       ≡ sum_by g s.views + (g left + g right) =
       λ g.
@@ -37,7 +37,7 @@ module _ (key : DeskKey) where
       let was_holders = h.holders in
       let of_part : (z : ClerkKnows) → 1 ≤ z.share → z.holds ≡ None → z.seats ≡ x.seats → z.requests
       ≡ x.requests
-      → z.clerks ≡ x.clerks → Belongs key (number_of s.words) z =
+      → z.clerks ≡ x.clerks → Belongs key (served_number s.words) z =
       λ z live none_held e f g.
       inr record {
         some = live;
@@ -54,12 +54,12 @@ module _ (key : DeskKey) where
             (λ (p : slice_get (set s.views id left) i ≡ Some z).
             ⊎_elim
             (λ (t : (i ≡ id) × (left ≡ z)).
-            subst (Belongs key (number_of s.words)) t.1
+            subst (Belongs key (served_number s.words)) t.1
             (of_part left (omega arith) free refl refl refl))
             (λ (t : (i ≢ id) × (slice_get s.views i ≡ Some z)). h.each i z t.1)
             (at_set s.views id i left z p))
             (λ (p : (i ≡ length (set s.views id left)) × (right ≡ z)).
-            subst (Belongs key (number_of s.words)) p.1
+            subst (Belongs key (served_number s.words)) p.1
             (of_part right (omega arith) free refl refl refl))
             (at_snoc (set s.views id left) right z i is);
         shares = omega arith;
@@ -77,7 +77,7 @@ module _ (key : DeskKey) where
       let both = joined x y in
       let mid : List ClerkKnows = set s.views id both in
       let here = there s.views id x at in
-      let c = is_clerk key (number_of s.words) x live (h.each id x here) in
+      let c = is_clerk key (served_number s.words) x live (h.each id x here) in
       let in_mid : slice_get mid other ≡ Some y = there mid other y at_other in
       let sums : (g : ClerkKnows → ℕ) → sum_by g (set mid other spent_clerk) + (g x + g y)
       ≡ sum_by g s.views + (g both + g spent_clerk) =
@@ -104,7 +104,7 @@ module _ (key : DeskKey) where
             (λ (t : (i ≢ other) × (slice_get mid i ≡ Some z)).
             ⊎_elim
             (λ (u : (i ≡ id) × (both ≡ z)).
-            subst (Belongs key (number_of s.words)) u.1
+            subst (Belongs key (served_number s.words)) u.1
             (inr record {
               some = omega arith;
               same_seats = c.same_seats;

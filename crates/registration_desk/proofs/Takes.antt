@@ -8,8 +8,8 @@ use Rattle.atomic_table.specs.Table.{Act, Valid, stepped, carried_after, keeps, 
 use Rattle.atomic_table.proofs.Lists.{set_again}
 use Rattle.registration_desk.specs.States.{DeskValue}
 use Rattle.registration_desk.specs.Clerks.{ClerkKnows, holding}
-use Rattle.registration_desk.specs.Rule.{DeskTable, share_of, left_of, served_of, hold_bit, number_of, held_bit, IsOrderly}
-use Rattle.registration_desk.specs.Steps.{ClerkMe, is_odd, IsTaken, TakeTold}
+use Rattle.registration_desk.specs.Rule.{DeskTable, share_of, left_of, served_of, hold_bit, served_number, held_bit, IsOrderly}
+use Rattle.registration_desk.specs.Steps.{ClerkMe, is_odd, HasTakenSlot, TakeTold}
 use Rattle.registration_desk.specs.declared.rule.DeskKey.{DeskKey}
 use Rattle.interleaving_core.proofs.Places.{at_set, sum_set, term_le}
 use Rattle.registration_desk.proofs.LockWord.{or_one, or_odd, odd_word, even_word, word_now}
@@ -36,7 +36,7 @@ module _ (key : DeskKey) where
         tt,
         subst (IsOrderly key)
             (λ k. record { words = sym same_words k; homes = s.homes; views = sym same_views k }) h,
-        subst (λ (b : Bool). MatchBool b (me ≡ me) (IsTaken me (found / 2) me)) (sym odd) refl,
+        subst (λ (b : Bool). MatchBool b (me ≡ me) (HasTakenSlot me (found / 2) me)) (sym odd) refl,
       )
   try_by id me s h at live left free false odd =
       let x : ClerkKnows = me.0 in
@@ -46,11 +46,11 @@ module _ (key : DeskKey) where
       let y = holding x (found / 2) in
       let word = bit_or found 1 in
       let now = word_now s.words word h.wide in
-      let half : number_of (set s.words 0 word) ≡ number_of s.words =
+      let half : served_number (set s.words 0 word) ≡ served_number s.words =
       ap (λ (z : ℕ). z / 2) now ∙ (or_one found).0 in
       let bit : held_bit (set s.words 0 word) ≡ 1 = ap (λ (z : ℕ). z % 2) now ∙ (or_one found).1 in
       let home = h.home even in
-      let c = is_clerk key (number_of s.words) x live (h.each id x here) in
+      let c = is_clerk key (served_number s.words) x live (h.each id x here) in
       let shares = sum_set share_of s.views id x y here in
       let served = sum_set served_of s.views id x y here in
       let lefts = sum_set left_of s.views id x y here in
@@ -70,7 +70,7 @@ module _ (key : DeskKey) where
           each = λ i z is.
               ⊎_elim
               (λ (t : (i ≡ id) × (y ≡ z)).
-              subst (Belongs key (number_of (set s.words 0 word))) t.1
+              subst (Belongs key (served_number (set s.words 0 word))) t.1
               (inr record {
                 some = c.some;
                 same_seats = c.same_seats;
@@ -88,7 +88,7 @@ module _ (key : DeskKey) where
           home = λ none_held. absurd (omega arith);
         },
         subst (λ (b : Bool). MatchBool b ((y, (0, Some home.state) ∷ me.1) ≡ me)
-            (IsTaken me (found / 2) (y, (0, Some home.state) ∷ me.1))) (sym odd)
+            (HasTakenSlot me (found / 2) (y, (0, Some home.state) ∷ me.1))) (sym odd)
             record {
               state = home.state;
               seat = refl;

@@ -16,8 +16,8 @@ abbrev pub key_of : Desk → DeskKey
 key_of desk = desk.table.shared.key
 
 -- the desk at its opening
-abbrev pub opened : Desk → DeskValue
-opened desk = (key_of desk).desk.value
+abbrev pub at_opening : Desk → DeskValue
+at_opening desk = (key_of desk).desk.value
 
 -- it is a clerk of this desk
 abbrev pub IsClerkOf : Desk → Clerk → Type 0
@@ -38,7 +38,7 @@ pub record IsNew (desk : Desk) (number : ℕ) (clerk : Clerk) : Type 0 where
   pub of_desk : IsClerkOf desk clerk
   pub share : (knows clerk).share ≡ 1
   pub left : (knows clerk).left
-      ≡ part_of (length (opened desk).requests) (key_of desk).clerks number
+      ≡ part_of (length (at_opening desk).requests) (key_of desk).clerks number
   pub served : (knows clerk).served ≡ 0
 
 -- the clerks at the opening, numbered from 0

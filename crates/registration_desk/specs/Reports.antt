@@ -4,7 +4,7 @@ use Rattle.std.specs.Prelude.{ℕ, ◌+◌, ◌-◌, cond, Bool, true, false, �
 use Rattle.std.specs.List.{count_by, filter, flat_map, list_any}
 use Rattle.record_files.specs.Texts.{row_text}
 use Rattle.placement_file.specs.SeatLists.{SeatRows}
-use Rattle.registration_desk.specs.Seats.{row_at, seat_of}
+use Rattle.registration_desk.specs.Seats.{seat_row_at, seat_of}
 use Rattle.registration_desk.specs.declared.reply.Reply.{Reply}
 use Rattle.registration_desk.specs.declared.reply.Reply.TheVariants.{Registered, Already, NotPlaced, Unknown}
 use Rattle.registration_desk.specs.declared.report.DeskNumbers.{DeskNumbers}
@@ -51,8 +51,8 @@ abbrev pub unknown_requests : SeatRows → List ℕ → ℕ
 unknown_requests seats requests = count_by (λ c. says_nothing (seat_of seats c)) requests
 
 -- the numbers of the line
-abbrev pub numbers_of : SeatRows → List ℕ → DeskNumbers
-numbers_of seats requests =
+abbrev pub desk_numbers : SeatRows → List ℕ → DeskNumbers
+desk_numbers seats requests =
     record {
       registered = length (registered_rows seats requests);
       again = placed_requests seats requests - length (registered_rows seats requests);
@@ -84,7 +84,7 @@ with_reply n Unknown = record n { unknown = n.unknown + 1 }
 -- the number of the candidate at an index, where it is placed and a request names it
 abbrev pub named_at : SeatRows → List ℕ → ℕ → Option ℕ
 named_at seats requests index =
-    cond (is_named requests (row_at seats index)) (Some (row_at seats index).0) None
+    cond (is_named requests (seat_row_at seats index)) (Some (seat_row_at seats index).0) None
 
 -- what a desk has ready before its first byte is written: its text, and the numbers of its line
 pub record DeskReport : Type 0 where
@@ -94,4 +94,4 @@ pub record DeskReport : Type 0 where
 -- the report on a placement and requests
 abbrev pub report_on : SeatRows → List ℕ → DeskReport
 report_on seats requests =
-    record { text = registered_text seats requests; numbers = numbers_of seats requests }
+    record { text = registered_text seats requests; numbers = desk_numbers seats requests }

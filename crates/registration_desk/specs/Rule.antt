@@ -33,8 +33,8 @@ abbrev pub hold_bit : ClerkKnows → ℕ
 hold_bit x = some_bit x.holds
 
 -- the number of replies that the word shows
-abbrev pub number_of : List ℕ → ℕ
-number_of words = slice_index words 0 / 2
+abbrev pub served_number : List ℕ → ℕ
+served_number words = slice_index words 0 / 2
 
 -- 1 where the word shows that the slot is held
 abbrev pub held_bit : List ℕ → ℕ
@@ -69,17 +69,17 @@ pub record IsOrderly (key : DeskKey) (s : DeskTable) : Type 0 where
   pub wide : length s.words ≡ 1
   -- each view is one of this desk's, or spent
   pub each : (i : ℕ) (x : ClerkKnows) → slice_get s.views i ≡ Some x
-      → (x ≡ spent_clerk) ⊎ IsClerk key (number_of s.words) x
+      → (x ≡ spent_clerk) ⊎ IsClerk key (served_number s.words) x
   -- the shares add up to the clerks, the numbers served to the number in the word, and those served
   -- and left to the requests
   pub shares : sum_by share_of s.views ≡ key.clerks
-  pub served : sum_by served_of s.views ≡ number_of s.words
+  pub served : sum_by served_of s.views ≡ served_number s.words
   pub all : sum_by served_of s.views + sum_by left_of s.views ≡ length key.desk.value.requests
   -- one view holds where the word is odd, and none where it is even
   pub holders : sum_by hold_bit s.views ≡ held_bit s.words
   -- where the word is even the slot is at home
-  pub home : held_bit s.words ≡ 0 → IsHome key (number_of s.words) s.homes
+  pub home : held_bit s.words ≡ 0 → IsHome key (served_number s.words) s.homes
 
 -- what the first seat of a desk knows
-abbrev pub first_of : DeskKey → ClerkKnows
-first_of key = first_clerk key.desk.value.seats key.desk.value.requests key.clerks
+abbrev pub first_clerk_of : DeskKey → ClerkKnows
+first_clerk_of key = first_clerk key.desk.value.seats key.desk.value.requests key.clerks

@@ -9,7 +9,7 @@ use Rattle.run_frame.specs.Files.{AreRead, AreReadOnce, Reads}
 use Rattle.run_frame.specs.Lines.{IsNoted}
 use Rattle.run_frame.specs.Runs as frame
 use Rattle.run_frame.specs.Runs.{Endings, IsFinished, IsWhole}
-use Rattle.registration_desk.specs.Reports.{DeskReport, numbers_of, registered_text}
+use Rattle.registration_desk.specs.Reports.{DeskReport, desk_numbers, registered_text}
 use Rattle.registration_desk.specs.Says.{files_read, first_file, named, numbers_said, says}
 use Rattle.registration_desk.specs.Statuses.{numbers_line, status_line, status_of}
 use Rattle.registration_desk.specs.Words.{clerks_of}
@@ -69,7 +69,7 @@ text_in two = registered_text (seats_in two.placement) (requests_in two.requests
 
 -- the line of two files
 abbrev pub line_in : TwoFiles → List ℕ
-line_in two = numbers_line (numbers_of (seats_in two.placement) (requests_in two.requests))
+line_in two = numbers_line (desk_numbers (seats_in two.placement) (requests_in two.requests))
 
 -- two files without a fault were read, each once; their text was appended, and their line noted
 pub record IsRegistered (told : Option Files) (words : List (List ℕ))
@@ -113,9 +113,9 @@ abbrev pub IsWordsRefusal : DeskStatus → Type 0
 IsWordsRefusal status = (refused : DeskWords) × (status ≡ ends.Words refused)
 
 -- each refusal has its cause: words by their rules, and the others by the counts
-abbrev pub HasCause : Result ℕ DeskWords → DeskStatus → ℕ → ℕ → ℕ → ℕ → ℕ → ℕ → Type 0
-HasCause clerks status before now tally_before tally_now out_before out_now =
-    frame.HasCause endings clerks status before now tally_before tally_now out_before out_now
+abbrev pub HasStatusCause : Result ℕ DeskWords → DeskStatus → ℕ → ℕ → ℕ → ℕ → ℕ → ℕ → Type 0
+HasStatusCause clerks status before now tally_before tally_now out_before out_now =
+    frame.HasStatusCause endings clerks status before now tally_before tally_now out_before out_now
 
 -- after a refusal the sink is as it was
 abbrev pub LeavesSink : {K : Type 0} → (K → Option (List ℕ)) → (K → ℕ) → DeskStatus → K → K

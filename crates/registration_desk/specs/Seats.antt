@@ -9,5 +9,5 @@ abbrev pub seat_of : SeatRows → ℕ → Option (Option ℕ)
 seat_of seats candidate = lookup (nat_eq candidate) seats
 
 -- the candidate at an index, with the code held
-abbrev pub row_at : SeatRows → ℕ → ℕ × Option ℕ
-row_at seats index = slice_index_or seats index (0, None)
+abbrev pub seat_row_at : SeatRows → ℕ → ℕ × Option ℕ
+seat_row_at seats index = slice_index_or seats index (0, None)

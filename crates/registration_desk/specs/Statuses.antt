@@ -11,13 +11,13 @@ use Rattle.registration_desk.specs.declared.words.DeskWords.{DeskWords}
 use Rattle.registration_desk.specs.declared.words.DeskWords.TheVariants.{BadNumber, WordCount}
 
 -- the number of a status
-abbrev pub code_of : DeskStatus → ℕ
-code_of Done = 0
-code_of (Words _) = 2
-code_of (FileFault _) = 3
-code_of ReadFault = 4
-code_of WriteFault = 5
-code_of Memory = 6
+abbrev pub status_code : DeskStatus → ℕ
+status_code Done = 0
+status_code (Words _) = 2
+status_code (FileFault _) = 3
+status_code ReadFault = 4
+status_code WriteFault = 5
+status_code Memory = 6
 
 -- the status where there is no report
 abbrev pub status_of : Stop DeskWords → DeskStatus

@@ -1,7 +1,7 @@
 // The end of a desk.
 
 ghost use Rattle.std.specs.Prelude.{◌≡◌, ◌+◌, length};
-ghost use Rattle.registration_desk.specs.Desks.{AreAllClerksOf, key_of, left_by, opened, served_by};
+ghost use Rattle.registration_desk.specs.Desks.{AreAllClerksOf, key_of, left_by, at_opening, served_by};
 ghost use Rattle.registration_desk.specs.Replies.{IsHistory, IsOnceEach, IsOnlyPlaced};
 ghost use Rattle.registration_desk.specs.Steps.{IsIdle};
 
@@ -13,11 +13,11 @@ impl Desk {
     /// Ends the desk, whose clerks these all are, and gives its state back. It takes no memory.
     pub fn close(self, clerks: Vec<Clerk>) -> DeskState
         requires { AreAllClerksOf self clerks.items }
-        ensures seats { result.seats ≡ (opened self).seats }
-        ensures requests { result.requests ≡ (opened self).requests }
+        ensures seats { result.seats ≡ (at_opening self).seats }
+        ensures requests { result.requests ≡ (at_opening self).requests }
         ensures count { length result.history ≡ served_by clerks.items }
         ensures all { served_by clerks.items + left_by clerks.items
-            ≡ length (opened self).requests }
+            ≡ length (at_opening self).requests }
         ensures history { IsHistory result.seats result.requests result.history }
         ensures once { IsOnceEach result.requests result.history }
         ensures placed { IsOnlyPlaced result.seats result.requests result.history }

@@ -2,7 +2,7 @@
 
 ghost use Rattle.std.specs.Prelude.{◌≡◌, ◌<◌, ◌≤◌, IfOk, [], None, length, vec_len, vec_capacity};
 ghost use Rattle.registration_desk.specs.Clerks.{first_clerk, part_of};
-ghost use Rattle.registration_desk.specs.Desks.{AllNew, key_of, opened, shares_of};
+ghost use Rattle.registration_desk.specs.Desks.{AllNew, key_of, at_opening, shares_of};
 ghost use Rattle.registration_desk.specs.States.{IsFresh};
 
 use crate::desk::{Clerk, Desk, MOST_CLERKS};
@@ -25,7 +25,7 @@ impl Desk {
     ) -> Result<(Desk, Vec<Clerk>), AllocError>
         requires few { length requests.items ≤ MOST_REQUESTS }
         requires clerks { (1 ≤ clerks) × (clerks ≤ MOST_CLERKS) }
-        ensures desk { IfOk result (λ r. IsFresh seats requests.items (opened r.0)) }
+        ensures desk { IfOk result (λ r. IsFresh seats requests.items (at_opening r.0)) }
         ensures clerks { IfOk result (λ r. (key_of r.0).clerks ≡ clerks) }
         ensures count { IfOk result (λ r. length r.1.items ≡ clerks) }
         ensures new { IfOk result (λ r. AllNew r.0 r.1.items) }
@@ -53,10 +53,10 @@ impl Desk {
 fn split_all(desk: &Desk, first: DeskSeat, count: u32, clerks: u32, crew: &mut Vec<Clerk>)
     requires table { first.table_id ≡ desk.now.table.shared.table_id }
     requires first { first.me
-        ≡ (first_clerk (opened desk.now).seats (opened desk.now).requests clerks, []) }
+        ≡ (first_clerk (at_opening desk.now).seats (at_opening desk.now).requests clerks, []) }
     requires clerks { (1 ≤ clerks) × (clerks ≤ MOST_CLERKS)
         × ((key_of desk.now).clerks ≡ clerks) }
-    requires count { (count ≡ length (opened desk.now).requests) × (count ≤ MOST_REQUESTS) }
+    requires count { (count ≡ length (at_opening desk.now).requests) × (count ≤ MOST_REQUESTS) }
     requires empty { (crew.old.items ≡ []) × (vec_len crew.old ≡ 0) }
     requires room { clerks ≤ vec_capacity crew.old }
     ensures new { AllNew desk.now crew.new.items }

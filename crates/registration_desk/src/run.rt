@@ -5,7 +5,7 @@ ghost use Rattle.place_edges.specs.Causes.{Rose};
 ghost use Rattle.run_frame.specs.Runs.{IsConstant, IsFinished};
 ghost use Rattle.run_frame.specs.Stops.{IsWordsStop};
 ghost use Rattle.run_frame.specs.declared.stop.Stop.TheVariants.{Words};
-ghost use Rattle.registration_desk.specs.Runs.{HasCause, IsAnswering, IsComplete, IsDeskRun, IsWordsRefusal, LeavesSink, PrintsRegistered, endings};
+ghost use Rattle.registration_desk.specs.Runs.{HasStatusCause, IsAnswering, IsComplete, IsDeskRun, IsWordsRefusal, LeavesSink, PrintsRegistered, endings};
 ghost use Rattle.registration_desk.specs.Says.{MayOpen, MayOpenBoth, numbers_said};
 ghost use Rattle.registration_desk.specs.Words.{clerks_of, texts};
 ghost use Rattle.registration_desk.specs.declared.words.DeskWords.{DeskWords};
@@ -65,7 +65,7 @@ pub fn run_desk<R: Threads + Wait + Sync, H: Shelf, K: Sink, N: Sink, G: DeskGat
     ensures sink { LeavesSink K.written K.faults result out.old out.new }
 
     // Each refusal has its cause, whether or not the shelf and the sinks tell their bytes.
-    ensures causes { HasCause (clerks_of (texts words.now)) result
+    ensures causes { HasStatusCause (clerks_of (texts words.now)) result
         (H.faults shelf.old) (H.faults shelf.new) (H.tally shelf.old) (H.tally shelf.new)
         (K.faults out.old) (K.faults out.new) }
 

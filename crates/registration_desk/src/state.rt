@@ -2,7 +2,7 @@
 
 ghost use Rattle.std.specs.Prelude.{◌≡◌, ◌<◌, ◌≤◌, [], length, IfOk, slice_get, slice_index, Some};
 ghost use Rattle.registration_desk.specs.Replies.{IsHistory, IsReply, IsReplyAt, registrations};
-ghost use Rattle.registration_desk.specs.Reports.{named_at, numbers_of, replies_of};
+ghost use Rattle.registration_desk.specs.Reports.{named_at, desk_numbers, replies_of};
 ghost use Rattle.registration_desk.specs.States.{IsFresh, Numbered, replied};
 
 use crate::reply::Reply;
@@ -132,7 +132,7 @@ impl DeskState {
     // Once every request is answered: how many replies are of each kind.
     pub(crate) fn tells_kinds(&self)
         requires { length self.now.history ≡ length self.now.requests }
-        ensures { replies_of self.now.history ≡ numbers_of self.now.seats self.now.requests }
+        ensures { replies_of self.now.history ≡ desk_numbers self.now.seats self.now.requests }
     {
         let _count = self.seats.count();
     }
@@ -157,7 +157,7 @@ impl DeskState {
             None => Reply::Unknown,
             Some(index) => match self.seats.code_at(index) {
                 None => Reply::NotPlaced,
-                Some(_) => number_of(&mut self.numbers[index as usize], &mut self.total),
+                Some(_) => reply_number(&mut self.numbers[index as usize], &mut self.total),
             },
         };
         self.history.push_reserved(reply);
@@ -166,7 +166,7 @@ impl DeskState {
 }
 
 // The number kept for a placed candidate, or the next one where there is none.
-fn number_of(number: &mut u32, total: &mut u32) -> Reply
+fn reply_number(number: &mut u32, total: &mut u32) -> Reply
     requires { total.old < MOST_REQUESTS }
     ensures { Numbered number.old total.old result number.new total.new }
 {

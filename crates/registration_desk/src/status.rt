@@ -1,7 +1,7 @@
 // How a run of the desk ends.
 
 ghost use Rattle.std.specs.Prelude.{◌≡◌};
-ghost use Rattle.registration_desk.specs.Statuses.{code_of, status_of};
+ghost use Rattle.registration_desk.specs.Statuses.{status_code, status_of};
 
 use crate::words::DeskWords;
 use place_base::FileFault;
@@ -27,7 +27,7 @@ pub enum DeskStatus {
 impl DeskStatus {
     /// The number that the process ends with.
     pub fn code(&self) -> u8
-        ensures { result ≡ code_of self.now }
+        ensures { result ≡ status_code self.now }
     {
         match *self {
             DeskStatus::Done => 0,

@@ -1,6 +1,6 @@
 // Runs over files in memory, which a reader can check by hand, and one clerk's calls.
 ghost use Rattle.std.specs.Prelude.{◌≡◌, IfSome, length};
-ghost use Rattle.registration_desk.specs.Desks.{AllNew, key_of, opened};
+ghost use Rattle.registration_desk.specs.Desks.{AllNew, key_of, at_opening};
 
 // Gates that hold clerks and count their calls.
 mod gates;
@@ -354,7 +354,7 @@ fn one_clerk<R: Wait>(
 ) -> Option<(DeskState, u32)>
     requires new { AllNew desk crew.items }
     requires one { (length crew.items ≡ 1) × ((key_of desk).clerks ≡ 1) }
-    ensures { IfSome result (λ r. r.1 ≡ length (opened desk).requests) }
+    ensures { IfSome result (λ r. r.1 ≡ length (at_opening desk).requests) }
 {
     let mut clerk = crew.pop()?;
     while clerk.left() > 0 {

@@ -11,7 +11,7 @@ use Rattle.market.specs.BaseRanks.{worse_of, worst_of}
 use Rattle.market.specs.Stability.{held_by}
 use Rattle.market.proofs.Members.{kept_more, dropped_more}
 use Rattle.market.proofs.Turns.{is_programme-from}
-use Rattle.reports.specs.BaseTables.{BaseTable, base_of, held_of}
+use Rattle.reports.specs.BaseTables.{BaseTable, base_of, holder_count}
 
 -- of two ranks the worse is the greater number
 pub worse_of-max : (a b : ℕ) → worse_of (Some a) (Some b) ≡ Some (max a b)
@@ -59,7 +59,7 @@ pub record HasCounted (m : Problem) (held : List (Option ℕ)) (table : BaseTabl
   pub base_count : length table.bases ≡ length m.programmes
   pub held_count : length table.held ≡ length m.programmes
   pub bases : (p : ℕ) → p < length m.programmes → base_of table p ≡ base_upto m held p n
-  pub holders : (p : ℕ) → p < length m.programmes → held_of table p ≡ count_of p (take n held)
+  pub holders : (p : ℕ) → p < length m.programmes → holder_count table p ≡ count_of p (take n held)
 
 -- a table of none and of 0 has counted nobody
 pub HasCounted-none : (m : Problem) (held : List (Option ℕ)) (table : BaseTable)
@@ -121,10 +121,10 @@ base-written m held table n p lp e c =
 
 holders-written : (m : Problem) (held : List (Option ℕ)) (table : BaseTable) (n p : ℕ)
     → n < length held → p < length m.programmes → held_by held n ≡ Some p → HasCounted m held table n
-    → get_or (set table.held p (held_of table p + 1)) p 0 ≡ count_of p (take (n + 1) held)
+    → get_or (set table.held p (holder_count table p + 1)) p 0 ≡ count_of p (take (n + 1) held)
 holders-written m held table n p l lp e c =
     let count = c.held_count in
-    get_or-set_same table.held p (held_of table p + 1) 0 (omega arith)
+    get_or-set_same table.held p (holder_count table p + 1) 0 (omega arith)
     ∙ ap (λ (x : ℕ). x + 1) (c.holders p lp)
     ∙ sym (count_by_more_yes (is_programme p) held n None l (is_programme-from p (held_by held n) e))
 
@@ -138,10 +138,10 @@ not_another held n p q e other =
 pub HasCounted-more : (m : Problem) (held : List (Option ℕ)) (table more : BaseTable)
     (n p : ℕ) → n < length held → p < length m.programmes → held_by held n ≡ Some p → HasCounted m held table n
     → more.bases ≡ set table.bases p (worse_of (base_of table p) (rank_of m (kind_of m p) n))
-    → more.held ≡ set table.held p (held_of table p + 1) → HasCounted m held more (n + 1)
+    → more.held ≡ set table.held p (holder_count table p + 1) → HasCounted m held more (n + 1)
 HasCounted-more m held table more n p l lp e c b h =
     let worse = worse_of (base_of table p) (rank_of m (kind_of m p) n) in
-    let count = held_of table p + 1 in
+    let count = holder_count table p + 1 in
     record {
       base_count = ap (λ (xs : List (Option ℕ)). length xs) b ∙ length-set table.bases p worse
           ∙ c.base_count;

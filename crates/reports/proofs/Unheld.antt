@@ -9,7 +9,7 @@ use Rattle.market.specs.Counting.{count_of, is_programme}
 use Rattle.market.specs.Problems.{Problem, admits, kind_of, rank_of}
 use Rattle.market.specs.Stability.{held_by}
 use Rattle.market.proofs.Turns.{is_programme-from, is_programme-true}
-use Rattle.reports.specs.BaseTables.{BaseTable, HoldsAcceptable, IsBaseTable, IsNoneWhereUnheld, base_of, held_of}
+use Rattle.reports.specs.BaseTables.{BaseTable, HoldsAcceptable, IsBaseTable, IsNoneWhereUnheld, base_of, holder_count}
 use Rattle.reports.proofs.WorstHolders.{base_rank-holder, base_rank-most}
 
 count-cons : (p : ℕ) (x : Option ℕ) (held : List (Option ℕ))
@@ -55,18 +55,19 @@ pub none_where_unheld : (m : Problem) (held : List (Option ℕ)) (table : BaseTa
     → IsBaseTable m held table → HoldsAcceptable m held → IsNoneWhereUnheld m table
 none_where_unheld m held table t acceptable p lt = (
   λ none. ⊎_elim
-      (λ (some : 0 < held_of table p).
+      (λ (some : 0 < holder_count table p).
       let count = t.holders p lt in
       let holder = holder-of p held (omega arith) in
       let rank = admitted-rank m p holder.0 (acceptable holder.0 p holder.1).admitted in
       let worst = base_rank-most m held p holder.0 rank.0 holder.1 rank.1 in
       absurd (none-some worst.worst (sym none ∙ t.bases p lt ∙ worst.is)))
-      (λ (zero : held_of table p ≤ 0). omega arith)
-      (cases_lt 0 (held_of table p)),
+      (λ (zero : holder_count table p ≤ 0). omega arith)
+      (cases_lt 0 (holder_count table p)),
   λ unheld. by (base_of table p) refl unheld,
 )
   where
-    by : (base : Option ℕ) → base_of table p ≡ base → held_of table p ≡ 0 → base_of table p ≡ None
+    by : (base : Option ℕ) → base_of table p ≡ base → holder_count table p ≡ 0 → base_of table p
+        ≡ None
     by None e unheld = e
     by (Some rank) e unheld =
         let holder = base_rank-holder m held p rank (sym (t.bases p lt) ∙ e) in

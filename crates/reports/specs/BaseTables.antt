@@ -15,15 +15,15 @@ abbrev pub base_of : BaseTable → ℕ → Option ℕ
 base_of table p = slice_index_or table.bases p None
 
 -- the number of holders that a table has for a programme
-abbrev pub held_of : BaseTable → ℕ → ℕ
-held_of table p = slice_index table.held p
+abbrev pub holder_count : BaseTable → ℕ → ℕ
+holder_count table p = slice_index table.held p
 
 -- the table of this placement in this market
 pub record IsBaseTable (m : Problem) (held : List (Option ℕ)) (table : BaseTable) : Type 0 where
   pub base_count : length table.bases ≡ length m.programmes
   pub held_count : length table.held ≡ length m.programmes
   pub bases : (p : ℕ) → p < length m.programmes → base_of table p ≡ base_rank m held p
-  pub holders : (p : ℕ) → p < length m.programmes → held_of table p ≡ count_of p held
+  pub holders : (p : ℕ) → p < length m.programmes → holder_count table p ≡ count_of p held
 
 -- each held programme is one of the market
 abbrev pub HoldsProgrammes : Problem → List (Option ℕ) → Type 0
@@ -36,4 +36,4 @@ HoldsAcceptable m held = (i p : ℕ) → held_by held i ≡ Some p → IsAccepta
 -- exactly the programmes that nobody holds have no base rank
 abbrev pub IsNoneWhereUnheld : Problem → BaseTable → Type 0
 IsNoneWhereUnheld m table =
-    (p : ℕ) → p < length m.programmes → (base_of table p ≡ None) ↔ (held_of table p ≡ 0)
+    (p : ℕ) → p < length m.programmes → (base_of table p ≡ None) ↔ (holder_count table p ≡ 0)

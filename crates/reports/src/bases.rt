@@ -2,7 +2,7 @@
 
 ghost use Rattle.std.specs.Prelude.{◌≡◌, ◌+◌, ◌<◌, ◌^◌, length, slice_set, IfOk};
 ghost use Rattle.market.specs.BaseRanks.{worse_of};
-ghost use Rattle.reports.specs.BaseTables.{HoldsProgrammes, IsBaseTable, base_of, held_of};
+ghost use Rattle.reports.specs.BaseTables.{HoldsProgrammes, IsBaseTable, base_of, holder_count};
 
 use market::{Market, Placement};
 use std::alloc::{AllocError, Global};
@@ -65,7 +65,7 @@ impl BaseRanks {
     /// How many candidates hold a programme.
     pub fn held(&self, programme: u32) -> u32
         requires { programme < length self.now.held }
-        ensures { result ≡ held_of self.now programme }
+        ensures { result ≡ holder_count self.now programme }
     {
         self.held[programme as usize]
     }
@@ -74,11 +74,11 @@ impl BaseRanks {
     fn add_holder(&mut self, programme: u32, rank: Option<u32>)
         requires base { programme < length self.old.bases }
         requires held { programme < length self.old.held }
-        requires few { held_of self.old programme + 1 < 2 ^ 32 }
+        requires few { holder_count self.old programme + 1 < 2 ^ 32 }
         ensures bases { self.new.bases ≡ slice_set self.old.bases programme
             (worse_of (base_of self.old programme) rank) }
         ensures held { self.new.held
-            ≡ slice_set self.old.held programme (held_of self.old programme + 1) }
+            ≡ slice_set self.old.held programme (holder_count self.old programme + 1) }
     {
         let programme = programme as usize;
         self.bases[programme] = worse(self.bases[programme], rank);

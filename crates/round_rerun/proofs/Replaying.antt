@@ -8,20 +8,20 @@ use Rattle.market.specs.declared.limits.TheConstants.{MAX_TYPES, MAX_CANDIDATES}
 use Rattle.market.specs.Problems.{Problem, IsValid, order_of}
 use Rattle.market.specs.Counting.{sum_below}
 use Rattle.market.specs.Mechanism.{tentative, whole_cuts, cuts_after, several_count, best_programmes, entries_left, mechanism_placement, mechanism_rounds, mechanism_cuts, cuts_in, several_in, cutting_rounds}
-use Rattle.market.specs.Choices.{IsRound, programme_in, empty_table, best_programmes_in}
+use Rattle.market.specs.Choices.{IsRound, held_in_table, empty_table, best_programmes_in}
 use Rattle.market.specs.Reruns.{first_changed, changed_turn, first_run, round_turns, placement_turns, IsRunUpto}
 use Rattle.market.proofs.Counts.{sum_same}
 use Rattle.market.proofs.Plain.{IsRoundsUpto, IsRoundsUpto-none, IsRoundsUpto-more, rounds-le, rounds-last, rounds-fall, sum_next}
 use Rattle.market.proofs.Reruns.{first-le}
 use Rattle.market.proofs.Replays.{round-cuts, round-count, round-best_programmes, round-changed, run-none, run-kept, empty_table-count}
-use Rattle.round_rerun.specs.Runs.{first_of, run_turns}
+use Rattle.round_rerun.specs.Runs.{first_turn_of, run_turns}
 
 -- the rounds so far: their cuts, the table, the turns that the next one runs, and those run
 pub record IsReplayUpto (m : Problem) (r : ℕ) (cuts : List ℕ) (total : ℕ) (table : List (List
     (Option ℕ))) (firsts : List (Option ℕ)) (done : ℕ) : Type 0 where
   pub rounds : IsRoundsUpto m r cuts total
   pub types : length table ≡ m.types
-  pub first : (t : ℕ) → t < m.types → first_of m firsts t ≡ first_run m r t
+  pub first : (t : ℕ) → t < m.types → first_turn_of m firsts t ≡ first_run m r t
   pub kept : (t : ℕ) → t < m.types → IsRunUpto m cuts t (first_run m r t) (slice_index_or table t
       [])
   pub counted : done ≡ sum_below (round_turns m) r
@@ -69,14 +69,15 @@ replay-none m v cuts table firsts ec et ef =
 -- the first turns to run are turns, or past the last
 pub replay-within : (m : Problem) (r : ℕ) (cuts : List ℕ) (total : ℕ) (table : List (List (Option
     ℕ))) (firsts : List (Option ℕ)) (done : ℕ) → IsReplayUpto m r cuts total table firsts done
-    → (t : ℕ) → t < m.types → first_of m firsts t ≤ length (order_of m t)
+    → (t : ℕ) → t < m.types → first_turn_of m firsts t ≤ length (order_of m t)
 replay-within m r cuts total table firsts done u t l = let e = u.first t l in let le = first_run-le
     m r t in omega arith
 
 -- the turns before them are kept
 pub replay-kept : (m : Problem) (r : ℕ) (cuts : List ℕ) (total : ℕ) (table : List (List (Option
     ℕ))) (firsts : List (Option ℕ)) (done : ℕ) → IsReplayUpto m r cuts total table firsts done
-    → (t : ℕ) → t < m.types → IsRunUpto m cuts t (first_of m firsts t) (slice_index_or table t [])
+    → (t : ℕ) → t < m.types → IsRunUpto m cuts t (first_turn_of m firsts t)
+    (slice_index_or table t [])
 replay-kept m r cuts total table firsts done u t l = subst (λ (k : ℕ). IsRunUpto m cuts t k
     (slice_index_or table t [])) (sym (u.first t l)) (u.kept t l)
 
@@ -85,7 +86,8 @@ turns-are : (m : Problem) (r : ℕ) (cuts : List ℕ) (total : ℕ) (table : Lis
     (firsts : List (Option ℕ)) (done : ℕ) → IsReplayUpto m r cuts total table firsts done
     → run_turns m firsts ≡ round_turns m r
 unfolding run_turns round_turns
-turns-are m r cuts total table firsts done u = sum_same (λ t. length (order_of m t) - first_of m
+turns-are m r cuts total table firsts done u = sum_same
+    (λ t. length (order_of m t) - first_turn_of m
     firsts t) (λ t. length (order_of m t) - first_run m r t) m.types (λ t l. ap (λ (k : ℕ). length
     (order_of m t) - k) (u.first t l))
 
@@ -101,8 +103,8 @@ pub replay-more : (m : Problem) → IsValid m → (r : ℕ) (cuts next : List �
     more : List (List (Option ℕ))) (firsts then' : List (Option ℕ)) (done n : ℕ)
     → IsReplayUpto m r cuts total table firsts done → IsRound m cuts more
     → n ≡ run_turns m firsts → n ≤ MAX_TYPES * MAX_CANDIDATES
-    → next ≡ cuts_in m (programme_in more) cuts → count ≡ several_in m (programme_in more)
-    → ((t : ℕ) → t < m.types → slice_index_or then' t None ≡ changed_turn m (programme_in more)
+    → next ≡ cuts_in m (held_in_table more) cuts → count ≡ several_in m (held_in_table more)
+    → ((t : ℕ) → t < m.types → slice_index_or then' t None ≡ changed_turn m (held_in_table more)
     cuts t) → (count ≡ 0 → ⊥) → IsReplayUpto m (r + 1) next (total + count) more then' (done + n)
 replay-more m v r cuts next total count table more firsts then' done n u round en fn ec es ef nz =
     let at = u.rounds.at in
@@ -158,8 +160,8 @@ replay-short m r cuts total table firsts done u =
 
 -- the next round starts with fewer entries
 pub replay-fall : (m : Problem) → IsValid m → (cuts next : List ℕ) (count : ℕ) (more : List (List
-    (Option ℕ))) → IsRound m cuts more → next ≡ cuts_in m (programme_in more) cuts
-    → count ≡ several_in m (programme_in more) → (count ≡ 0 → ⊥)
+    (Option ℕ))) → IsRound m cuts more → next ≡ cuts_in m (held_in_table more) cuts
+    → count ≡ several_in m (held_in_table more) → (count ≡ 0 → ⊥)
     → entries_left m next < entries_left m cuts
 replay-fall m v cuts next count more round ec es nz = rounds-fall m count cuts next (ec
     ∙ round-cuts m v cuts more round) (es ∙ round-count m cuts more round) nz
@@ -175,8 +177,8 @@ pub record IsOutcome (m : Problem) (held : List (Option ℕ)) (rounds cuts turns
 pub replay-last : (m : Problem) → IsValid m → (r : ℕ) (cuts : List ℕ) (total count : ℕ) (table more
     : List (List (Option ℕ))) (firsts : List (Option ℕ)) (done n : ℕ) (held : List (Option ℕ))
     → IsReplayUpto m r cuts total table firsts done → IsRound m cuts more
-    → n ≡ run_turns m firsts → count ≡ several_in m (programme_in more) → count ≡ 0
-    → held ≡ best_programmes_in m (programme_in more) → IsOutcome m held (r + 1) total (done + n)
+    → n ≡ run_turns m firsts → count ≡ several_in m (held_in_table more) → count ≡ 0
+    → held ≡ best_programmes_in m (held_in_table more) → IsOutcome m held (r + 1) total (done + n)
 unfolding mechanism_placement mechanism_rounds mechanism_cuts placement_turns
 replay-last m v r cuts total count table more firsts done n held u round en es z eh =
     let last = rounds-last m r total cuts u.rounds (sym (es ∙ round-count m cuts more round) ∙ z) in

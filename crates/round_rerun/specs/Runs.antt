@@ -4,12 +4,12 @@ use Rattle.market.specs.Problems.{Problem, order_of}
 use Rattle.market.specs.Counting.{sum_below}
 
 -- the first turn to run of a type, or the number of turns where none is to
-abbrev pub first_of : Problem → List (Option ℕ) → ℕ → ℕ
-first_of m firsts t = unwrap_or (slice_index_or firsts t None) (length (order_of m t))
+abbrev pub first_turn_of : Problem → List (Option ℕ) → ℕ → ℕ
+first_turn_of m firsts t = unwrap_or (slice_index_or firsts t None) (length (order_of m t))
 
 -- the turns to run of all types
 unfoldable pub run_turns : Problem → List (Option ℕ) → ℕ
-run_turns m firsts = sum_below (λ t. length (order_of m t) - first_of m firsts t) m.types
+run_turns m firsts = sum_below (λ t. length (order_of m t) - first_turn_of m firsts t) m.types
 
 -- the counter has risen by at most so many turns
 abbrev pub HasRisenWithin : ℕ → ℕ → ℕ → Type 0

@@ -9,7 +9,7 @@ ghost use Rattle.market.specs.Problems.{IsValid, order_of};
 ghost use Rattle.market.specs.Mechanism.{IsCuts, mechanism_placement, mechanism_rounds, mechanism_cuts};
 ghost use Rattle.market.specs.Choices.{IsRound};
 ghost use Rattle.market.specs.Reruns.{IsRunUpto, placement_turns};
-ghost use Rattle.round_rerun.specs.Runs.{first_of, run_turns, HasRisenWithin};
+ghost use Rattle.round_rerun.specs.Runs.{first_turn_of, run_turns, HasRisenWithin};
 
 use crate::rerun::run_touched;
 use gate_workers::{Gate, OpenGate};
@@ -152,9 +152,9 @@ fn run_round<R: Threads + Sync, G: Gate, L: Ledger>(
     requires cuts { IsCuts market.now cuts.now }
     requires types { length tentative.old ≡ market.now.types }
     requires within { (t : ℕ) → t < market.now.types
-        → first_of market.now touched.now.first t ≤ length (order_of market.now t) }
+        → first_turn_of market.now touched.now.first t ≤ length (order_of market.now t) }
     requires kept { (t : ℕ) → t < market.now.types → IsRunUpto market.now cuts.now t
-        (first_of market.now touched.now.first t) (slice_index_or tentative.old t []) }
+        (first_turn_of market.now touched.now.first t) (slice_index_or tentative.old t []) }
     ensures round { IfOk result (λ _. IsRound market.now cuts.now tentative.new) }
     ensures count { IfOk result (λ n. n ≡ run_turns market.now touched.now.first) }
     ensures few { IfOk result (λ n. n ≤ MAX_TYPES * MAX_CANDIDATES) }

@@ -5,7 +5,7 @@ ghost use Rattle.std.specs.Result.{IfErr};
 ghost use Rattle.interleaving_core.specs.declared.limits.TheConstants.{MAX_WORKERS};
 ghost use Rattle.market.specs.Problems.{order_of, kind_of};
 ghost use Rattle.market.specs.Mechanism.{IsCuts};
-ghost use Rattle.market.specs.Choices.{programme_in};
+ghost use Rattle.market.specs.Choices.{held_in_table};
 ghost use Rattle.market.specs.Reruns.{IsRunUpto, IsKeptFill};
 
 use gate_workers::{Gate, run_team};
@@ -107,10 +107,11 @@ fn kept_fill(
     requires row { length (slice_index_or tentative.now kind []) ≡ length market.now.lists }
     requires from { from ≤ length (order_of market.now kind) }
     requires programmes { (j p : ℕ) → j < from
-        → programme_in tentative.now kind (slice_index (order_of market.now kind) j) ≡ Option.Some p
+        → held_in_table tentative.now kind (slice_index (order_of market.now kind) j)
+        ≡ Option.Some p
         → (p < length market.now.programmes) × (kind_of market.now p ≡ kind) }
     ensures { IfOk result (λ fill.
-        IsKeptFill market.now (programme_in tentative.now) kind from fill.items) }
+        IsKeptFill market.now (held_in_table tentative.now) kind from fill.items) }
 {
     let order = market.order(kind);
     let mut fill = vec![in alloc; 0u32; market.type_programmes(kind).len()]?;

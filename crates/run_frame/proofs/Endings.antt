@@ -7,7 +7,7 @@ use Rattle.place_edges.specs.Shelf.{Files}
 use Rattle.place_edges.specs.Sink.{Appended}
 use Rattle.run_frame.specs.Files.{AreRead, Reads}
 use Rattle.run_frame.specs.Meetings.{IsDecided, Meets}
-use Rattle.run_frame.specs.Runs.{Endings, HasCause, IsConstant, IsDone, IsFinished, IsWhole, LeavesSink, StaysInFront, WordsCause}
+use Rattle.run_frame.specs.Runs.{Endings, HasStatusCause, IsConstant, IsDone, IsFinished, IsWhole, LeavesSink, StaysInFront, WordsCause}
 use Rattle.run_frame.specs.Stops.{is_free_stop, too_long}
 use Rattle.run_frame.specs.declared.stop.FileStop.TheVariants.{Fault, Memory, ReadFault}
 use Rattle.run_frame.specs.declared.stop.Stop.{Stop}
@@ -122,7 +122,8 @@ module _ {A W E K : Type 0} {ends : Endings A W E} (apart : AreApart ends)
       → IsFinished ends written faults answer status old new
       → ((refused : W) → said reading.reads ≡ Some (Err (Words refused)) → command ≡ Err refused)
       → ((refused : W) → command ≡ Err refused → answer ≡ Err (Words refused))
-      → HasCause ends command status before now tally_before tally_now (faults old) (faults new)
+      → HasStatusCause ends command status before now tally_before tally_now (faults old)
+      (faults new)
   causes-run {said = said} {answer = answer} command status old new reading finished only exact =
       record {
         words = words-cause command (said reading.reads) answer status old new reading.meets

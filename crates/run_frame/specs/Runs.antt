@@ -55,7 +55,8 @@ pub record WordsCause {C W E : Type 0} (refusal : W → E) (command : Result C W
 
 -- Each refusal has its cause: words by their rules, a read fault and a write fault by the counts, a
 -- file that is too long by the tally.
-pub record HasCause {A C W E : Type 0} (ends : Endings A W E) (command : Result C W) (status : E)
+pub record HasStatusCause {A C W E : Type 0} (ends : Endings A W E) (command : Result C W)
+    (status : E)
     (before now tally_before tally_now out_before out_now : ℕ) : Type 0 where
   pub words : WordsCause (λ refused. ends.stopped (Words refused)) command status
   pub read : status ≡ ends.stopped (File ReadFault) → Rose before now

@@ -14,7 +14,7 @@ use Rattle.market.proofs.Tallies.{count_none}
 use Rattle.market.proofs.Valid.{candidate_lt}
 use Rattle.reports.specs.BaseTables.{HoldsProgrammes}
 use Rattle.stability_audit.specs.FirstVerdicts.{all_said, blocks, first_said, has_room, is_acceptable, is_better, is_kept, is_preferred, said_of_candidate, said_of_list, said_of_programme, verdict_of}
-use Rattle.stability_audit.specs.Verdicts.{HoldsAcceptable, IsOverQuota, IsVerdict}
+use Rattle.stability_audit.specs.Verdicts.{HeldIsAcceptable, IsOverQuota, IsVerdict}
 use Rattle.stability_audit.specs.declared.verdict.Verdict.{Verdict}
 use Rattle.stability_audit.specs.declared.verdict.Verdict.TheVariants.{Stable, OverQuota, NotAcceptable, Blocking}
 use Rattle.stability_audit.proofs.Rooms.{worse-holder, worst-is}
@@ -81,7 +81,7 @@ acceptable-from m i p e =
     let both = and_parts _ _ e in
     record { listed = ltb-true _ _ both.0; admitted = both.1 }
 
-kept-true : (m : Problem) (held : List (Option ℕ)) (i : ℕ) → HoldsAcceptable m held i
+kept-true : (m : Problem) (held : List (Option ℕ)) (i : ℕ) → HeldIsAcceptable m held i
     → is_kept m i (held_by held i) ≡ true
 kept-true m held i acceptable = by_holding (held_by held i) refl
   where
@@ -90,7 +90,7 @@ kept-true m held i acceptable = by_holding (held_by held i) refl
     by_holding (Some p) e = acceptable-true m i p (acceptable p e)
 
 kept-from : (m : Problem) (held : List (Option ℕ)) (i : ℕ) → is_kept m i (held_by held i) ≡ true
-    → HoldsAcceptable m held i
+    → HeldIsAcceptable m held i
 kept-from m held i e = λ p holds. acceptable-from m i p (sym (ap (is_kept m i) holds) ∙ e)
 
 better-parts : (a b : Option ℕ) → is_better a b ≡ true
@@ -169,11 +169,11 @@ not-over m held p never =
     (λ within. cond-false _ _ _ (le-ltb _ _ within))
     (cases_lt (quota_of m p) (count_of p held))
 
-keeps : (m : Problem) (held : List (Option ℕ)) (i : ℕ) → HoldsAcceptable m held i
+keeps : (m : Problem) (held : List (Option ℕ)) (i : ℕ) → HeldIsAcceptable m held i
     → said_of_candidate m held i ≡ []
 keeps m held i acceptable = cond-true _ _ _ (kept-true m held i acceptable)
 
-keeps-not : (m : Problem) (held : List (Option ℕ)) (i : ℕ) → (HoldsAcceptable m held i → ⊥)
+keeps-not : (m : Problem) (held : List (Option ℕ)) (i : ℕ) → (HeldIsAcceptable m held i → ⊥)
     → said_of_candidate m held i ≡ NotAcceptable i ∷ []
 keeps-not m held i never =
     cond-false _ _ _ (false_from_ne_true _ (λ e. never (kept-from m held i e)))
@@ -197,7 +197,7 @@ over-within m held p programmes over =
 
 -- who holds what is not acceptable is a candidate
 pub holder-within : (m : Problem) (held : List (Option ℕ)) (i : ℕ) → length held ≡ length m.lists
-    → (HoldsAcceptable m held i → ⊥) → i < length m.lists
+    → (HeldIsAcceptable m held i → ⊥) → i < length m.lists
 holder-within m held i sizes never =
     ⊎_elim
     (λ within. within)

@@ -8,7 +8,7 @@ use Rattle.market.specs.Problems.{Problem, admits, list_of, place_of}
 use Rattle.market.proofs.Firsts.{place-here, place-next, place_get}
 use Rattle.market.proofs.Valid.{candidate_lt}
 use Rattle.stability_audit.specs.Entries.{BlocksWithSome}
-use Rattle.stability_audit.specs.Verdicts.{HoldsAcceptable}
+use Rattle.stability_audit.specs.Verdicts.{HeldIsAcceptable}
 
 pub found-listed : (p : ℕ) (list : List ℕ) → list_any (λ q. q == p) list ≡ true
     → place_of p list < length list
@@ -32,7 +32,7 @@ listed-found p list l =
 
 -- being acceptable can be tested, so what is not unacceptable is acceptable
 pub not_unacceptable : (m : Problem) (held : List (Option ℕ)) (i : ℕ)
-    → ((HoldsAcceptable m held i → ⊥) → ⊥) → HoldsAcceptable m held i
+    → ((HeldIsAcceptable m held i → ⊥) → ⊥) → HeldIsAcceptable m held i
 not_unacceptable m held i not_not p holds =
     let list = list_of m i in
     record {

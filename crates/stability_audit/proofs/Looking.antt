@@ -12,7 +12,7 @@ use Rattle.market.proofs.Valid.{candidate_lt}
 use Rattle.reports.specs.Reasons.{stands_before}
 use Rattle.reports.proofs.FullEntries.{place-at, prefers}
 use Rattle.stability_audit.specs.Entries.{IsFirstEntry, WouldTake}
-use Rattle.stability_audit.specs.Verdicts.{HoldsAcceptable}
+use Rattle.stability_audit.specs.Verdicts.{HeldIsAcceptable}
 
 -- the first entries of the list: the candidate blocks with none of them, and holds none
 pub record HasPassed (m : Problem) (held : List (Option ℕ)) (i k : ℕ) : Type 0 where
@@ -61,7 +61,7 @@ held-ends m v held i k l passed is p b =
 
 -- the programme of an entry would take the candidate, who prefers it: the first pair that blocks
 pub first-entry : (m : Problem) → IsValid m → (held : List (Option ℕ)) (i k : ℕ)
-    → k < length (list_of m i) → HasPassed m held i k → HoldsAcceptable m held i
+    → k < length (list_of m i) → HasPassed m held i k → HeldIsAcceptable m held i
     → is_programme (slice_index (list_of m i) k) (held_by held i) ≡ false
     → WouldTake m held i (slice_index (list_of m i) k)
     → IsFirstEntry m held i (slice_index (list_of m i) k)

@@ -3,12 +3,12 @@ use Rattle.std.specs.Prelude.{◌⊎◌, ℕ, ◌<◌, List, length, IsTrue, Opt
 use Rattle.market.specs.Counting.{count_of}
 use Rattle.market.specs.Problems.{Problem, admits, place_of, list_of, quota_of}
 use Rattle.market.specs.Stability.{HasWorseHolder, IsBlocking}
-use Rattle.stability_audit.specs.Verdicts.{HoldsAcceptable}
+use Rattle.stability_audit.specs.Verdicts.{HeldIsAcceptable}
 
 -- the first candidate who holds a programme that is not acceptable
 pub record IsFirstHolder (m : Problem) (held : List (Option ℕ)) (i : ℕ) : Type 0 where
-  pub unacceptable : HoldsAcceptable m held i → ⊥
-  pub first : (j : ℕ) → j < i → HoldsAcceptable m held j
+  pub unacceptable : HeldIsAcceptable m held i → ⊥
+  pub first : (j : ℕ) → j < i → HeldIsAcceptable m held j
 
 -- a programme admits a candidate, and has a free seat or a holder of worse rank
 pub record WouldTake (m : Problem) (held : List (Option ℕ)) (i p : ℕ) : Type 0 where

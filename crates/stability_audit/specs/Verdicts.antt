@@ -11,8 +11,8 @@ abbrev pub IsOverQuota : Problem → List (Option ℕ) → ℕ → Type 0
 IsOverQuota m held p = quota_of m p < count_of p held
 
 -- what a candidate holds is acceptable, or nothing
-abbrev pub HoldsAcceptable : Problem → List (Option ℕ) → ℕ → Type 0
-HoldsAcceptable m held i = (p : ℕ) → held_by held i ≡ Some p → IsAcceptable m i p
+abbrev pub HeldIsAcceptable : Problem → List (Option ℕ) → ℕ → Type 0
+HeldIsAcceptable m held i = (p : ℕ) → held_by held i ≡ Some p → IsAcceptable m i p
 
 -- the first programme over its quota
 pub record IsFirstOverQuota (m : Problem) (held : List (Option ℕ)) (p : ℕ) : Type 0 where
@@ -23,14 +23,14 @@ pub record IsFirstOverQuota (m : Problem) (held : List (Option ℕ)) (p : ℕ) :
 -- acceptable
 pub record IsFirstNotAcceptable (m : Problem) (held : List (Option ℕ)) (i : ℕ) : Type 0 where
   pub quotas : (p : ℕ) → IsOverQuota m held p → ⊥
-  pub unacceptable : HoldsAcceptable m held i → ⊥
-  pub first : (j : ℕ) → j < i → HoldsAcceptable m held j
+  pub unacceptable : HeldIsAcceptable m held i → ⊥
+  pub first : (j : ℕ) → j < i → HeldIsAcceptable m held j
 
 -- all hold what is acceptable and no programme is over its quota; the pair blocks, no earlier
 -- candidate blocks with any programme, nor this one with a programme listed before
 pub record IsFirstBlocking (m : Problem) (held : List (Option ℕ)) (i p : ℕ) : Type 0 where
   pub quotas : (q : ℕ) → IsOverQuota m held q → ⊥
-  pub acceptable : (j : ℕ) → HoldsAcceptable m held j
+  pub acceptable : (j : ℕ) → HeldIsAcceptable m held j
   pub blocks : IsBlocking m held i p
   pub first_candidate : (j q : ℕ) → j < i → IsBlocking m held j q → ⊥
   pub first_entry : (q : ℕ) → place_of q (list_of m i) < place_of p (list_of m i)

@@ -5,7 +5,7 @@ ghost use Rattle.market.specs.Stability.{IsStable};
 ghost use Rattle.reports.specs.BaseTables.{HoldsProgrammes, IsBaseTable};
 ghost use Rattle.stability_audit.specs.Entries.{BlocksWithSome, IsFirstHolder, IsFirstToBlock};
 ghost use Rattle.stability_audit.specs.FirstVerdicts.{verdict_of};
-ghost use Rattle.stability_audit.specs.Verdicts.{HoldsAcceptable, IsFirstOverQuota, IsOverQuota, IsVerdict};
+ghost use Rattle.stability_audit.specs.Verdicts.{HeldIsAcceptable, IsFirstOverQuota, IsOverQuota, IsVerdict};
 
 use crate::Verdict;
 use crate::candidate::{blocking_entry, holds_acceptable};
@@ -75,7 +75,7 @@ fn first_not_acceptable<R: Threads + Sync>(
     requires candidates { length placement.now ≡ length market.now.lists }
     requires programmes { HoldsProgrammes market.now placement.now }
     ensures { MatchOption result
-        ((j : ℕ) → HoldsAcceptable market.now placement.now j)
+        ((j : ℕ) → HeldIsAcceptable market.now placement.now j)
         (λ i. IsFirstHolder market.now placement.now i) }
 {
     let found = (0..market.candidate_count()).into_par_iter().position_first(
@@ -85,7 +85,7 @@ fn first_not_acceptable<R: Threads + Sync>(
             requires programmes { HoldsProgrammes market.now placement.now }
             requires candidate { candidate < length market.now.lists }
             ensures { IsTrue result
-                ↔ (HoldsAcceptable market.entry.now placement.entry.now candidate → ⊥) }
+                ↔ (HeldIsAcceptable market.entry.now placement.entry.now candidate → ⊥) }
         { !holds_acceptable(market, placement, candidate) },
     );
     match found {
@@ -103,7 +103,7 @@ fn first_to_block<R: Threads + Sync>(
 ) -> Option<u32>
     requires candidates { length placement.now ≡ length market.now.lists }
     requires bases { IsBaseTable market.now placement.now bases.now }
-    requires acceptable { (j : ℕ) → HoldsAcceptable market.now placement.now j }
+    requires acceptable { (j : ℕ) → HeldIsAcceptable market.now placement.now j }
     ensures { MatchOption result
         ((j : ℕ) → BlocksWithSome market.now placement.now j → ⊥)
         (λ i. IsFirstToBlock market.now placement.now i) }
@@ -113,7 +113,7 @@ fn first_to_block<R: Threads + Sync>(
         |candidate: u32| -> bool
             requires candidates { length placement.now ≡ length market.now.lists }
             requires bases { IsBaseTable market.now placement.now bases.now }
-            requires acceptable { HoldsAcceptable market.now placement.now candidate }
+            requires acceptable { HeldIsAcceptable market.now placement.now candidate }
             requires candidate { candidate < length market.now.lists }
             ensures { IsTrue result
                 ↔ BlocksWithSome market.entry.now placement.entry.now candidate }

@@ -4,7 +4,7 @@ ghost use Rattle.std.specs.Prelude.{◌≡◌, ◌↔◌, ◌<◌, length, IsTru
 ghost use Rattle.market.specs.Counting.{is_programme};
 ghost use Rattle.reports.specs.BaseTables.{HoldsProgrammes, IsBaseTable};
 ghost use Rattle.stability_audit.specs.Entries.{IsLookedThrough, WouldTake};
-ghost use Rattle.stability_audit.specs.Verdicts.{HoldsAcceptable};
+ghost use Rattle.stability_audit.specs.Verdicts.{HeldIsAcceptable};
 
 use market::{Market, Placement, Prog};
 use reports::BaseRanks;
@@ -14,7 +14,7 @@ pub(crate) fn holds_acceptable(market: &Market, placement: &Placement, candidate
     requires candidates { length placement.now ≡ length market.now.lists }
     requires programmes { HoldsProgrammes market.now placement.now }
     requires candidate { candidate < length market.now.lists }
-    ensures { IsTrue result ↔ HoldsAcceptable market.now placement.now candidate }
+    ensures { IsTrue result ↔ HeldIsAcceptable market.now placement.now candidate }
 {
     // Its clause says that the market is valid.
     let _ = market.candidate_count();
@@ -37,7 +37,7 @@ pub(crate) fn blocking_entry(
 ) -> Option<u32>
     requires candidates { length placement.now ≡ length market.now.lists }
     requires bases { IsBaseTable market.now placement.now bases.now }
-    requires acceptable { HoldsAcceptable market.now placement.now candidate }
+    requires acceptable { HeldIsAcceptable market.now placement.now candidate }
     requires candidate { candidate < length market.now.lists }
     ensures { IsLookedThrough market.now placement.now candidate result }
 {

@@ -4,7 +4,7 @@ ghost use Rattle.std.specs.Prelude.{◌≡◌, ℕ, ◌<◌, length, slice_index
 ghost use Rattle.market.specs.declared.limits.TheConstants.{MAX_TYPES};
 ghost use Rattle.market.specs.Problems.{place_of, list_of, turn_of};
 ghost use Rattle.market.specs.Mechanism.{IsCuts, cuts_in, several_in};
-ghost use Rattle.market.specs.Choices.{programme_in, IsTable, IsWithinCuts};
+ghost use Rattle.market.specs.Choices.{held_in_table, IsChoiceTable, IsWithinCuts};
 ghost use Rattle.market.specs.Reruns.{is_beyond, changed_turn, noted};
 
 use crate::Touched;
@@ -13,16 +13,16 @@ use market::{Cuts, Market, Tentative};
 /// Cuts the list of each candidate with choices in several types just after the best of them. It
 /// takes no memory.
 pub fn cut_lists(market: &Market, tentative: &Tentative, cuts: &mut Cuts) -> Touched
-    requires table { IsTable market.now tentative.now }
+    requires table { IsChoiceTable market.now tentative.now }
     requires cuts { IsCuts market.now cuts.old }
 
     // Each choice is a programme of its type, of a candidate with a turn in it, within the cut.
     requires within { IsWithinCuts market.now tentative.now cuts.old }
 
-    ensures cuts { cuts.new ≡ cuts_in market.now (programme_in tentative.now) cuts.old }
-    ensures several { result.several ≡ several_in market.now (programme_in tentative.now) }
+    ensures cuts { cuts.new ≡ cuts_in market.now (held_in_table tentative.now) cuts.old }
+    ensures several { result.several ≡ several_in market.now (held_in_table tentative.now) }
     ensures first { (t : ℕ) → t < market.now.types → slice_index_or result.first t Option.None
-        ≡ changed_turn market.now (programme_in tentative.now) cuts.old t }
+        ≡ changed_turn market.now (held_in_table tentative.now) cuts.old t }
 {
     let mut touched = Touched::none();
     for candidate in 0..market.candidate_count() {
@@ -45,13 +45,13 @@ fn note_types(
     touched: &mut Touched,
 )
     requires candidate { candidate < length market.now.lists }
-    requires table { IsTable market.now tentative.now }
+    requires table { IsChoiceTable market.now tentative.now }
     requires types { length touched.old.first ≡ MAX_TYPES }
     ensures several { touched.new.several ≡ touched.old.several }
     ensures types { length touched.new.first ≡ MAX_TYPES }
     ensures first { (t : ℕ) → t < market.now.types → slice_index_or touched.new.first t Option.None
         ≡ noted
-        (is_beyond (list_of market.now candidate) cut (programme_in tentative.now t candidate))
+        (is_beyond (list_of market.now candidate) cut (held_in_table tentative.now t candidate))
         (slice_index_or touched.old.first t Option.None) (turn_of market.now t candidate) }
 {
     let list = market.list(candidate);

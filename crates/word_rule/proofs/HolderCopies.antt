@@ -6,7 +6,7 @@ use Rattle.interleaving_core.specs.declared.parts.Phase.TheVariants.{Idle, Seate
 use Rattle.interleaving_core.specs.declared.parts.Holding.{Holding}
 use Rattle.interleaving_core.specs.Core.{turn_count, entry, hold_at}
 use Rattle.interleaving_core.specs.Events.{Raises, IsAllowed}
-use Rattle.word_rule.specs.Copies.{holding_of, place_of}
+use Rattle.word_rule.specs.Copies.{holding_of, phase_place}
 use Rattle.word_rule.specs.Rounds.{knows, dict_of, IsSeatOf}
 use Rattle.word_rule.specs.Raising.{MayRaise}
 use Rattle.word_rule.specs.declared.seat.SharedRound.{SharedRound}
@@ -43,10 +43,10 @@ pub record NextRaise (round : SharedRound) (me : WorkSeat) (place : ℕ) : Type 
   pub programme : entry (dict_of round) me.committed place < length (dict_of round).quota
 
 pub next_raise : (round : SharedRound) (me : WorkSeat) (x : Phase) → IsSeatOf round me
-    → me.phase ≡ Some x → MayRaise me → NextRaise round me (place_of x)
+    → me.phase ≡ Some x → MayRaise me → NextRaise round me (phase_place x)
 next_raise round me x of_round is m =
     let h = held me m.committed (Seated m.place true) m.allowed in
-    let same : m.place ≡ place_of x = ap (λ o. place_of (phase_or o)) (sym h.0 ∙ is) in
+    let same : m.place ≡ phase_place x = ap (λ o. phase_place (phase_or o)) (sym h.0 ∙ is) in
     let may = subst
     (λ (z : Dictatorship × (ℕ × ℕ)). IsAllowed z.0 (knows me).core (Raises z.1.0 z.1.1))
     (λ i. (of_round.dict i, (sym h.1 i, same i))) m.allowed in
@@ -55,10 +55,10 @@ next_raise round me x of_round is m =
     let turns = ap (λ (d : Dictatorship). turn_count d) of_round.dict in
     let places = ap (λ (d : Dictatorship). length (list_at d me.committed)) of_round.dict in
     let turn : me.committed < turn_count (dict_of round) = omega arith in
-    let in_list : place_of x < length (list_at (dict_of round) me.committed) = omega arith in
+    let in_list : phase_place x < length (list_at (dict_of round) me.committed) = omega arith in
     record {
       may = may;
       turn = turn;
       in_list = in_list;
-      programme = round.valid.list_entries me.committed (place_of x) turn in_list;
+      programme = round.valid.list_entries me.committed (phase_place x) turn in_list;
     }

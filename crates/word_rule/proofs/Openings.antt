@@ -16,7 +16,7 @@ use Rattle.interleaving_core.proofs.Keeps.{begins}
 use Rattle.interleaving_core.proofs.Flags.{first_flags_long}
 use Rattle.word_rule.specs.Layout.{cell_of, core_of, first_words, programme_count, word_count}
 use Rattle.word_rule.specs.Views.{SeatKnows, shared_views, core_views}
-use Rattle.word_rule.specs.Rule.{Belongs, IsSoundTable, HasReadFull, share_of, first_of}
+use Rattle.word_rule.specs.Rule.{Belongs, IsSoundTable, HasReadFull, share_of, first_seat_of}
 use Rattle.word_rule.specs.Rounds.{knows, AreNew, shares_of}
 use Rattle.word_rule.specs.declared.rule.RoundKey.{RoundKey}
 use Rattle.word_rule.specs.declared.seat.SharedRound.{SharedRound}
@@ -87,10 +87,10 @@ first_words_long d valid =
 -- a table is made with a sound core state
 opens_with_first : (key : RoundKey) → IsValidDictatorship key.dict.value → 0 < key.workers
     → key.workers ≤ MAX_WORKERS → IsSoundTable key
-    (table_opening (first_words key.dict.value) [] (first_of key))
+    (table_opening (first_words key.dict.value) [] (first_seat_of key))
 opens_with_first key valid some few =
     let d = key.dict.value in
-    let x = first_of key in
+    let x = first_seat_of key in
     let views = one_seat key.workers some in
     record {
       valid = valid;
@@ -128,9 +128,9 @@ opens_with_first key valid some few =
 -- the same for words that are known to be the opening words
 pub table_opens : (key : RoundKey) (words : List ℕ) → words ≡ first_words key.dict.value
     → IsValidDictatorship key.dict.value → 0 < key.workers → key.workers ≤ MAX_WORKERS
-    → IsSoundTable key (table_opening words [] (first_of key))
+    → IsSoundTable key (table_opening words [] (first_seat_of key))
 table_opens key words is valid some few =
-    subst (λ (l : List ℕ). IsSoundTable key (table_opening l [] (first_of key))) (sym is)
+    subst (λ (l : List ℕ). IsSoundTable key (table_opening l [] (first_seat_of key))) (sym is)
     (opens_with_first key valid some few)
 
 -- seats at the opening stand for as many workers as they are

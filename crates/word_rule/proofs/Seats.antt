@@ -3,7 +3,7 @@ use Rattle.std.proofs.Common.{◌≡◌, ℕ, ◌+◌, ◌-◌, List, [], ◌∷
 use Rattle.std.proofs.lemmas.List.Sums.{sum_by-append, sum_by-cons}
 use Rattle.interleaving_core.proofs.Places.{each_last, each_snoc}
 use Rattle.word_rule.specs.Views.{SeatKnows}
-use Rattle.word_rule.specs.Rule.{share_of, first_of}
+use Rattle.word_rule.specs.Rule.{share_of, first_seat_of}
 use Rattle.word_rule.specs.Rounds.{knows, key_of, shares_of, IsNew, AreNew, IsOver, AreOver}
 use Rattle.word_rule.specs.declared.rule.RoundKey.{RoundKey}
 use Rattle.word_rule.specs.declared.seat.SharedRound.{SharedRound}
@@ -38,7 +38,7 @@ new_snoc round = each_snoc (IsNew round)
 
 -- a seat of the opening with this number, and with this share of the workers
 abbrev pub part : RoundKey → ℕ → ℕ → SeatKnows
-part key number share = record (first_of key) { number = number; share = share }
+part key number share = record (first_seat_of key) { number = number; share = share }
 
 -- a seat that is one worker's part
 pub new_part_of : (round : SharedRound) (worker n share : ℕ) (me : WorkSeat)

@@ -13,13 +13,13 @@ holding_of None committed = None
 holding_of (Some phase) committed = hold_at committed phase
 
 -- the place of a phase, 0 where it has none
-abbrev pub place_of : Phase → ℕ
-place_of Idle = 0
-place_of Halted = 0
-place_of (Scan j) = j
-place_of (Ready j) = j
-place_of (Seated j filled) = j
-place_of (Raised j) = j
+abbrev pub phase_place : Phase → ℕ
+phase_place Idle = 0
+phase_place Halted = 0
+phase_place (Scan j) = j
+phase_place (Ready j) = j
+phase_place (Seated j filled) = j
+phase_place (Raised j) = j
 
 -- the turns and places that a view speaks of are those of the round
 pub record IsInRange (d : Dictatorship) (v : View) : Type 0 where

@@ -67,5 +67,5 @@ pub record IsSoundTable (key : RoundKey) (s : State ℕ SeatKnows) : Type 0 wher
       → slice_index s.words CLAIM_WORD ≡ 0
 
 -- what the first seat of a round knows
-abbrev pub first_of : RoundKey → SeatKnows
-first_of key = first_seat key.dict.value key.workers
+abbrev pub first_seat_of : RoundKey → SeatKnows
+first_seat_of key = first_seat key.dict.value key.workers

@@ -32,11 +32,11 @@ pub struct RoundKey {
 pub struct RoundRule;
 
 impl TableRule<u8, SeatView, RoundKey> for RoundRule {
-    ghost use Rattle.word_rule.specs.Rule.{IsSoundTable, first_of};
+    ghost use Rattle.word_rule.specs.Rule.{IsSoundTable, first_seat_of};
 
     ghost holds = { IsSoundTable };
 
-    ghost first = { first_of };
+    ghost first = { first_seat_of };
 }
 
 /// The words of a round, under the rule. There are no slots.

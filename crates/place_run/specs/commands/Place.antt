@@ -11,8 +11,8 @@ use Rattle.placement_file.specs.Texts.{placement_text}
 use Rattle.place_run.specs.Tables.{HasNoFault, Tables, ThreeFiles, codes_in, numbers_in, problem_of, tables_in}
 
 -- the text of the mechanism's placement in the market of three tables
-unfoldable pub placement_of : Tables → List ℕ
-placement_of tables =
+unfoldable pub printed_placement : Tables → List ℕ
+printed_placement tables =
     placement_text (codes_of tables.programmes.rows) (numbers_of tables.candidates.numbers)
     (mechanism_placement (problem_of tables))
 

@@ -6,10 +6,10 @@ use Rattle.std.proofs.lemmas.List.Elements.{filter_map-append}
 use Rattle.std.proofs.lemmas.List.FromFn.{map-range_with_len_more}
 use Rattle.rand_pcg.specs.Lcg.{Lcg}
 use Rattle.case_maker.specs.declared.sizes.Sizes.{Sizes}
-use Rattle.case_maker.specs.Draws.{Key, drawn_key, drawn_list, key_of, list_words, word_count}
+use Rattle.case_maker.specs.Draws.{Key, drawn_key, drawn_list, word_key, list_words, drawn_word_count}
 use Rattle.case_maker.specs.Drawn.{HasDrawn, HasGained}
 use Rattle.case_maker.specs.MadeMarkets.{made_keys, made_lists, own_words, words_before}
-use Rattle.case_maker.specs.Words.{Words, generator_after, words_after, words_of}
+use Rattle.case_maker.specs.Words.{Words, generator_after, words_behind, words_of}
 use Rattle.case_maker.proofs.Taking.{after_after, after_none, words_of-after}
 use Rattle.case_maker.proofs.candidates.draw_candidates.Goals as goal
 
@@ -29,7 +29,7 @@ made_keys-more s words n kind =
 
 -- the words that are drawn with one candidate more
 words_before-more : (s : Sizes) (words : Words) (n : ℕ) → words_before s words (n + 1)
-    ≡ words_before s words n + word_count s.programmes s.types (own_words s words n)
+    ≡ words_before s words n + drawn_word_count s.programmes s.types (own_words s words n)
 unfolding words_before
 words_before-more s words n = rw add-one refl
 
@@ -57,9 +57,9 @@ module _ (s : Sizes) (start at : Lcg) (n : ℕ)
       let types = h.types_are in
       let of = λ (i : ℕ). drawn_list s.programmes (own_words s words i) in
       let own_behind : words_of behind
-      ≡ words_after (list_words s.programmes (own_words s words n)) (own_words s words n) =
+      ≡ words_behind (list_words s.programmes (own_words s words n)) (own_words s words n) =
       ap words_of behind_is ∙ words_of-after (list_words s.programmes (words_of at)) at
-      ∙ ap (λ w. words_after (list_words s.programmes w) w) own in
+      ∙ ap (λ w. words_behind (list_words s.programmes w) w) own in
       record {
         lists_are = more ∙ ap (λ xs. xs ++ list ∷ []) h.lists_are
             ∙ ap (λ x. made_lists s words n ++ x ∷ [])
@@ -68,9 +68,9 @@ module _ (s : Sizes) (start at : Lcg) (n : ℕ)
         types_are = gained.types ∙ types;
         keys_are = λ kind lt.
             gained.gained kind (omega arith)
-            ∙ ap (λ xs. xs ++ cons_option (key_of (words_of behind kind) n) [])
+            ∙ ap (λ xs. xs ++ cons_option (word_key (words_of behind kind) n) [])
             (h.keys_are kind lt)
-            ∙ ap (λ (w : Words). made_keys s words n kind ++ cons_option (key_of (w kind) n) [])
+            ∙ ap (λ (w : Words). made_keys s words n kind ++ cons_option (word_key (w kind) n) [])
             own_behind
             ∙ sym (made_keys-more s words n kind);
       }

@@ -2,11 +2,11 @@ use Rattle.std.proofs.Common.{◌≡◌, length, map, sym, ap, ◌∙◌, arith,
 use Rattle.std.specs.List.{range_with_len}
 use Rattle.std.proofs.lemmas.Result.{IfOk-weaker}
 use Rattle.market.specs.Problems.{IsValid}
-use Rattle.case_maker.specs.MadeMarkets.{market_of}
+use Rattle.case_maker.specs.MadeMarkets.{made_problem}
 use Rattle.case_maker.specs.Words.{words_of}
 use Rattle.case_maker.proofs.Making.{market-made, orders-few}
 use Rattle.case_maker.proofs.Taking.{seeded-is}
-use Rattle.case_maker.proofs.Validity.{market_of-valid}
+use Rattle.case_maker.proofs.Validity.{made_problem-valid}
 use Rattle.case_maker.proofs.make.make.Goals as goal
 
 pub all_ranks-requires : goal.all_ranks-requires
@@ -26,7 +26,8 @@ build-requires c =
     c.in_ok-ranks.ranks.items c.in_ok-made.ensures.made c.in_ok-orders.ensures
     (c.in_ok-ranks.ensures
     ∙ ap (map (λ order. range_with_len 1 (length order))) c.deref.ensures.value) in
-    subst IsValid (sym whole) (market_of-valid c.args.sizes (words_of c.new-words.result) c.requires)
+    subst IsValid (sym whole) (made_problem-valid c.args.sizes (words_of c.new-words.result)
+    c.requires)
 
 pub returns : goal.returns
 returns c =
@@ -37,5 +38,7 @@ returns c =
     (c.in_ok-ranks.ensures
     ∙ ap (map (λ order. range_with_len 1 (length order))) c.deref.ensures.value) in
     let same = whole
-    ∙ ap (λ g. market_of c.args.sizes (words_of g)) (c.new-words.ensures ∙ seeded-is c.args.seed) in
-    IfOk-weaker c.build.result _ (λ m. m ≡ market_of c.args.sizes _) (λ m is. is ∙ same) c.build.ensures
+    ∙ ap (λ g. made_problem c.args.sizes (words_of g))
+    (c.new-words.ensures ∙ seeded-is c.args.seed) in
+    IfOk-weaker c.build.result _ (λ m. m ≡ made_problem c.args.sizes _) (λ m is. is ∙ same)
+    c.build.ensures

@@ -1,6 +1,6 @@
 use Rattle.std.proofs.Common.{ℕ, ◌+◌, ◌<◌, ◌∙◌, ap, sym, subst, length, List, arith, set}
 use Rattle.market.specs.Mechanism.{has_several_in}
-use Rattle.market.specs.Choices.{programme_in}
+use Rattle.market.specs.Choices.{held_in_table}
 use Rattle.market.proofs.Members.{count_le}
 use Rattle.market.proofs.Cutting.{IsCutUpto, IsCutUpto-none, IsCutUpto-cut, IsCutUpto-keep, IsCutUpto-all, best-within}
 use Rattle.market.proofs.Replays.{round-table, round-within, round-cuts, round-count}
@@ -9,7 +9,7 @@ use Rattle.dictatorship.proofs.cutting.cut_round.Goals.{then-has_several, else-h
 
 pub loop-candidate-init : goal.loop-candidate-init
 loop-candidate-init c =
-    IsCutUpto-none c.args.market.now (programme_in c.args.table.now) c.args.cuts.now
+    IsCutUpto-none c.args.market.now (held_in_table c.args.table.now) c.args.cuts.now
     c.requires.cuts.candidates
 
 pub has_several-requires-clause-table : goal.has_several-requires-clause-table
@@ -38,14 +38,14 @@ overflow_add-count c =
     let n = c.candidate_count-candidate-end.ensures.count in
     let v = c.candidate_count-candidate-end.ensures.valid.candidates in
     let e = c.loop-candidate.invariant.counted in
-    let h = count_le (has_several_in c.args.market.now (programme_in c.args.table.now))
+    let h = count_le (has_several_in c.args.market.now (held_in_table c.args.table.now))
     c.loop-candidate.candidate in
     omega arith
 
 pub loop-candidate-preserved : goal.loop-candidate-preserved
 loop-candidate-preserved c =
     let m = c.args.market.now in
-    let ch = programme_in c.args.table.now in
+    let ch = held_in_table c.args.table.now in
     let old = c.args.cuts.now in
     let k = c.loop-candidate.candidate in
     let n = c.candidate_count-candidate-end.ensures.count in
@@ -72,7 +72,7 @@ pub returns-clause-cuts : goal.returns-clause-cuts
 returns-clause-cuts c =
     let m = c.args.market.now in
     let n = c.candidate_count-candidate-end.ensures.count in
-    (IsCutUpto-all m (programme_in c.args.table.now) c.args.cuts.now c.loop-candidate.cuts
+    (IsCutUpto-all m (held_in_table c.args.table.now) c.args.cuts.now c.loop-candidate.cuts
     c.loop-candidate.candidate c.loop-candidate.count (omega arith) c.loop-candidate.invariant).0
     ∙ round-cuts m c.candidate_count-candidate-end.ensures.valid c.args.cuts.now c.args.table.now
     c.requires.round
@@ -81,6 +81,6 @@ pub returns-clause-count : goal.returns-clause-count
 returns-clause-count c =
     let m = c.args.market.now in
     let n = c.candidate_count-candidate-end.ensures.count in
-    (IsCutUpto-all m (programme_in c.args.table.now) c.args.cuts.now c.loop-candidate.cuts
+    (IsCutUpto-all m (held_in_table c.args.table.now) c.args.cuts.now c.loop-candidate.cuts
     c.loop-candidate.candidate c.loop-candidate.count (omega arith) c.loop-candidate.invariant).1
     ∙ round-count m c.args.cuts.now c.args.table.now c.requires.round

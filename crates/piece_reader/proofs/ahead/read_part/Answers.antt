@@ -1,5 +1,5 @@
 use Rattle.std.proofs.Common.{None, subst}
-use Rattle.record_files.specs.ReadTo.{AreTaken}
+use Rattle.record_files.specs.ReadTo.{AreRowsTaken}
 use Rattle.piece_reader.proofs.ReadingAhead.{IsPartRead-from}
 use Rattle.piece_reader.proofs.ahead.read_part.Goals as goal
 
@@ -9,5 +9,6 @@ returns-in-None g c =
     let has = g.G.RowTable.has_rows c.args.beside.now in
     let read = c.in_ok-read.read in
     IsPartRead-from of_file c.args.header has _ read c.in-None.is
-    (subst (λ all. AreTaken of_file None c.args.header has all read) c.data_records-records.ensures
+    (subst (λ all. AreRowsTaken of_file None c.args.header has all read)
+    c.data_records-records.ensures
     (c.in_ok-read.ensures {u = tt}))

@@ -6,7 +6,7 @@ use Rattle.record_files.specs.Form.{Form, header_in}
 use Rattle.record_files.specs.Rows.{Row, part_rows, rows}
 use Rattle.record_files.specs.declared.rows.RowPart.{RowPart}
 use Rattle.piece_reader.specs.Header.{data_lists}
-use Rattle.piece_reader.proofs.ReadingAhead.{AreRead-from, IfSome-weaker}
+use Rattle.piece_reader.proofs.ReadingAhead.{AreReadAhead-from, IfSome-weaker}
 use Rattle.piece_reader.proofs.ahead.read_parts.Goals as goal
 
 header-is : {form form' : Form} {rows rows' : List Row} → form ≡ form' → rows ≡ rows'
@@ -29,7 +29,7 @@ returns g c =
     ∙ c.in_ok-parts.ensures.rows in
     IfOk-weaker c.whole.result _ _
     (λ read h. IfSome-weaker read _ _
-    (λ tables told. AreRead-from of_file has bytes parts c.in-Ok.header tables.items header same
-    c.from_header.ensures.first all
+    (λ tables told. AreReadAhead-from of_file has bytes parts c.in-Ok.header tables.items header
+    same c.from_header.ensures.first all
     (told c.in-Ok.header (data_lists bytes parts) c.in_ok-read.ensures)) h)
     c.whole.ensures

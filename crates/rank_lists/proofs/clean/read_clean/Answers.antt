@@ -1,6 +1,6 @@
 use Rattle.std.proofs.Common.{rules, ◌≡◌, ◌≤◌, All, IfSome, IsTrue, List, Option, Vec, Global, ℕ, false, arith, ap, length, subst}
 use Rattle.std.proofs.lemmas.Result.{IfOk-weaker}
-use Rattle.piece_reader.specs.Ahead.{AreRead}
+use Rattle.piece_reader.specs.Ahead.{AreReadAhead}
 use Rattle.piece_reader.proofs.ReadingAhead.{IfSome-weaker}
 use Rattle.rank_lists.specs.Clean.{AreEachRead, HasStandings}
 use Rattle.rank_lists.specs.Rows.{own_rules}
@@ -18,14 +18,14 @@ returns g c =
     let parts = c.in-Some.parts.items in
     let few : length numbers ≤ INDEXES = omega (arith, c.count.ensures.length, c.count.type_inv) in
     let P : Option (Vec PartRanks Global) → Type 0 = λ read. IfSome read (λ tables.
-    AreRead own_rules
+    AreReadAhead own_rules
     (HasStandings (g.T.TypeFinder.names c.in_ok-known.known.types.now)
     (g.C.Finder.numbers c.in_ok-known.known.candidates.now)) bytes tables.items) in
     let known_names = g.T.TypeFinder.names c.in_ok-known.known.types.now in
     let read =
-    subst (λ (all : List (List ℕ)). AreRead own_rules (HasStandings all numbers) bytes parts)
+    subst (λ (all : List (List ℕ)). AreReadAhead own_rules (HasStandings all numbers) bytes parts)
     (ap g.T.TypeFinder.names c.in_ok-known.ensures.types)
-    (subst (λ (all : List ℕ). AreRead own_rules (HasStandings known_names all) bytes parts)
+    (subst (λ (all : List ℕ). AreReadAhead own_rules (HasStandings known_names all) bytes parts)
     (ap g.C.Finder.numbers c.in_ok-known.ensures.candidates)
     (subst P c.in-Some.is (c.in_ok-parts.ensures {u = tt}))) in
     let yes : IsTrue c.are_known.result = search rules in

@@ -3,7 +3,7 @@ use Rattle.std.proofs.lemmas.Result.{IfOk-weaker}
 use Rattle.record_files.proofs.FirstFaultLemmas.{AreRowsRead-refused, AreRowsRead-taken}
 use Rattle.record_files.specs.FirstFaults.{first_row_fault}
 use Rattle.record_files.specs.Form.{header_in}
-use Rattle.record_files.specs.ReadTo.{AreTaken}
+use Rattle.record_files.specs.ReadTo.{AreRowsTaken}
 use Rattle.record_files.specs.Rows.{data_rows, rows}
 use Rattle.record_files.proofs.reading.read_rows.Goals as goal
 
@@ -21,7 +21,7 @@ returns-in-Ok g c =
     c.in-Ok.ensures.passed ∙ ap (drop 1) c.of_bytes-records.ensures in
     IfOk-weaker c.take_rows.result _ _
     (λ read taken. AreRowsRead-taken of_file bytes has c.in-Ok.header read passed same
-    (subst (λ all. AreTaken of_file None c.in-Ok.header has all read) left taken))
+    (subst (λ all. AreRowsTaken of_file None c.in-Ok.header has all read) left taken))
     c.take_rows.ensures
 
 pub returns-in-Err : goal.returns-in-Err

@@ -1,6 +1,6 @@
 use Rattle.std.proofs.Common.{◌≡◌, ◌+◌, ◌-◌, ◌*◌, ◌/◌, slice_get, arith, rules, ap, sym, ◌∙◌, length}
 use Rattle.std.proofs.Math.Nat.{zero-mul, zero-div}
-use Rattle.registration_desk.specs.Desks.{IsNew, opened, key_of}
+use Rattle.registration_desk.specs.Desks.{IsNew, at_opening, key_of}
 use Rattle.registration_desk.specs.Clerks.{part_of}
 use Rattle.registration_desk.proofs.Shares.{split_keeps}
 use Rattle.registration_desk.proofs.Parts.{part_is, part_fits, part_rest, part_last}
@@ -59,7 +59,7 @@ loop-number-preserved c =
     let len = v.len in
     let number : c.loop-number.number - 1 ≡ length c.loop-number.crew.items = omega arith in
     let same : part_of c.args.count c.args.clerks (c.loop-number.number - 1)
-    ≡ part_of (length (opened c.args.desk.now).requests) (key_of c.args.desk.now).clerks
+    ≡ part_of (length (at_opening c.args.desk.now).requests) (key_of c.args.desk.now).clerks
     (length c.loop-number.crew.items) =
     λ k. part_of (c.requires.count.0 k) (sym c.requires.clerks.2 k) (number k) in
     let next : (c.loop-number.number - 1) + 1 ≡ c.loop-number.number + 1 - 1 = omega arith in
@@ -115,7 +115,7 @@ returns-clause-new c =
     let count = v.count in
     let number : c.loop-number.number - 1 ≡ length c.loop-number.crew.items = omega arith in
     let same : part_of c.args.count c.args.clerks (c.loop-number.number - 1)
-    ≡ part_of (length (opened c.args.desk.now).requests) (key_of c.args.desk.now).clerks
+    ≡ part_of (length (at_opening c.args.desk.now).requests) (key_of c.args.desk.now).clerks
     (length c.loop-number.crew.items) =
     λ k. part_of (c.requires.count.0 k) (sym c.requires.clerks.2 k) (number k) in
     let new : IsNew c.args.desk.now (length c.loop-number.crew.items) c.new_clerk-2.result =

@@ -7,7 +7,7 @@ use Rattle.market.specs.Reruns.{IsRunUpto}
 use Rattle.market.proofs.Dicts.{order-le}
 use Rattle.market.proofs.Plain.{sum_next}
 use Rattle.market.proofs.Replays.{round-rows}
-use Rattle.round_rerun.specs.Runs.{first_of, run_turns, HasRisenWithin}
+use Rattle.round_rerun.specs.Runs.{first_turn_of, run_turns, HasRisenWithin}
 use Rattle.round_rerun.proofs.Replaying.{err_too, sum_fewer}
 use Rattle.round_rerun.proofs.placing.run_round.Goals as goal
 
@@ -27,7 +27,7 @@ loop-kind-preserved g c =
     let wide = c.from-done.ensures in
     let here = r.count in
     let new = c.run_touched.new.tentative in
-    let f = λ (t : ℕ). length (order_of m t) - first_of m c.args.touched.now.first t in
+    let f = λ (t : ℕ). length (order_of m t) - first_turn_of m c.args.touched.now.first t in
     record {
       types = r.types;
       ran = λ t l.
@@ -57,14 +57,14 @@ unfolding run_turns
 returns-clause-count g c =
     let m = c.args.market.now in
     let n = c.type_count-kind-end.ensures.count in
-    c.loop-kind.invariant.count ∙ ap (sum_below (λ t. length (order_of m t) - first_of m
+    c.loop-kind.invariant.count ∙ ap (sum_below (λ t. length (order_of m t) - first_turn_of m
     c.args.touched.now.first t)) (omega arith)
 
 pub returns-in_err-ran-clause-refused : goal.returns-in_err-ran-clause-refused
 unfolding run_turns
 returns-in_err-ran-clause-refused g c =
     let m = c.args.market.now in
-    let f = λ (t : ℕ). length (order_of m t) - first_of m c.args.touched.now.first t in
+    let f = λ (t : ℕ). length (order_of m t) - first_turn_of m c.args.touched.now.first t in
     let n = c.type_count-kind-end.ensures.count in
     let below = c.loop-kind-test.true in
     let few = sum_fewer f c.loop-kind.kind m.types (omega arith) in

@@ -4,7 +4,7 @@ use Rattle.market.specs.declared.limits.TheConstants.{MAX_CANDIDATES}
 use Rattle.market.specs.Problems.{order_of}
 use Rattle.market.specs.Counting.{sum_below}
 use Rattle.market.specs.Reruns.{IsRunUpto}
-use Rattle.round_rerun.specs.Runs.{first_of}
+use Rattle.round_rerun.specs.Runs.{first_turn_of}
 use Rattle.round_rerun.proofs.placing.run_round.Given as goal
 
 abbrev pub invariant-loop-kind : goal.invariant-loop-kind
@@ -14,7 +14,8 @@ invariant-loop-kind g l = record {
       (slice_index_or l.tentative t []);
   open' : (t : ℕ) → l.kind ≤ t → slice_index_or l.tentative t [] ≡ slice_index_or l.fn.tentative t
       [];
-  count : l.done ≡ sum_below (λ t. length (order_of l.market t) - first_of l.market l.touched.first
+  count : l.done ≡ sum_below (λ t. length (order_of l.market t) - first_turn_of l.market
+      l.touched.first
       t) l.kind;
   few : l.done ≤ l.kind * MAX_CANDIDATES;
   steps : l.turns ≡ l.fn.turns + l.done;

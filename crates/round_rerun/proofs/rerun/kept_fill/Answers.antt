@@ -2,7 +2,7 @@ use Rattle.std.proofs.Common.{◌≡◌, ℕ, ◌+◌, ◌∙◌, ap, sym, subst
 use Rattle.std.specs.Prelude.{slice_index}
 use Rattle.std.proofs.lemmas.List.{get_or_read}
 use Rattle.market.specs.LocalNumbers.{programmes_of}
-use Rattle.market.specs.Choices.{programme_in}
+use Rattle.market.specs.Choices.{held_in_table}
 use Rattle.market.specs.Reruns.{IsKeptFill}
 use Rattle.market.proofs.Dicts.{local_lt}
 use Rattle.market.proofs.Replays.{IsKeptFill-none, IsKeptFill-take, IsKeptFill-pass, kept-le}
@@ -15,13 +15,13 @@ loop-turn-init c =
     let e = ap (λ (xs : List ℕ). length xs) c.type_programmes.ensures.members in
     let z : c.in_ok-fill.fill.items ≡ replicate (length c.type_programmes.result.now) 0 = search
     rules in
-    IsKeptFill-none m (programme_in c.args.tentative.now) c.args.kind c.in_ok-fill.fill.items (z
+    IsKeptFill-none m (held_in_table c.args.tentative.now) c.args.kind c.in_ok-fill.fill.items (z
     ∙ ap (λ (n : ℕ). replicate n 0) e)
 
 pub local-number-requires : goal.local-number-requires
 local-number-requires c =
     let table = c.args.tentative.now in
-    let at = ap (λ (xs : List ℕ). programme_in table c.args.kind (slice_index xs c.loop-turn.turn))
+    let at = ap (λ (xs : List ℕ). held_in_table table c.args.kind (slice_index xs c.loop-turn.turn))
     (sym c.order-order.ensures.order) ∙ sym c.choice.ensures ∙ c.in-Some.is in
     (c.requires.programmes c.loop-turn.turn c.in-Some.programme c.loop-turn-test.true at).0
 
@@ -29,7 +29,7 @@ pub index_mut-requires : goal.index_mut-requires
 index_mut-requires c =
     let m = c.args.market.now in
     let table = c.args.tentative.now in
-    let at = ap (λ (xs : List ℕ). programme_in table c.args.kind (slice_index xs c.loop-turn.turn))
+    let at = ap (λ (xs : List ℕ). held_in_table table c.args.kind (slice_index xs c.loop-turn.turn))
     (sym c.order-order.ensures.order) ∙ sym c.choice.ensures ∙ c.in-Some.is in
     let p = c.requires.programmes c.loop-turn.turn c.in-Some.programme c.loop-turn-test.true at in
     let l = local_lt m c.args.kind c.in-Some.programme p.0 p.1 in
@@ -41,7 +41,7 @@ pub overflow_add-index_mut : goal.overflow_add-index_mut
 overflow_add-index_mut c =
     let m = c.args.market.now in
     let table = c.args.tentative.now in
-    let at = ap (λ (xs : List ℕ). programme_in table c.args.kind (slice_index xs c.loop-turn.turn))
+    let at = ap (λ (xs : List ℕ). held_in_table table c.args.kind (slice_index xs c.loop-turn.turn))
     (sym c.order-order.ensures.order) ∙ sym c.choice.ensures ∙ c.in-Some.is in
     let p = c.requires.programmes c.loop-turn.turn c.in-Some.programme c.loop-turn-test.true at in
     let l = local_lt m c.args.kind c.in-Some.programme p.0 p.1 in
@@ -49,7 +49,7 @@ overflow_add-index_mut c =
     let e = c.local-number.ensures in
     let number = c.local-number.result in
     let x = c.loop-turn.invariant.each number (omega arith) in
-    let b = kept-le m (programme_in table) c.args.kind c.loop-turn.turn (slice_index (programmes_of
+    let b = kept-le m (held_in_table table) c.args.kind c.loop-turn.turn (slice_index (programmes_of
     m c.args.kind) number) in
     let v = get_or_read c.loop-turn.fill.items number c.index_mut.result.now (omega arith)
     c.index_mut.ensures.value 0 in
@@ -59,11 +59,11 @@ pub loop-turn-preserved : goal.loop-turn-preserved
 loop-turn-preserved c =
     let m = c.args.market.now in
     let table = c.args.tentative.now in
-    let ch = programme_in table in
+    let ch = held_in_table table in
     let t = c.args.kind in
     let k = c.loop-turn.turn in
     let fill = c.loop-turn.fill.items in
-    let here = ap (λ (xs : List ℕ). programme_in table t (slice_index xs k)) (sym
+    let here = ap (λ (xs : List ℕ). held_in_table table t (slice_index xs k)) (sym
     c.order-order.ensures.order) ∙ sym c.choice.ensures in
     elim c.match-choice.branch [
       | in-Some w ↦

@@ -2,7 +2,7 @@ use Rattle.std.proofs.Common.{◌≡◌, ℕ, ◌+◌, ◌∙◌, ap, sym, subst
 use Rattle.std.specs.Prelude.{slice_index_or}
 use Rattle.market.specs.Dictatorships.{Dictatorship, choice}
 use Rattle.market.specs.LocalNumbers.{local_dictatorship, IsFillBefore}
-use Rattle.market.specs.Choices.{programme_in}
+use Rattle.market.specs.Choices.{held_in_table}
 use Rattle.market.specs.Reruns.{IsKeptFill, IsRunUpto}
 use Rattle.market.specs.Problems.{order_of}
 use Rattle.market.proofs.Locals.{local-turns, local-fill}
@@ -19,7 +19,7 @@ dict-requires-clause-fill g c =
     let m = c.args.market.now in
     let t = c.args.kind in
     let k = c.args.from in
-    let s = subst (IsKeptFill m (programme_in c.args.tentative.now) t k)
+    let s = subst (IsKeptFill m (held_in_table c.args.tentative.now) t k)
     (sym c.deref.ensures.value) c.in_ok-fill.ensures in
     kept_fill-fits m c.args.cuts.now c.deref.result.now t k s.programmes
     (kept_fills m c.type_count.ensures.valid c.args.cuts.now c.deref.result.now
@@ -53,7 +53,7 @@ write_turn-requires-clause-fill g c =
     let k = c.args.from in
     let cuts = c.args.cuts.now in
     let fill = c.deref.result.now in
-    let s = subst (IsKeptFill m (programme_in c.args.tentative.now) t k)
+    let s = subst (IsKeptFill m (held_in_table c.args.tentative.now) t k)
     (sym c.deref.ensures.value) c.in_ok-fill.ensures in
     let f = ap (λ (x : Dictatorship). x.fill) c.in_ok-dict.ensures.dictatorship
     ∙ local-fill m cuts fill t k in

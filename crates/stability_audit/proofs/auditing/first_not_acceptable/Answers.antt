@@ -3,7 +3,7 @@ use Rattle.std.proofs.lemmas.Bool.{cases_lt}
 use Rattle.std.proofs.lemmas.List.{get_or_past}
 use Rattle.std.proofs.lemmas.List.FromFn.{length-range_with_len, get_or-range_with_len}
 use Rattle.std.proofs.lemmas.Option.{none-some}
-use Rattle.stability_audit.specs.Verdicts.{HoldsAcceptable}
+use Rattle.stability_audit.specs.Verdicts.{HeldIsAcceptable}
 use Rattle.stability_audit.proofs.Listed.{not_unacceptable}
 use Rattle.stability_audit.proofs.Firsts.{search-some, search-none}
 use Rattle.stability_audit.proofs.auditing.first_not_acceptable.Goals as goal
@@ -24,7 +24,7 @@ overflow_cast-result g c =
     let e = c.position_first-found.ensures in
     let count = c.candidate_count.ensures.count in
     let few = c.candidate_count.ensures.valid.candidates in
-    let first = search-some (λ i. HoldsAcceptable c.args.market.now c.args.placement.now i → ⊥)
+    let first = search-some (λ i. HeldIsAcceptable c.args.market.now c.args.placement.now i → ⊥)
     c.into_par_iter.result.start c.into_par_iter.result.end (length c.args.market.now.lists)
     e.0 e.1 (record {
       from_zero = c.into_par_iter.ensures.0;
@@ -43,7 +43,7 @@ returns-in-Some g c =
     let e = c.position_first-found.ensures in
     let count = c.candidate_count.ensures.count in
     let few = c.candidate_count.ensures.valid.candidates in
-    let first = search-some (λ i. HoldsAcceptable m held i → ⊥) c.into_par_iter.result.start
+    let first = search-some (λ i. HeldIsAcceptable m held i → ⊥) c.into_par_iter.result.start
     c.into_par_iter.result.end (length m.lists) e.0 e.1
     (record {
       from_zero = c.into_par_iter.ensures.0;
@@ -61,7 +61,7 @@ returns-in-None g c j =
     let count = c.candidate_count.ensures.count in
     let few = c.candidate_count.ensures.valid.candidates in
     not_unacceptable m held j (λ unacceptable. ⊎_elim
-    (λ within. search-none (λ i. HoldsAcceptable m held i → ⊥) c.into_par_iter.result.start
+    (λ within. search-none (λ i. HeldIsAcceptable m held i → ⊥) c.into_par_iter.result.start
     c.into_par_iter.result.end (length m.lists) e.0 e.1
     (record {
       from_zero = c.into_par_iter.ensures.0;

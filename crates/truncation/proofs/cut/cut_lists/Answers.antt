@@ -3,7 +3,7 @@ use Rattle.std.specs.Prelude.{slice_index_or}
 use Rattle.std.proofs.lemmas.List.{length-replicate}
 use Rattle.market.specs.declared.limits.TheConstants.{MAX_TYPES}
 use Rattle.market.specs.Problems.{list_of, turn_of}
-use Rattle.market.specs.Choices.{programme_in}
+use Rattle.market.specs.Choices.{held_in_table}
 use Rattle.market.specs.Reruns.{is_beyond, is_cut_away, noted}
 use Rattle.market.specs.Mechanism.{has_several_in, cut_in}
 use Rattle.market.proofs.Members.{count_le}
@@ -16,7 +16,7 @@ use Rattle.truncation.proofs.cut.cut_lists.Goals.{then-has_several, else-has_sev
 pub loop-candidate-init : goal.loop-candidate-init
 loop-candidate-init c =
     let m = c.args.market.now in
-    let ch = programme_in c.args.tentative.now in
+    let ch = held_in_table c.args.tentative.now in
     let none = c.none-touched in
     record {
       cut = subst (IsCutUpto m ch c.args.cuts.now 0 c.args.cuts.now) (sym none.ensures.several)
@@ -53,7 +53,7 @@ count_one-requires c =
     let v = c.candidate_count-candidate-end.ensures.valid.candidates in
     let e = c.note_types.ensures.several in
     let a = c.loop-candidate.invariant.cut.counted in
-    let h = count_le (has_several_in c.args.market.now (programme_in c.args.tentative.now))
+    let h = count_le (has_several_in c.args.market.now (held_in_table c.args.tentative.now))
     c.loop-candidate.candidate in
     omega arith
 
@@ -62,7 +62,7 @@ unfolding is_cut_away
 loop-candidate-preserved c =
     let m = c.args.market.now in
     let table = c.args.tentative.now in
-    let ch = programme_in table in
+    let ch = held_in_table table in
     let old = c.args.cuts.now in
     let k = c.loop-candidate.candidate in
     let n = c.candidate_count-candidate-end.ensures.count in
@@ -117,14 +117,14 @@ loop-candidate-preserved c =
 pub returns-clause-cuts : goal.returns-clause-cuts
 returns-clause-cuts c =
     let n = c.candidate_count-candidate-end.ensures.count in
-    (IsCutUpto-all c.args.market.now (programme_in c.args.tentative.now) c.args.cuts.now
+    (IsCutUpto-all c.args.market.now (held_in_table c.args.tentative.now) c.args.cuts.now
     c.loop-candidate.cuts c.loop-candidate.candidate c.loop-candidate.touched.several (omega arith)
     c.loop-candidate.invariant.cut).0
 
 pub returns-clause-several : goal.returns-clause-several
 returns-clause-several c =
     let n = c.candidate_count-candidate-end.ensures.count in
-    (IsCutUpto-all c.args.market.now (programme_in c.args.tentative.now) c.args.cuts.now
+    (IsCutUpto-all c.args.market.now (held_in_table c.args.tentative.now) c.args.cuts.now
     c.loop-candidate.cuts c.loop-candidate.candidate c.loop-candidate.touched.several (omega arith)
     c.loop-candidate.invariant.cut).1
 
@@ -132,6 +132,6 @@ pub returns-clause-first : goal.returns-clause-first
 returns-clause-first c =
     let n = c.candidate_count-candidate-end.ensures.count in
     λ t l. IsFirstUpto-all c.args.market.now c.candidate_count-candidate-end.ensures.valid
-    (programme_in c.args.tentative.now) c.args.cuts.now t c.loop-candidate.candidate
+    (held_in_table c.args.tentative.now) c.args.cuts.now t c.loop-candidate.candidate
     (slice_index_or c.loop-candidate.touched.first t None) l (omega arith)
     (c.loop-candidate.invariant.first t l)

@@ -4,14 +4,14 @@ use Rattle.std.proofs.lemmas.List.{get_or_past, get_or-replicate, length-replica
 use Rattle.std.proofs.lemmas.Option.{none-some}
 use Rattle.market.specs.Problems.{Problem}
 use Rattle.market.specs.Mechanism.{IsCuts}
-use Rattle.market.specs.Choices.{programme_in, empty_table}
+use Rattle.market.specs.Choices.{held_in_table, empty_table}
 use Rattle.market.proofs.Locals.{none_at}
 use Rattle.market.proofs.Plain.{whole_fit}
 use Rattle.market.proofs.Replays.{run-none, empty_table-count}
 use Rattle.truncation.proofs.tests.touched_first.Goals as goal
 
 -- an empty table has nothing anywhere
-empty_table-none : (m : Problem) (t i : ℕ) → programme_in (empty_table m) t i ≡ None
+empty_table-none : (m : Problem) (t i : ℕ) → held_in_table (empty_table m) t i ≡ None
 unfolding empty_table
 empty_table-none m t i =
     let row : List (Option ℕ) = replicate (length m.lists) None in
@@ -40,7 +40,7 @@ cut_lists-touched-requires-clause-cuts c =
 pub cut_lists-touched-requires-clause-within : goal.cut_lists-touched-requires-clause-within
 cut_lists-touched-requires-clause-within c =
     let m = c.args.market.now in
-    let empty = λ (t i : ℕ). ap (λ (xs : List (List (Option ℕ))). programme_in xs t i)
+    let empty = λ (t i : ℕ). ap (λ (xs : List (List (Option ℕ))). held_in_table xs t i)
     c.in_ok-table.ensures.none ∙ empty_table-none m t i in
     record {
       kind = λ t i p e. absurd (none-some p (sym (empty t i) ∙ e));

@@ -3,14 +3,14 @@ use Rattle.std.specs.Prelude.{slice_get}
 use Rattle.std.specs.List.{range_with_len}
 use Rattle.std.proofs.lemmas.List.FromFn.{map-range_with_len_more}
 use Rattle.market.specs.Problems.{list_of}
-use Rattle.market.specs.Choices.{programme_in, best_programmes_in}
+use Rattle.market.specs.Choices.{held_in_table, best_programmes_in}
 use Rattle.market.specs.Mechanism.{best_in}
 use Rattle.market.proofs.tentative.Tentative.best_programmes.Goals as goal
 
 pub loop-candidate-preserved : goal.loop-candidate-preserved
 loop-candidate-preserved c =
     let m = c.args.market.now in
-    let best = best_in m (programme_in c.args.self.now) in
+    let best = best_in m (held_in_table c.args.self.now) in
     let k = c.loop-candidate.candidate in
     let f = λ (i : ℕ). slice_get (list_of m i) (best i) in
     let x : c.entry_at.result ≡ f k = c.entry_at.ensures
@@ -28,4 +28,4 @@ returns c =
     let n = c.candidate_count-candidate-end.ensures.count in
     c.loop-candidate.invariant
     ∙ ap (λ (k : ℕ). map (λ i. slice_get (list_of m i)
-    (best_in m (programme_in c.args.self.now) i)) (range_with_len 0 k)) (omega arith)
+    (best_in m (held_in_table c.args.self.now) i)) (range_with_len 0 k)) (omega arith)

@@ -1,6 +1,6 @@
 use Rattle.std.proofs.Common.{ℕ, ◌<◌, ◌∙◌, ap, arith}
 use Rattle.market.specs.Counting.{is_programme}
-use Rattle.market.specs.Choices.{programme_in}
+use Rattle.market.specs.Choices.{held_in_table}
 use Rattle.market.proofs.Cutting.{kind-is}
 use Rattle.market.proofs.tentative.Tentative.has.Goals as goal
 
@@ -29,4 +29,4 @@ returns c =
     c.programme-kind.ensures in
     c.is_choice.ensures
     ∙ ap (is_programme c.args.programme)
-    (c.choice.ensures ∙ ap (λ (t : ℕ). programme_in c.args.self.now t c.args.candidate) k)
+    (c.choice.ensures ∙ ap (λ (t : ℕ). held_in_table c.args.self.now t c.args.candidate) k)

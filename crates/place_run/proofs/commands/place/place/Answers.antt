@@ -5,7 +5,7 @@ use Rattle.run_frame.specs.declared.stop.FileStop.TheVariants.{Memory}
 use Rattle.run_frame.proofs.Answering.{answer-made, answer-refused}
 use Rattle.place_run.specs.Answers.{Answer, done}
 use Rattle.place_run.specs.Runs.{IsAnswering}
-use Rattle.place_run.specs.commands.Place.{IsWorstStableText, placement_of}
+use Rattle.place_run.specs.commands.Place.{IsWorstStableText, printed_placement}
 use Rattle.run_frame.specs.declared.stop.Stop.TheVariants.{File}
 use Rattle.place_run.proofs.Answering.{answer-error}
 use Rattle.place_run.proofs.Headline.{worst-text}
@@ -21,7 +21,7 @@ returns-clause-answers g c =
     let reading = c.in_ok-inputs.ensures.reading in
     let text = placement-made c.in_ok-inputs.inputs c.in_ok-placed.placed _ c.in_ok-placed.ensures
     c.in_ok-text.ensures in
-    let both = answer-made (λ tables. done (placement_of tables))
+    let both = answer-made (λ tables. done (printed_placement tables))
     (λ reads answer. IsWorstStableText reads answer.text) (done c.in_ok-text.text.items) reading
     (ap done text.made)
     (worst-text reading.reads c.in_ok-inputs.inputs _ reading.meets text) in
@@ -33,7 +33,7 @@ returns-clause-answers g c =
 
 pub returns-in_err-text-clause-answers : goal.returns-in_err-text-clause-answers
 returns-in_err-text-clause-answers g c =
-    let reading = answer-refused (λ tables. done (placement_of tables))
+    let reading = answer-refused (λ tables. done (printed_placement tables))
     c.in_ok-inputs.ensures.reading in
     answer-error _ (texts c.args.words.now) _ c.from_residual-in_err-text.result (File Memory)
     _ _ _ _ c.from_residual-in_err-text.ensures.1 (record { reading = reading; promise = tt })

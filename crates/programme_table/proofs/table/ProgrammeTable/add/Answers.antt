@@ -6,7 +6,7 @@ use Rattle.indexmap.specs.IndexSet.{insert_key}
 use Rattle.programme_table.proofs.FirstAppearances.{place-insert_key}
 use Rattle.programme_table.proofs.Growing.{IsTable-with, clash-new}
 use Rattle.programme_table.specs.Growth.{clash, with_programme}
-use Rattle.programme_table.specs.Table.{IsTable, Programmes, kind_in}
+use Rattle.programme_table.specs.Table.{IsTable, Programmes, kind_named}
 use Rattle.programme_table.specs.declared.row.ProgrammeRow.{ProgrammeRow}
 use Rattle.programme_table.proofs.table.ProgrammeTable.add.Goals as goal
 
@@ -33,9 +33,9 @@ added c =
     let names : c.insert_full.new.self.keys ≡ insert_key bytes_eq t.names name =
     (rw c.unwrap-kind.ensures at c.insert_full.ensures.keys)
     ∙ ap (λ (keys : List (List ℕ)). insert_key bytes_eq keys name) c.reserve.ensures.keys in
-    let kind : c.unwrap-kind.result.0 ≡ kind_in (insert_key bytes_eq t.names name) name =
+    let kind : c.unwrap-kind.result.0 ≡ kind_named (insert_key bytes_eq t.names name) name =
     (rw c.unwrap-kind.ensures at c.insert_full.ensures.index)
-    ∙ ap (λ (keys : List (List ℕ)). kind_in keys name) c.reserve.ensures.keys
+    ∙ ap (λ (keys : List (List ℕ)). kind_named keys name) c.reserve.ensures.keys
     ∙ sym (place-insert_key t.names name) in
     let code : c.from.result ≡ c.args.fields.now.code = c.from.ensures ∙ c.get.ensures.value in
     let absent : lookup (nat_eq c.from.result) c.reserve-2.new.self.entries ≡ None =
@@ -54,7 +54,7 @@ added c =
     λ kind. record { code = c.args.fields.now.code; kind = kind; quota = c.args.fields.now.quota }
     in
     let rows : c.push.new.self.items
-    ≡ t.rows ++ with_kind (kind_in (insert_key bytes_eq t.names name) name) ∷ [] =
+    ≡ t.rows ++ with_kind (kind_named (insert_key bytes_eq t.names name) name) ∷ [] =
     (rw c.unwrap-2.ensures at c.push.ensures.items)
     ∙ ap (λ (rows : List ProgrammeRow). rows ++ with_kind c.unwrap-kind.result.0 ∷ [])
     c.reserve-3.ensures.items

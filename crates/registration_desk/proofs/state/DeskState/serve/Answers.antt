@@ -61,16 +61,16 @@ served c =
           record {
             serves = serves_placed
                 (value_of i) i.numbers.items i.total c.get.result w.in-Some.index
-                w.in-Some-code_at.field-0
-                w.number_of.result w.number_of.new.number w.number_of.new.total kept more at
+                w.in-Some-code_at.field-0 w.reply_number.result
+                w.reply_number.new.number w.reply_number.new.total kept more at
                 (sym c.find.ensures ∙ w.in-Some.is) (sym w.code_at.ensures ∙ w.in-Some-code_at.is)
                 (subst (λ
-                (n : ℕ). Numbered n i.total w.number_of.result w.number_of.new.number
-                w.number_of.new.total)
+                (n : ℕ). Numbered n i.total w.reply_number.result w.reply_number.new.number
+                w.reply_number.new.total)
                 (sym (number_at i.numbers.items i.seats c.get.result w.in-Some.index
                 w.index_mut.result.now kept.wide
                 (sym c.find.ensures ∙ w.in-Some.is) w.index_mut.ensures.value))
-                w.number_of.ensures);
+                w.reply_number.ensures);
             seats = refl;
             requests = refl;
             history = refl;
