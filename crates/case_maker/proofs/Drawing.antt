@@ -18,6 +18,7 @@ front P word i rest without with_it =
     (λ some. with_it)
 
 module _ (words : ℕ → ℕ) where
+  -- n candidates draw at most n keys
   pub length-keys : (n o : ℕ) → length (keys_from words o n) ≤ n
   length-keys zero o = omega arith
   length-keys (suc n) o =

@@ -10,6 +10,7 @@ pub seeded-is : (seed : ℕ) → started 64 multiplier_64 seed (increment_of 64 
 unfolding seeded
 seeded-is seed = refl
 
+-- after no word the generator is the same
 pub after_none : (g : Lcg) → generator_after 0 g ≡ g
 unfolding generator_after
 after_none g = refl

@@ -127,6 +127,7 @@ module _ (s : Sizes) (words : Words) where
       ap (λ xs. length {A = ℕ} xs) (ranks-at t lt)
       ∙ length-range_with_len 1 (length (made_order s rest t))
 
+  -- the market has the sizes asked for, and lists of at most 24 entries
   pub made_problem-sizes : HasSizes (made_problem s words) s.candidates s.programmes s.types
   made_problem-sizes = record {
     candidates_are = length-map-range_with_len
@@ -141,6 +142,7 @@ module _ (s : Sizes) (words : Words) where
         omega arith;
   }
 
+  -- where the sizes fit the market is valid
   pub made_problem-valid : AreFit s → IsValid (made_problem s words)
   made_problem-valid fit =
       let m = made_problem s words in
@@ -198,6 +200,7 @@ unfolding made_market
 made_market-valid seed candidates programmes types fit = made_problem-valid _
     (words_of (seeded seed)) fit
 
+-- and it has these sizes, with lists of at most 24 entries
 pub made_market-sizes : (seed candidates programmes types : ℕ)
     → HasSizes (made_market seed candidates programmes types) candidates programmes types
 unfolding made_market

@@ -21,6 +21,7 @@ pub record NextEntry (round : SharedRound) (me : WorkSeat) (x : Claiming) : Type
   pub programme : entry (dict_of round) x.turn x.passed < length (dict_of round).quota
   pub short : x.passed < 48
 
+-- it is so where a seat of the round shows this claim and may read
 pub next_entry : (round : SharedRound) (me : WorkSeat) (x : Claiming) → IsSeatOf round me
     → me.claim ≡ Some x → MayRead me → NextEntry round me x
 next_entry round me x of_round shown m =
@@ -43,6 +44,7 @@ pub record NextPost (round : SharedRound) (me : WorkSeat) (x : Claiming) : Type 
   pub may : IsAllowed (dict_of round) (knows me).core (Posts x.turn x.passed x.looked x.met)
   pub turn : x.turn < turn_count (dict_of round)
 
+-- it is so where a seat of the round shows this claim and may post
 pub next_post : (round : SharedRound) (me : WorkSeat) (x : Claiming) → IsSeatOf round me
     → me.claim ≡ Some x → MayPost me → NextPost round me x
 next_post round me x of_round shown m =

@@ -75,6 +75,7 @@ read-ranged (Ok m) low high place n within e =
     subst (λ v. (low ≤ v) × (v ≤ high)) same (within m refl)
 read-ranged (Err kind) low high place n within e = cc e
 
+-- so a word at a place that gives a number gives one within these bounds
 pub number-ranged : (field : List ℕ) (low high place n : ℕ)
     → number_at (number_of field low high) place ≡ Ok n → (low ≤ n) × (n ≤ high)
 number-ranged field low high place n e =

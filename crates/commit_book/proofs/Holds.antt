@@ -64,6 +64,7 @@ pub record NextEntry (round : SharedRound) (me : WorkSeat) (place : ℕ) : Type 
   pub programme : entry (dict_of round) me.committed place < length (dict_of round).quota
   pub short : place < 48
 
+-- it is so where a seat of the round shows that it has come to this place, and may weigh
 pub next_entry : (round : SharedRound) (me : WorkSeat) (place : ℕ) → IsSeatOf round me
     → me.phase ≡ Some (Scan place) → MayWeigh me → NextEntry round me place
 next_entry round me place of_round is m =
@@ -91,6 +92,7 @@ pub record NextSeat (round : SharedRound) (me : WorkSeat) (place : ℕ) : Type 0
   pub in_list : place < length (list_at (dict_of round) me.committed)
   pub programme : entry (dict_of round) me.committed place < length (dict_of round).quota
 
+-- it is so where a seat of the round shows this place as ready, and may take a seat
 pub next_seat : (round : SharedRound) (me : WorkSeat) (place : ℕ) → IsSeatOf round me
     → me.phase ≡ Some (Ready place) → MaySeat me → NextSeat round me place
 next_seat round me place of_round is m =
@@ -127,6 +129,7 @@ seal_place places j (Ready i) e = absurd e
 seal_place places j (Seated i filled) e = e.0
 seal_place places j (Raised i) e = e
 
+-- it is so where a seat of the round shows a phase at this place, and may commit
 pub next_seal : (round : SharedRound) (me : WorkSeat) (place : ℕ) (x : Phase) → IsSeatOf round me
     → me.phase ≡ Some x → phase_place x ≡ place → MaySeal me → NextSeal round me place
 next_seal round me place x of_round is at m =
@@ -169,6 +172,7 @@ pub record NextRelease (round : SharedRound) (me : WorkSeat) : Type 0 where
   pub phase : Phase
   pub may : IsAllowed (dict_of round) (knows me).core (Releases me.committed phase)
 
+-- it is so where a seat of the round may release
 pub next_release : (round : SharedRound) (me : WorkSeat) → IsSeatOf round me → MayRelease me
     → NextRelease round me
 next_release round me of_round m =

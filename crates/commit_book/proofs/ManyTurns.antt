@@ -17,6 +17,7 @@ abbrev pub AreSmall : ℕ → List (List ℕ) → Type 0
 AreSmall programmes lists =
     (k : ℕ) (list : List ℕ) → slice_get lists k ≡ Some list → IsSmall programmes list
 
+-- three programmes below this number are such a list
 pub small_three : (programmes a b c : ℕ) → a < programmes → b < programmes → c < programmes
     → IsSmall programmes (a ∷ b ∷ c ∷ [])
 small_three programmes a b c la lb lc = record { short = omega arith; below = at }

@@ -17,6 +17,7 @@ pub record NextLook (round : SharedRound) (me : WorkSeat) (x : Claiming) : Type 
   pub place : x.passed < length (list_at (dict_of round) x.turn)
   pub programme : entry (dict_of round) x.turn x.passed < length (dict_of round).quota
 
+-- it is so where a seat of the round shows this claim and may look at flags
 pub next_look : (round : SharedRound) (me : WorkSeat) (x : Claiming) → IsSeatOf round me
     → me.claim ≡ Some x → MayReadFlags me → NextLook round me x
 next_look round me x of_round shown m =

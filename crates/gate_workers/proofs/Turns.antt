@@ -89,6 +89,7 @@ pub record HasTurned (old new : WorkSeat) : Type 0 where
   pub done : (knows new).core.done ≡ (knows old).core.done
   pub stays : Stays old new
 
+-- it is so where a seat drew a turn, went along its list, posted it and tried the mark
 pub one_turn : (old drawn read posted new : WorkSeat) (turn place : ℕ)
     → Stays old drawn × IsClaim old drawn (Some turn) → Stays drawn read × HasRead drawn read
     → Stays read posted × IsPost read posted place → Stays posted new × HasTried posted new

@@ -52,6 +52,7 @@ done_one d v k ok =
       leaver = λ is. (ok.0, ok.3);
     }
 
+-- a draw keeps a sound state, whether the number drawn is a turn or not
 pub claim_keeps : (d : Dictatorship) (c : Core) (i : ℕ) (v : View) (b : Bool)
     → nat_lt c.claim_number (turn_count d) ≡ b → IsSound d c → slice_get c.views i ≡ Some v
     → IsAllowed d v Claims
@@ -269,6 +270,7 @@ le_or : (a b : ℕ) → (b < a → ⊥) → a ≤ b
 le_or a b h =
     elim (native.Mathlib.Decide.dec_le a b) [ yes l ↦ l | no n ↦ absurd (h (omega arith)) ]
 
+-- a post of the claimed turn keeps a sound state
 pub post_keeps : (d : Dictatorship) (c : Core) (i : ℕ) (v : View) (k j : ℕ)
     (looked met : Bool) → IsSound d c → slice_get c.views i ≡ Some v
     → IsAllowed d v (Posts k j looked met) → IsSound d (after d c i v (Posts k j looked met))

@@ -80,6 +80,7 @@ pub record IsDecided (d : Dictatorship) (c : Core) (h j : ℕ) : Type 0 where
   pub place : choice d h ≡ j
   pub seats : (p : ℕ) → p < length d.quota → seats_of c p ≡ seats_after d (suc h) p
 
+-- a turn that its holder may commit at place j is decided there
 pub decided : (d : Dictatorship) (c : Core) (i : ℕ) (v : View) (h j : ℕ) (phase : Phase)
     → IsValidDictatorship d → (s : IsSound d c) → slice_get c.views i ≡ Some v
     → v.hold ≡ hold_at h phase

@@ -45,6 +45,7 @@ tried_fits d c count v hold none holds f =
       past = f.past;
     }
 
+-- a try on the mark keeps a sound state, whether the mark was held or free
 pub take_keeps : (d : Dictatorship) (c : Core) (i : ℕ) (v : View) (b : Bool) → c.mark_held ≡ b
     → IsSound d c → slice_get c.views i ≡ Some v → IsAllowed d v Takes
     → IsSound d record c { mark_held = true; views = set c.views i (after_take v b c.mark_number) }
@@ -101,6 +102,7 @@ phase_step d c i v h was now s at hold same same_late fits =
     (holder_fits d c c s.count s.count v mine (hold_at h now) (grows_none c) f hold
     (holding_at d c s.count h now (f.hold mine hold).committed fits))
 
+-- a holder's look at the cell of its turn keeps a sound state
 pub look_keeps : (d : Dictatorship) (c : Core) (i : ℕ) (v : View) (h : ℕ) → IsSound d c
     → slice_get c.views i ≡ Some v → IsAllowed d v (Looks h) → IsSound d (after d c i v (Looks h))
 look_keeps d c i v h s at ok =
@@ -123,6 +125,7 @@ look_keeps d c i v h s at ok =
     found (Committed j) e = tt
     found (Posted j) e = let post = s.posts h j e in ((ok.1, (j, e, omega arith)), post.0, post.1)
 
+-- weighing an entry of a valid dictatorship keeps a sound state
 pub weigh_keeps : (d : Dictatorship) (c : Core) (i : ℕ) (v : View) (h j : ℕ) → IsValidDictatorship d
     → IsSound d c → slice_get c.views i ≡ Some v → IsAllowed d v (Weighs h j)
     → IsSound d (after d c i v (Weighs h j))
@@ -181,6 +184,7 @@ late_elsewhere : (d : Dictatorship) (p h j : ℕ) (filled : Bool) → entry d h 
 late_elsewhere d p h j true other = ap bit (ne_eqb (entry d h j) p other)
 late_elsewhere d p h j false other = refl
 
+-- taking a seat at the place found keeps a sound state
 pub seat_keeps : (d : Dictatorship) (c : Core) (i : ℕ) (v : View) (h j : ℕ) → IsValidDictatorship d
     → IsSound d c → slice_get c.views i ≡ Some v → IsAllowed d v (Seats h j)
     → IsSound d (after d c i v (Seats h j))
@@ -344,6 +348,7 @@ sealed_late d p places h j (Ready k) r = absurd r
 sealed_late d p places h j (Seated k b) r = ap (λ b. phase_late_bit d p h (Seated k b)) r.1
 sealed_late d p places h j (Raised k) r = refl
 
+-- committing a turn keeps a sound state
 pub seal_keeps : (d : Dictatorship) (c : Core) (i : ℕ) (v : View) (h j : ℕ) (phase : Phase)
     → IsValidDictatorship d → IsSound d c → slice_get c.views i ≡ Some v
     → IsAllowed d v (Seals h j phase) → IsSound d (after d c i v (Seals h j phase))
@@ -475,6 +480,7 @@ freed_late d p n h (Ready j) r = refl
 freed_late d p n h (Seated j b) r = absurd r
 freed_late d p n h (Raised j) r = refl
 
+-- giving back the mark keeps a sound state
 pub release_keeps : (d : Dictatorship) (c : Core) (i : ℕ) (v : View) (h : ℕ) (phase : Phase)
     → IsSound d c → slice_get c.views i ≡ Some v → IsAllowed d v (Releases h phase)
     → IsSound d (after d c i v (Releases h phase))

@@ -45,6 +45,7 @@ not_posted (Posted j) none = absurd (none j refl)
 not_posted (Committed j) none = (refl, refl)
 
 module _ (s : Inside) (i : ℕ) (w u : Worker) (room : vec_capacity u.own ≡ vec_capacity w.own) where
+  -- where a turn is left, a draw claims the number drawn
   pub draws_turn : MayAct s i w Claims → s.claim_number < turn_count s.dict
       → view_of u ≡ after_claim_if true (view_of w) s.claim_number
       → Acted s record s {
@@ -57,6 +58,7 @@ module _ (s : Inside) (i : ℕ) (w u : Worker) (room : vec_capacity u.own ≡ ve
       acted s _ i w u Claims _ x (ap (λ b. told_of_claim b k) (sym test))
       (is ∙ ap (λ b. after_claim_if b (view_of w) k) (sym test)) room refl refl refl
 
+  -- where no turn is left, a draw makes the worker done
   pub finds_no_turn : MayAct s i w Claims → turn_count s.dict ≤ s.claim_number
       → view_of u ≡ after_claim_if false (view_of w) s.claim_number
       → Acted s record s {
@@ -69,6 +71,7 @@ module _ (s : Inside) (i : ℕ) (w u : Worker) (room : vec_capacity u.own ≡ ve
       acted s _ i w u Claims _ x (ap (λ b. told_of_claim b k) (sym test))
       (is ∙ ap (λ b. after_claim_if b (view_of w) k) (sym test)) room refl refl refl
 
+  -- by the seat count that was read, the entry is met or passed
   pub reads_entry : (k j : ℕ) (open' found : Bool) (seats : List ℕ) → MayAct s i w (Reads k j)
       → found ≡ open'
       → found ≡ nat_lt (get_or seats (entry s.dict k j) 0) (quota_of s.dict (entry s.dict k j))
@@ -79,6 +82,7 @@ module _ (s : Inside) (i : ℕ) (w u : Worker) (room : vec_capacity u.own ≡ ve
       acted s _ i w u (Reads k j) _ x (ap told_of_read same)
       (is ∙ ap (λ b. after_read b (view_of w) k j) same) room refl refl refl
 
+  -- a look at a word of flags passes the entries whose flags are raised in it
   pub reads_flags : (k j word : ℕ) → MayAct s i w (ReadsFlags k j)
       → word ≡ get_or s.flags.items (flag_group (entry s.dict k j)) 0
       → view_of u ≡ after_flags s.dict (view_of w) k j word
@@ -87,6 +91,7 @@ module _ (s : Inside) (i : ℕ) (w u : Worker) (room : vec_capacity u.own ≡ ve
       acted s _ i w u (ReadsFlags k j) _ x (ap (λ (n : ℕ). tells.Flags n) found)
       (is ∙ ap (λ (n : ℕ). after_flags s.dict (view_of w) k j n) found) room refl refl refl
 
+  -- a post writes the place into the cell of the claimed turn
   pub posts_turn : (k j : ℕ) (looked met : Bool) → MayAct s i w (Posts k j looked met)
       → view_of u ≡ after_post (view_of w) j
       → Acted s record s {
@@ -96,6 +101,7 @@ module _ (s : Inside) (i : ℕ) (w u : Worker) (room : vec_capacity u.own ≡ ve
   posts_turn k j looked met x is =
       acted s _ i w u (Posts k j looked met) _ x refl is room refl refl refl
 
+  -- a try leaves the mark held, by this worker where it was free
   pub tries_mark : (held : Bool) → MayAct s i w Takes → held ≡ s.mark_held
       → view_of u ≡ after_take (view_of w) held s.mark_number
       → Acted s record s { mark_held = true; workers = with_item s.workers i u } i Take
@@ -115,6 +121,7 @@ module _ (s : Inside) (i : ℕ) (w u : Worker) (room : vec_capacity u.own ≡ ve
       refl
       refl refl
 
+  -- a holder whose look finds a post weighs from its place on
   pub finds_post : (c j : ℕ) (cell : Cell) → MayAct s i w (Looks c)
       → cell ≡ get_or s.cells.items c cell → cell ≡ Posted j
       → view_of u ≡ with_hold (view_of w) (hold_at c (Scan j))
@@ -124,6 +131,7 @@ module _ (s : Inside) (i : ℕ) (w u : Worker) (room : vec_capacity u.own ≡ ve
       subst (λ (told : Told). Acted s record s { workers = with_item s.workers i u } i Look told)
       (ap told_of_look found) (looks_at_cell c cell x at (is ∙ ap look (sym found)))
 
+  -- a holder whose look finds no post halts
   pub finds_nothing : (c : ℕ) (cell : Cell) → MayAct s i w (Looks c)
       → cell ≡ get_or s.cells.items c cell → ((j : ℕ) → cell ≡ Posted j → ⊥)
       → view_of u ≡ with_hold (view_of w) (hold_at c Halted)
@@ -134,6 +142,7 @@ module _ (s : Inside) (i : ℕ) (w u : Worker) (room : vec_capacity u.own ≡ ve
       subst (λ (told : Told). Acted s record s { workers = with_item s.workers i u } i Look told)
       halts.1 (looks_at_cell c cell x at (is ∙ ap look (sym halts.0)))
 
+  -- by the seat count that was read, the holder is ready to seat or goes on behind the entry
   pub weighs_entry : (c j : ℕ) (open' found : Bool) (seats : List ℕ) → MayAct s i w (Weighs c j)
       → found ≡ open'
       → found ≡ nat_lt (get_or seats (entry s.dict c j) 0) (quota_of s.dict (entry s.dict c j))
@@ -146,6 +155,7 @@ module _ (s : Inside) (i : ℕ) (w u : Worker) (room : vec_capacity u.own ≡ ve
       (is ∙ ap (λ b. with_hold (view_of w) (hold_at c (phase_after_weigh b j))) same) room refl refl
       refl
 
+  -- taking a seat adds one to the programme's count, and tells whether that fills it
   pub takes_seat : (c j p n : ℕ) (filled : Bool) → MayAct s i w (Seats c j) → p ≡ entry s.dict c j
       → n ≡ seats_of (machine_of s).core p → filled ≡ nat_le (quota_of s.dict p) (n + 1)
       → view_of u ≡ with_hold (view_of w) (hold_at c (Seated j filled))
@@ -168,6 +178,7 @@ module _ (s : Inside) (i : ℕ) (w u : Worker) (room : vec_capacity u.own ≡ ve
       (acted s _ i w u (Seats c j) _ x (ap (λ b. tells.Seated b) last)
       (is ∙ ap (λ b. with_hold (view_of w) (hold_at c (Seated j b))) last) room refl refl refl)
 
+  -- raising a flag writes it into the word of its group
   pub raises_flag : (c j p group word raised : ℕ) → MayAct s i w (Raises c j)
       → p ≡ entry s.dict c j → group ≡ flag_group p
       → word ≡ get_or s.flags.items (flag_group p) 0 → raised ≡ with_flag word p
@@ -190,6 +201,7 @@ module _ (s : Inside) (i : ℕ) (w u : Worker) (room : vec_capacity u.own ≡ ve
       (λ k. (sym which k, (sym (its ∙ ap (λ (n : ℕ). flag_group n) which) k, sym new k)))
       (acted s _ i w u (Raises c j) _ x refl is room refl refl refl)
 
+  -- committing a turn writes its place into its cell, and the holder goes on to the next
   pub seals_turn : (c j : ℕ) (phase : Phase) → MayAct s i w (Seals c j phase)
       → view_of u ≡ with_hold (view_of w) (hold_at (c + 1) Idle)
       → Acted s record s {
@@ -198,6 +210,7 @@ module _ (s : Inside) (i : ℕ) (w u : Worker) (room : vec_capacity u.own ≡ ve
       } i Seal (tells.Sealed c)
   seals_turn c j phase x is = acted s _ i w u (Seals c j phase) _ x refl is room refl refl refl
 
+  -- a release frees the mark, with the number of turns that the holder knows as committed
   pub frees_mark : (c : ℕ) (phase : Phase) → MayAct s i w (Releases c phase)
       → view_of u ≡ with_hold (view_of w) None
       → Acted s record s {

@@ -326,6 +326,7 @@ seats_small s p k l =
 pub team_none : (turns : ℕ) → IsTeam 0 turns []
 team_none turns = record { views = refl; room = λ i w at. absurd (cc (at)) }
 
+-- a team with one fresh worker more is one, where that worker has room for all turns
 pub team_more : (n turns : ℕ) (ws : List Worker) (w : Worker) → IsTeam n turns ws
     → view_of w ≡ fresh_view
     → turns ≤ vec_capacity w.own → IsTeam (n + 1) turns (ws ++ w ∷ [])

@@ -16,6 +16,7 @@ abbrev turn_in : Option Claiming → ℕ
 turn_in None = 0
 turn_in (Some x) = x.turn
 
+-- own turns that fit a state fit one with more draws, in which cells have only gone on
 pub own_stays : (d : Dictatorship) (c e : Core) (own : List OwnTurn) (claim : Option Claiming)
     → c.claim_number ≤ e.claim_number
     → ((k j : ℕ) → IsCellFrom (cell_at c k) j → IsCellFrom (cell_at e k) j)
@@ -28,6 +29,7 @@ own_stays d c e own claim more cells f = record {
   last = f.last;
 }
 
+-- an empty list of own turns fits any state, where nothing is claimed
 pub own_nil : (d : Dictatorship) (c : Core) → AreSoundOwnTurns d c [] None
 own_nil d c =
     record {
@@ -53,6 +55,7 @@ own_moves d c own x y same f = record {
   );
 }
 
+-- turns that rise still do with a greater one at their end
 pub rise_snoc : (own : List OwnTurn) (z : OwnTurn)
     → ((i j : ℕ) (x y : OwnTurn) → slice_get own i ≡ Some x → slice_get own j ≡ Some y → i < j
     → x.turn < y.turn) → ((i : ℕ) (x : OwnTurn) → slice_get own i ≡ Some x → x.turn < z.turn)

@@ -27,11 +27,13 @@ module _ {A : Type 0} where
       (λ (t : (j ≢ i) × (slice_get l j ≡ Some v)). others j v t.0 t.1)
       (at_set l i j w v e)
 
+  -- what stands at a place among equal elements is that element
   pub at_replicate : (n i : ℕ) (x y : A) → slice_get (replicate n x) i ≡ Some y → x ≡ y
   at_replicate zero i x y e = absurd (cc (e))
   at_replicate (suc n) zero x y e = cc (e)
   at_replicate (suc n) (suc i) x y e = at_replicate n i x y e
 
+  -- and so is what is read at any place with that element as the default
   pub get_replicate : (n i : ℕ) (x : A) → get_or (replicate n x) i x ≡ x
   get_replicate zero i x = refl
   get_replicate (suc n) zero x = refl
@@ -46,12 +48,14 @@ module _ {A : Type 0} where
   at_snoc (x ∷ xs) a b (suc j) e =
       ⊎_elim (λ p. inl p) (λ p. inr (ap suc p.0, p.1)) (at_snoc xs a b j e)
 
+  -- what stands in a list stands there in a longer one
   pub at_longer : (l m : List A) (i : ℕ) (a : A) → slice_get l i ≡ Some a
       → slice_get (l ++ m) i ≡ Some a
   at_longer [] m i a e = absurd (cc (e))
   at_longer (x ∷ xs) m zero a e = e
   at_longer (x ∷ xs) m (suc i) a e = at_longer xs m i a e
 
+  -- the element put at the end stands at the place that the list's length gives
   pub at_last : (l : List A) (a : A) → slice_get (l ++ a ∷ []) (length l) ≡ Some a
   at_last [] a = refl
   at_last (x ∷ xs) a = at_last xs a
@@ -65,6 +69,7 @@ module _ {A : Type 0} where
         let at = ap g (get_or_from_slice_get l j v v e) in
         omega arith
 
+    -- a term is at most the sum
     pub term_le : (l : List A) (j : ℕ) (v : A) → slice_get l j ≡ Some v → g v ≤ sum_by g l
     term_le l j v e =
         let t = get_or-le-sum_by g l j v (slice_get_within l j v e) in
@@ -93,6 +98,7 @@ module _ {A : Type 0} where
         let a : g x ≡ 0 = h 0 x refl in
         omega (arith, sum_by-cons g x xs, sum_zero xs (λ i v e. h (suc i) v e))
 
+    -- a sum over equal elements with the term 0 is 0
     pub sum_replicate : (n : ℕ) (x : A) → g x ≡ 0 → sum_by g (replicate n x) ≡ 0
     sum_replicate n x e =
         sum_zero (replicate n x) (λ i v at. ap g (sym (at_replicate n i x v at)) ∙ e)

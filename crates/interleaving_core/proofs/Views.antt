@@ -21,11 +21,13 @@ at_some P a p b e = let is : a ≡ b = cc (e) in subst P is p
 
 -- ---- the state grows
 
+-- from c to e no claim number and no seat count falls, and no cell goes back
 pub record Grows (c e : Core) : Type 0 where
   pub more : c.claim_number ≤ e.claim_number
   pub seats : (p : ℕ) → seats_of c p ≤ seats_of e p
   pub cells : (k j : ℕ) → IsCellFrom (cell_at c k) j → IsCellFrom (cell_at e k) j
 
+-- what a claim knows stays true where the state grows
 pub claim_grows : (d : Dictatorship) (c e : Core) (x : Claiming) → Grows c e → IsSoundClaim d c x
     → IsSoundClaim d e x
 claim_grows d c e x g f =
@@ -52,6 +54,7 @@ view_grows d c e count now v g holds f =
 
 -- ---- what the holder weighs stays
 
+-- from c to e no seat count changes, and a post of turn h stays
 pub record Stays (c e : Core) (h : ℕ) : Type 0 where
   pub seats : (p : ℕ) → seats_of e p ≡ seats_of c p
   pub cell : (j : ℕ) → cell_at c h ≡ Posted j → cell_at e h ≡ Posted j
@@ -85,6 +88,7 @@ phase_stays d c e h (Raised j) s f = (
   (let full = f.3 in let same = s.seats (entry d h j) in omega arith),
 )
 
+-- what a holder knows stays true where the seat counts and the post of its turn stay
 pub holding_stays : (d : Dictatorship) (c e : Core) (count : ℕ) (h : Holding)
     → Stays c e h.committed
     → IsSoundHolding d c count h → IsSoundHolding d e count h
@@ -131,6 +135,7 @@ claimant_one v x claim is f =
 
 -- ---- one view is replaced
 
+-- the mark stays sound where the new view holds it exactly where the old one did
 pub mark_stays : (d : Dictatorship) (held : Bool) (number : ℕ) (views : List View) (count i : ℕ)
     (v w : View)
     → slice_get views i ≡ Some v → hold_bit w ≡ hold_bit v → IsSoundMark d held number views count
@@ -143,6 +148,7 @@ mark_stays d held number views count i v w at same m =
       holders = let t = sum_set hold_bit views i v w at in let one = m.holders in omega arith;
     }
 
+-- the seat counts stay sound where the new view has seated what the old one had
 pub seats_stay : (d : Dictatorship) (seats : List ℕ) (views : List View) (count i : ℕ) (v w : View)
     → slice_get views i ≡ Some v → ((p : ℕ) → seat_bit d p w ≡ seat_bit d p v)
     → AreSoundSeats d seats views count → AreSoundSeats d seats (set views i w) count
@@ -156,6 +162,7 @@ seats_stay d seats views count i v w at same s =
           omega arith;
     }
 
+-- the flags stay sound where the new view has the flag still to raise that the old one had
 pub flags_stay : (d : Dictatorship) (flags seats : List ℕ) (views : List View) (i : ℕ) (v w : View)
     → slice_get views i ≡ Some v → ((p : ℕ) → late_bit d p w ≡ late_bit d p v)
     → AreSoundFlags d flags seats views → AreSoundFlags d flags seats (set views i w)
@@ -171,6 +178,7 @@ flags_stay d flags seats views i v w at same f =
       narrow = f.narrow;
     }
 
+-- the claims stay sound where the new view claims what the old one did and is done where it was
 pub claims_stay : (d : Dictatorship) (number : ℕ) (cells : List Cell) (views : List View) (i : ℕ)
     (v w : View)
     → slice_get views i ≡ Some v → ((k : ℕ) → claim_bit k w ≡ claim_bit k v)
@@ -209,6 +217,7 @@ pub calm_grows : (c : Core) (drawn : ℕ) (held : Bool) (number : ℕ) (views : 
 calm_grows c drawn held number views more =
     record { more = more; seats = λ p. omega arith; cells = λ k j p. p }
 
+-- so what is weighed of any turn stays
 pub calm_stays : (c : Core) (drawn : ℕ) (held : Bool) (number : ℕ) (views : List View) (h : ℕ)
     → Stays c (calm c drawn held number views) h
 calm_stays c drawn held number views h = record { seats = λ p. refl; cell = λ j p. p }

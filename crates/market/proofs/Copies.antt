@@ -17,12 +17,15 @@ abbrev pub copies : ℕ → List ℕ → ℕ
 copies x [] = 0
 copies x (y ∷ ys) = one_if x y + copies x ys
 
+-- it is 1 where they are equal
 pub one_if-same : (x y : ℕ) → x ≡ y → one_if x y ≡ 1
 one_if-same x y e = grind (arith, nat_tests)
 
+-- it is 0 where they are not
 pub one_if-other : (x y : ℕ) → x ≢ y → one_if x y ≡ 0
 one_if-other x y e = grind (arith, nat_tests)
 
+-- so it is 0 or they are equal
 pub one_if-cases : (x y : ℕ) → (one_if x y ≡ 0) ⊎ (x ≡ y)
 one_if-cases x y = grind (arith, nat_tests)
 
@@ -76,6 +79,7 @@ no_repeats ys once i j below lt e =
 abbrev pub Rises : List ℕ → Type 0
 Rises xs = (i j : ℕ) → i ≤ j → j < length xs → slice_index xs i ≤ slice_index xs j
 
+-- behind its head a rising list rises
 pub Rises-tail : (x : ℕ) (xs : List ℕ) → Rises (x ∷ xs) → Rises xs
 Rises-tail x xs r i j le lt = r (suc i) (suc j) (omega arith) (omega arith)
 

@@ -78,6 +78,7 @@ uncut m table cuts t i w e =
 
 -- ---- the cuts of the first k candidates
 
+-- the first k candidates have their new cuts, the others the old ones, and those cut are counted
 pub record IsCutUpto (m : Problem) (c : ℕ → ℕ → Option ℕ) (old : List ℕ) (k : ℕ) (new : List ℕ)
     (count : ℕ) : Type 0 where
   pub candidates : length new ≡ length m.lists
@@ -145,6 +146,7 @@ IsCutUpto-all m c old new k n e f = (
 
 -- ---- the first changed turn of a type, over the first k candidates
 
+-- o is the first turn of type t that a cut among the first k candidates changes, if any
 pub record IsFirstUpto (m : Problem) (c : ℕ → ℕ → Option ℕ) (old : List ℕ) (t k : ℕ)
     (o : Option ℕ) : Type 0 where
   pub turn : ℕ

@@ -121,6 +121,7 @@ length_members f (suc n) =
     ap (λ (xs : List ℕ). length xs) (filter_no f n t) ∙ (omega arith))
     (cases_Bool (f n))
 
+-- p is kept of the numbers below n, at the place that counts those kept before it
 pub record IsNumbered (f : ℕ → Bool) (n p : ℕ) : Type 0 where
   pub below : count_below f p < length (filter f (range_with_len 0 n))
   pub at : slice_index (filter f (range_with_len 0 n)) (count_below f p) ≡ p
@@ -207,7 +208,7 @@ tally_all h (suc n) p e =
     let one = one_more (is_programme p (h n)) (is_programme-from p (h n) (e n (omega arith))) in
     omega arith
 
--- there are no more turns than candidates
+-- before the number kept at place j there are j that are kept
 numbers_back : (f : ℕ → Bool) (n j : ℕ) → j < length (filter f (range_with_len 0 n))
     → count_below f (slice_index (filter f (range_with_len 0 n)) j) ≡ j
 numbers_back f zero j l = absurd (omega arith)
@@ -265,7 +266,7 @@ member_count-le m t v =
     let c = v.programmes in
     omega arith
 
--- a turn's list is short, and its numbers are those of programmes of the type
+-- a turn's list is short
 pub local_length : (m : Problem) (cuts : List ℕ) (t i : ℕ) → IsValid m → i < length m.lists
     → length (local_list m cuts t i) ≤ MAX_ENTRIES
 unfolding local_list turn_list

@@ -235,11 +235,13 @@ module _ (m : Problem) (v : IsValid m) (cuts fill : List ℕ) (t from : ℕ) (lt
       let c = ap (λ (k : ℕ). seats_taken d k p) n in
       omega arith
 
+  -- where the fill is what earlier turns took, a turn chooses the same place under both
   pub local-choice : IsFillBefore m cuts t from fill → (k : ℕ) → from + k < length (order_of m t)
       → choice (local_dictatorship m cuts t from fill) k
       ≡ choice (type_dictatorship m cuts t) (from + k)
   local-choice fills k l = same_choice k (same_seats fills k (omega arith)) l
 
+  -- and it picks the same programme, by its local number under the one
   pub local-pick : IsFillBefore m cuts t from fill → (k : ℕ) → from + k < length (order_of m t)
       → pick (local_dictatorship m cuts t from fill) k
       ≡ option_map (local_of m) (pick (type_dictatorship m cuts t) (from + k))

@@ -22,6 +22,7 @@ is_some_from o p e = ap (λ (x : Option ℕ). is_some x) e
 
 -- ---- two programmes at once
 
+-- the candidate takes programmes in two types at once
 pub record TakesTwo (m : Problem) (cuts : List ℕ) (i : ℕ) : Type 0 where
   pub first_kind : ℕ
   pub second_kind : ℕ
@@ -108,6 +109,7 @@ pub record IsBest (m : Problem) (cuts : List ℕ) (i b : ℕ) : Type 0 where
   pub takes : tentative m cuts (kind_of m b) i ≡ Some b
   pub place : best_place m cuts i ≡ place_of b (list_of m i)
 
+-- the candidate has a best programme, which stands no later in the list than p
 pub record BestBy (m : Problem) (cuts : List ℕ) (i p : ℕ) : Type 0 where
   pub best : ℕ
   pub is_best : IsBest m cuts i best

@@ -147,6 +147,7 @@ tentative-find m cuts t i l =
     l))
     ∙ find-filter (is_open d k) (is_offered m t i) (take (slice_index cuts i) (list_of m i))
 
+-- p is of type t, is listed within the cut, and has a seat left at the candidate's turn
 pub record Takes (m : Problem) (cuts : List ℕ) (t i p : ℕ) : Type 0 where
   pub turn : turn_of m t i < length (order_of m t)
   pub offered : is_offered m t i p ≡ true
@@ -183,7 +184,7 @@ pub record TakesBy (m : Problem) (cuts : List ℕ) (t i p : ℕ) : Type 0 where
   pub takes : tentative m cuts t i ≡ Some entry
   pub no_later : place_of entry (list_of m i) ≤ place_of p (list_of m i)
 
--- so is the first such entry
+-- where p could be taken, an entry is taken that stands no later
 pub takes_by : (m : Problem) (cuts : List ℕ) (t i p : ℕ) → Takes m cuts t i p → TakesBy m cuts t i p
 unfolding would_pick seats_before
 takes_by m cuts t i p r =

@@ -51,6 +51,7 @@ module _ {A T : Type 0} (rules : FileRules) (keeps : Row → A → Type 0) (has 
       pub none : meanings rules earlier done ≡ None
       pub has_rows : has (earlier ++ done) table
 
+    -- before the first of the rows the table has the earlier ones
     pub AddsTo-begin : (earlier rows : List Row) (table : T) (left : List A) → has earlier table
         → AllZip keeps rows left → AddsTo earlier rows table left
     AddsTo-begin earlier rows table left here kept = record {
@@ -69,6 +70,7 @@ module _ {A T : Type 0} (rules : FileRules) (keeps : Row → A → Type 0) (has 
         (has (before ++ row ∷ []) new) found
 
     module _ (earlier rows : List Row) (table new : T) (one : A) (left : List A) where
+      -- a row with which nothing is wrong is one more in the table
       pub AddsTo-next : AddsTo earlier rows table (one ∷ left) → Takes table one new None
           → AddsTo earlier rows new left
       AddsTo-next a takes = by a.done a.after a.behind a.kept a.none a.has_rows
@@ -88,6 +90,7 @@ module _ {A T : Type 0} (rules : FileRules) (keeps : Row → A → Type 0) (has 
                 has_rows = subst (λ all. has all new) (append_assoc earlier done (row ∷ [])) told.1;
               }
 
+      -- what is wrong with the next row is the first thing wrong with any of them
       pub AddsTo-stops : (f : FileFault) → AddsTo earlier rows table (one ∷ left)
           → Takes table one new (Some f) → meanings rules earlier rows ≡ Some f
       AddsTo-stops f a takes = by a.done a.after a.behind a.kept a.none a.has_rows
@@ -116,6 +119,7 @@ module _ {A T : Type 0} (rules : FileRules) (keeps : Row → A → Type 0) (has 
             ap length behind,
           )
 
+    -- where none is left nothing is wrong with any of them, and the table has them all
     pub AddsTo-ends : (earlier rows : List Row) (table : T) → AddsTo earlier rows table []
         → (meanings rules earlier rows ≡ None) × has (earlier ++ rows) table
     AddsTo-ends earlier rows table a = by a.done a.after a.behind a.kept a.none a.has_rows
@@ -139,6 +143,7 @@ module _ {A T : Type 0} (rules : FileRules) (keeps : Row → A → Type 0) (has 
       pub none : meanings rules [] done ≡ None
       pub has_rows : has done table
 
+    -- before the first of the parts the table has no row
     pub JoinsParts-begin : (all : List Row) (lists : List (List Row)) (table : T)
         (left : List (AheadRows A)) → flat_map (λ rows. rows) lists ≡ all → has [] table
         → AllZip (λ rows (part : AheadRows A). AllZip keeps rows part.rows.items) lists left
@@ -159,6 +164,7 @@ module _ {A T : Type 0} (rules : FileRules) (keeps : Row → A → Type 0) (has 
         → IsRowTaken (meanings rules earlier more) ⊤ (has (earlier ++ more) new) found
 
     module _ (all : List Row) (table new : T) (part : AheadRows A) (left : List (AheadRows A)) where
+      -- a part with which nothing is wrong is one more in the table
       pub JoinsParts-next : JoinsParts all table (part ∷ left) → TakesPart table part new None
           → JoinsParts all new left
       JoinsParts-next p takes = by p.lists p.behind p.kept
@@ -179,6 +185,7 @@ module _ {A T : Type 0} (rules : FileRules) (keeps : Row → A → Type 0) (has 
                 has_rows = told.1;
               }
 
+      -- what is wrong with the next part is the first thing wrong with any of them
       pub JoinsParts-stops : (f : FileFault) → JoinsParts all table (part ∷ left)
           → TakesPart table part new (Some f) → meanings rules [] all ≡ Some f
       JoinsParts-stops f p takes = by p.lists p.behind p.kept
@@ -221,6 +228,7 @@ module _ {A T : Type 0} (rules : FileRules) (keeps : Row → A → Type 0) (has 
             ),
           )
 
+    -- where none is left nothing is wrong with any row, and the table has them all
     pub JoinsParts-ends : (all : List Row) (table : T) → JoinsParts all table []
         → (meanings rules [] all ≡ None) × has all table
     JoinsParts-ends all table p = by p.lists p.behind p.kept

@@ -135,6 +135,7 @@ unmarked : (bytes : List ℕ) → starts_with nat_eq bytes BYTE_ORDER_MARK ≡ f
     → without_mark bytes ≡ bytes
 unmarked bytes e = rw e refl
 
+-- so it is with whatever stands in front of an LF
 pub without_mark-front : (front : List ℕ) → IsUnmarked front
 without_mark-front [] = unmarked-as_is [] (λ back. refl)
 without_mark-front (a ∷ []) = unmarked-as_is (a ∷ []) (λ back.

@@ -151,12 +151,14 @@ module _ (bytes : List ℕ) (pieces : ℕ) (some : 0 < pieces) where
   cut_of-first : cut_of bytes pieces 0 ≡ 0
   cut_of-first = refl
 
+  -- the last cut is at the file's end
   pub cut_of-last : cut_of bytes pieces pieces ≡ length bytes
   cut_of-last =
       let not_zero : (pieces == 0) ≡ false = grind (arith, nat_tests) in
       let same : (pieces == pieces) ≡ true = grind (arith, nat_tests) in
       rw (not_zero, same) refl
 
+  -- between the ends a cut is the first line start from the piece's share of the bytes on
   pub cut_of-between : (k : ℕ) → 0 < k → k < pieces
       → cut_of bytes pieces k ≡ line_start bytes (k * length bytes / pieces)
   cut_of-between k low high =
@@ -164,6 +166,7 @@ module _ (bytes : List ℕ) (pieces : ℕ) (some : 0 < pieces) where
       let other : (k == pieces) ≡ false = grind (arith, nat_tests) in
       rw (not_zero, other) refl
 
+  -- so these are cuts of the file into so many pieces
   pub AreCuts-cut_of : AreCuts bytes pieces (cut_of bytes pieces)
   AreCuts-cut_of = record {
     first = cut_of-first;
@@ -173,6 +176,7 @@ module _ (bytes : List ℕ) (pieces : ℕ) (some : 0 < pieces) where
         (line_start-is bytes (k * length bytes / pieces) (share-inside k (omega arith)));
   }
 
+  -- no cut is past the file's end
   pub cut_of-inside : (k : ℕ) → k ≤ pieces → cut_of bytes pieces k ≤ length bytes
   cut_of-inside k le = ⊎_elim
       (λ (low : 0 < k). ⊎_elim
@@ -184,6 +188,7 @@ module _ (bytes : List ℕ) (pieces : ℕ) (some : 0 < pieces) where
       subst (λ n. cut_of bytes pieces n ≤ length bytes) first (omega arith))
       (cases_lt 0 k)
 
+  -- and no cut is before the one in front of it
   pub cut_of-rises : (k : ℕ) → k < pieces → cut_of bytes pieces k ≤ cut_of bytes pieces (k + 1)
   cut_of-rises k lt = ⊎_elim
       (λ (low : 0 < k). ⊎_elim

@@ -111,6 +111,7 @@ module _ (bytes : List ℕ) where
     abbrev pub full_to : ℕ → List RowPart
     full_to k = filter is_full (map part_at (range_with_len 0 k))
 
+    -- up to the next number they are one more where its part is not empty, and else the same
     pub full_to-next : (k : ℕ)
         → full_to (k + 1) ≡ full_to k ++ cond (is_full (part_at k)) (part_at k ∷ []) []
     full_to-next k = filter_of_map_range_with_len_more is_full part_at 0 k k (zero-add k)
@@ -151,6 +152,7 @@ module _ (bytes : List ℕ) where
         ∙ ap (λ n. rows (take n bytes)) (cut_of-last bytes pieces some)
         ∙ ap rows (take_all (length bytes) bytes (omega arith))
 
+    -- the line of a place is at most one more than the file has bytes
     pub line-inside : (place : ℕ) → 1 + line_ends (take place bytes) ≤ length bytes + 1
     line-inside place = omega (
       arith,

@@ -68,10 +68,12 @@ module _ {G : Type 0} (rules : FileRules) (header : Header) (HasRows : List Row 
     pub size : count ≡ length (flat_map (λ rows. rows) done)
     pub behind : lists ≡ done ++ left
 
+  -- before the first of the parts there is no table, and all lists are left
   pub JoinsTo-begin : (lists : List (List Row)) → JoinsTo lists [] 0 lists
   JoinsTo-begin lists =
       record { done = []; each = tt; clean = All-nil _; size = refl; behind = refl }
 
+  -- a part that was read adds its table and its number of rows
   pub JoinsTo-next : (lists : List (List Row)) (tables : List G) (count : ℕ) (rows : List Row)
       (left : List (List Row)) (read : RowsRead G) → JoinsTo lists tables count (rows ∷ left)
       → IsPartRead rules header HasRows rows read
@@ -94,6 +96,7 @@ module _ {G : Type 0} (rules : FileRules) (header : Header) (HasRows : List Row 
         behind = j.behind ∙ sym (append_assoc j.done (rows ∷ []) left);
       }
 
+  -- where none is left and the rows are not too many, these are the tables of all parts
   pub JoinsTo-ends : (lists : List (List Row)) (tables : List G) (count : ℕ)
       → count ≤ rules.form.most_rows → JoinsTo lists tables count []
       → AreTablesOf rules header HasRows lists tables
@@ -117,6 +120,7 @@ module _ {G : Type 0} (rules : FileRules) (header : Header) (HasRows : List Row 
     pub read : ArePartsRead rules header HasRows left parts
     pub joins : JoinsTo lists tables count left
 
+  -- the next part was read, and adds its table and its number of rows
   pub PartsLeft-next : {E : Type 0} (lists : List (List Row)) (tables : List G) (count : ℕ)
       (read : RowsRead G) (parts : List (Result (Option (RowsRead G)) E))
       → PartsLeft lists tables count (Ok (Some read) ∷ parts)
@@ -134,6 +138,7 @@ module _ {G : Type 0} (rules : FileRules) (header : Header) (HasRows : List Row 
         joins = JoinsTo-next lists tables count rows left read joins each.0;
       }
 
+  -- and where none is left these are the tables of all parts, if the rows are not too many
   pub PartsLeft-ends : {E : Type 0} (lists : List (List Row)) (tables : List G) (count : ℕ)
       → count ≤ rules.form.most_rows → PartsLeft {E = E} lists tables count []
       → AreTablesOf rules header HasRows lists tables
@@ -156,11 +161,13 @@ data_lists-at bytes (part ∷ parts) (suc k) d p lt =
     get_or-map (part_rows bytes) parts k p d (omega arith)
     ∙ ap (λ t. drop (if t then 1 else 0) (part_rows bytes (get_or parts k p))) (sym later)
 
+-- there is a list of data rows for each part
 pub length-data_lists : (bytes : List ℕ) (parts : List RowPart)
     → length (data_lists bytes parts) ≡ length parts
 length-data_lists bytes [] = refl
 length-data_lists bytes (part ∷ parts) = ap suc (length-map parts (part_rows bytes))
 
+-- what follows from a fact holds of what may be there, where the fact does
 pub IfSome-weaker : {X : Type 0} (o : Option X) (P Q : X → Type 0) → ((x : X) → P x → Q x)
     → IfSome o P → IfSome o Q
 IfSome-weaker None P Q w h = tt

@@ -239,6 +239,7 @@ module _ {K : Type 0} (written : K → Option (List ℕ)) (faults : K → ℕ) (
     taken = answers.reading.taken (subst (λ v. IsDecided is_free_stop v) (sym is) tt);
   }
 
+  -- a run of `place` that is done has printed the worst stable placement
   pub worst-done : PrintsWorstStable told words status (written old) (written new) tally_before
       tally_now
   worst-done = λ workers accepted well.
@@ -250,6 +251,7 @@ module _ {K : Type 0} (written : K → Option (List ℕ)) (faults : K → ℕ) (
         end.wrote,
       )
 
+  -- a run of `base` or `reasons` that is done has printed that placement's report
   pub reports-done : PrintsReports told words status (written old) (written new) tally_before
       tally_now
   reports-done = record {
@@ -271,6 +273,7 @@ module _ {K : Type 0} (written : K → Option (List ℕ)) (faults : K → ℕ) (
         );
   }
 
+  -- a run of `audit` that ends with a verdict has printed that of the files that were read
   pub verdict-done : PrintsVerdict told words status (written old) (written new) tally_before
       tally_now
   verdict-done = λ workers accepted ending same.
@@ -283,6 +286,7 @@ module _ {K : Type 0} (written : K → Option (List ℕ)) (faults : K → ℕ) (
         end.wrote,
       )
 
+  -- a run of `make` that is done has printed the summary of the market of its numbers
   pub summary-done : PrintsSummary words status (written old) (written new)
   summary-done = λ seed candidates programmes types workers accepted well.
       let end = ended-finished written faults answer status old new ending.Done finished well in (
@@ -291,6 +295,7 @@ module _ {K : Type 0} (written : K → Option (List ℕ)) (faults : K → ℕ) (
         end.wrote,
       )
 
+  -- where the words ask for no file, a run leaves the shelf as it was and has no read fault
   pub unread-run : {H : Type 0} (shelf_old shelf_new : H)
       → ReadsNothing (command_of words) answer shelf_old shelf_new
       → RunsWithoutFile (command_of words) status shelf_old shelf_new
@@ -302,6 +307,7 @@ module _ {K : Type 0} (written : K → Option (List ℕ)) (faults : K → ℕ) (
             same).0,
       )
 
+  -- where no read and no write failed, all that is said over the bytes read was done
   pub complete-run : (Rose before now → ⊥) → (Rose (faults old) (faults new) → ⊥)
       → IsComplete told words status (written old) (written new) tally_before tally_now
   complete-run no_read no_write =
@@ -313,6 +319,7 @@ module _ {K : Type 0} (written : K → Option (List ℕ)) (faults : K → ℕ) (
             whole;
       }
 
+  -- each refusal has its cause, and only an audit says that a placement is not stable
   pub causes-run : ((refused : WordsFault) → command_of words ≡ Err refused
       → answer ≡ Err (Words refused))
       → HasStatusCause (command_of words) status before now tally_before tally_now (faults old)
@@ -328,6 +335,7 @@ module _ {K : Type 0} (written : K → Option (List ℕ)) (faults : K → ℕ) (
         answers.reading.meets) end.ends_so;
   }
 
+  -- what was written before stays in front, and after a refusal the sink is as it was
   pub leaves-sink : faults old ≤ faults new → LeavesSink written faults status old new
   leaves-sink later =
       frame.leaves-sink are-apart written faults answer status old new finished later

@@ -15,6 +15,7 @@ three-granted told grants words all = record {
   ranks = λ p c programmes candidates held said next says. all _;
 }
 
+-- where every name is granted, so are those that a command reaches
 pub all-granted : (told : Option Files) (grants : List ℕ → Bool)
     (command : Result Command WordsFault) (words : List (List ℕ))
     → ((name : List ℕ) → IsTrue (grants name)) → MayOpen told grants command words

@@ -145,17 +145,20 @@ made-of make print same reads tables text made files =
       printed = of_files.made ∙ same files.three;
     }
 
+-- where files say these tables, the text of the placement is that of the worst stable one
 pub worst-text : (reads : Reads) (tables : Tables) (text : List ℕ)
     → tables_said reads ≡ Some (Ok tables) → IsMade printed_placement tables text
     → IsWorstStableText reads text
 worst-text reads tables text said made =
     made-of printed_placement _ printed-in reads tables text made (are-read reads tables said)
 
+-- and the text of the base ranks is that of its base ranks
 pub bases-text : (reads : Reads) (tables : Tables) (text : List ℕ)
     → tables_said reads ≡ Some (Ok tables) → IsMade bases_of tables text → IsBaseText reads text
 bases-text reads tables text said made =
     made-of bases_of _ bases-in reads tables text made (are-read reads tables said)
 
+-- and so is that of the reasons, where the programme of each full entry is filled
 pub reasons-text : (reads : Reads) (tables : Tables) (text : List ℕ)
     → tables_said reads ≡ Some (Ok tables) → IsMade reasons_of tables text
     → FullMeansFilled (problem_of tables) (mechanism_placement (problem_of tables))

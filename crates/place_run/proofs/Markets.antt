@@ -211,6 +211,7 @@ placement-made tables placed text is printed =
     tables
     placed text is refl printed
 
+-- that of the base ranks
 pub bases-made : (tables : Tables) (placed : Placed) (text : List ℕ) → IsPlacedOf tables placed
     → text ≡ base_text (codes_of placed.problem.programmes.rows) placed.problem.market
     placed.placement
@@ -220,6 +221,7 @@ bases-made tables placed text is printed =
     made (λ programmes numbers m held. base_text programmes m held) bases_of tables placed text is
     refl printed
 
+-- and that of the reasons
 pub reasons-made : (tables : Tables) (placed : Placed) (text : List ℕ) → IsPlacedOf tables placed
     → text ≡ reasons_text (codes_of placed.problem.programmes.rows)
     (numbers_of placed.problem.numbers) placed.problem.market placed.placement

@@ -54,6 +54,7 @@ number-at numbers index number within given =
 
 -- ---- the row of a programme
 
+-- a row of its code, quota, number of holders and base rank is the programme's row
 pub base-row : (programmes : List ℕ) (m : Problem) (held : List (Option ℕ))
     (p code quota count : ℕ) (text : List ℕ) → p < length programmes
     → slice_get programmes p ≡ Some code → quota ≡ quota_of m p → count ≡ count_of p held
@@ -72,6 +73,7 @@ base-row programmes m held p code quota count text within given quotas counts te
 
 -- ---- the row of a list entry
 
+-- a row of the candidate's number, the code, the reason and its base rank is the entry's row
 pub reason-row : (programmes candidates : List ℕ) (m : Problem) (held : List (Option ℕ))
     (i place number code : ℕ) (reason : Reason) (word base : List ℕ)
     → i < length candidates → entry_at m i place < length programmes

@@ -105,6 +105,7 @@ keeps-summary : (seed candidates programmes types : ℕ) (answer : Result Answer
 keeps-summary seed candidates programmes types (Ok ready) (same, kept) = kept
 keeps-summary seed candidates programmes types (Err stop) same = tt
 
+-- so a summary answers `make`, and nothing is read for it
 pub summarised : (told : Option Files) (words : List (List ℕ)) (command : Result Command WordsFault)
     (seed candidates programmes types workers : ℕ) (answer : Result Answer (Stop WordsFault))
     (before tally_before : ℕ) → command ≡ Ok (Make seed candidates programmes types workers)

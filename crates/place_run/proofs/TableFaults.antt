@@ -21,6 +21,7 @@ other-type_name : (field : List ℕ) → IsOtherReading (type_name_of field)
 other-type_name field = cond_both (is_type_name field) (Ok field) (Err BadTypeName) IsOtherReading
     (λ _. tt) (λ _. λ e. cc e)
 
+-- no fault of the programmes is that their file is too long
 pub other-programmes : (bytes : List ℕ) → IsOther (programmes.programmes_fault bytes)
 other-programmes bytes = other-file programmes.programmes_rules bytes (record {
   reading = λ version row.
@@ -60,6 +61,7 @@ other-entry codes line list index =
     other-first (fault_if unknown no_programme) (fault_if repeated repeat)
     (other-if unknown no_programme (λ e. cc e)) (other-if repeated repeat (λ e. cc e))
 
+-- nor is one of the candidates
 pub other-candidates : (codes bytes : List ℕ) → IsOther (candidates.candidates_fault codes bytes)
 other-candidates codes bytes = other-file (candidates.candidates_rules codes) bytes (record {
   reading = λ version row.
@@ -71,6 +73,7 @@ other-candidates codes bytes = other-file (candidates.candidates_rules codes) by
       (other-entry codes row.0 (candidates.codes_in row)) (length (candidates.codes_in row)));
 })
 
+-- nor one of the ranks
 pub other-ranks : (bytes : List ℕ) → IsOther (ranks.ranks_fault bytes)
 other-ranks bytes = other-file ranks.ranks_rules bytes (record {
   reading = λ version row.
@@ -99,6 +102,7 @@ other-unknown programmes line (Some code) =
     other-if (is_none (position (nat_eq code) programmes))
     (fault_at file.Placement line 2 UnknownProgramme) (λ e. cc e)
 
+-- nor one of a placement
 pub other-placement : (programmes candidates bytes : List ℕ)
     → IsOther (placements.placement_fault programmes candidates bytes)
 other-placement programmes candidates bytes =

@@ -30,6 +30,7 @@ candidates-counted tables named is =
     ∙ ap length (lists-of_market tables.programmes tables.candidates.lists tables.ranks)
     ∙ is.paired
 
+-- and it has a programme for each code
 pub programmes-counted : (tables : Tables) (named : Named) → IsProblemOf tables named
     → length named.market.programmes ≡ length (codes_of tables.programmes.rows)
 programmes-counted tables named is =

@@ -127,6 +127,7 @@ module _ (names : List (List ℕ)) (numbers bytes : List ℕ) (few : length numb
       all-turns names numbers body few fields no-candidate no-rank orders ranks turns.orders_size
       turns.ranks_size (λ kind lt. (turns-at kind lt).turns)
 
+  -- so the file has no fault, and the turns are those of its table
   pub clean-file : IsCleanFile names numbers bytes orders ranks
   clean-file = record {
     fault = rw read.header

@@ -36,6 +36,7 @@ module _ {E : Type 0} (parts : List PartRanks) (all : List (Result (Option Turns
     pub behind : all ≡ done ++ left
     pub turns : AreAllCleanTurns (length done) parts orders ranks
 
+  -- before the first type there is no turn, and all are left
   pub CollectsTo-begin : CollectsTo [] [] all
   CollectsTo-begin = record {
     done = [];
@@ -95,6 +96,7 @@ module _ {E : Type 0} (parts : List PartRanks) (all : List (Result (Option Turns
         };
       }
 
+  -- where none is left these are the turns of all types
   pub CollectsTo-ends : (types : ℕ) (orders ranks : List (List ℕ)) → length all ≡ types
       → CollectsTo orders ranks [] → AreAllCleanTurns types parts orders ranks
   CollectsTo-ends types orders ranks size c =

@@ -17,6 +17,7 @@ is-not-below a b h = grind (arith, nat_tests)
 abbrev Finds : List ℕ → Option Repeat → Type 0
 Finds xs r = MatchOption r (HasNoRepeat xs (length xs)) (λ r. IsFirstRepeat xs r.earlier r.later)
 
+-- of what is found of candidates and of ranks, the earlier one is the first duplicate
 pub earlier-first : (candidates ranks : List ℕ) (c r : Option Repeat)
     → length candidates ≡ length ranks → Finds candidates c → Finds ranks r
     → IsFirstDuplicate candidates ranks (earlier_duplicate c r)

@@ -134,6 +134,7 @@ module _ (bytes : List ℕ) (n : ℕ) (within : n ≤ length (data_rows bytes))
       in
       (parts.0, (first_of-none (reading (at k)) None parts.1).0)
 
+  -- so its parts are within their limits
   pub read-fields : (k : ℕ) → k < n → HasFields (at k)
   read-fields k lt = HasFields-from (at k) (own k lt).1
 

@@ -20,6 +20,7 @@ use Rattle.rank_lists.specs.Turns.{known_key, known_keys}
 use Rattle.rank_lists.specs.declared.rows.RankRows.{RankRows}
 use Rattle.rank_lists.proofs.RowGroups.{HasFields}
 
+-- a list with nothing behind it is the same
 pub append-nothing : {X : Type 0} (xs : List X) → xs ++ [] ≡ xs
 append-nothing [] = refl
 append-nothing (x ∷ xs) = ap (λ ys. x ∷ ys) (append-nothing xs)
@@ -74,6 +75,7 @@ given_in-next names kind earlier row =
     ∙ ap (λ rows. given_in names kind earlier ++ map row_key rows)
     (filter-one (in_kind names kind) row)
 
+-- a rank more leaves as many types
 pub length-with_rank : (given : List (List ℕ)) (o : Option ℕ) (key : ℕ)
     → length (with_rank given o key) ≡ length given
 length-with_rank given None key = refl

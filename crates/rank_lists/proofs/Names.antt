@@ -56,6 +56,7 @@ pub record IsName (text : List ℕ) : Type 0 where
   pub short : length text ≤ 8
   pub bytes : AreBytes text
 
+-- what passes the test of a type's name is one
 pub IsName-from : (text : List ℕ) → is_type_name text ≡ true → IsName text
 IsName-from text h =
     let parts = and_parts _ (list_all is_type_byte text) h in

@@ -33,6 +33,7 @@ module _ (names : List (List ℕ)) (numbers : List ℕ) where
       let same : record { kind = kind; candidate = candidate; rank = rank } ≡ s = cc in
       (ap (λ t. Some t.kind) same, ap (λ t. Some t.candidate) same, sym (ap (λ t. t.rank) same))
 
+  -- the standing that a row gives comes from it
   pub Comes-from : (row : Row) (s : Standing) → standing_in names numbers row ≡ Some s → Comes row s
   Comes-from row s h =
       let parts = comes (position (bytes_eq (type_in row)) names)

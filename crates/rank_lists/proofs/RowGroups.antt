@@ -50,6 +50,7 @@ name-read file line field text =
     (λ yes none. IsName-from text yes)
     (λ no none. absurd (cc))
 
+-- the parts of a row are so where reading it found no fault
 pub HasFields-from : (row : Row) → reading row ≡ None → HasFields row
 HasFields-from row h =
     let parts = first_of-none _ _ h in
@@ -94,6 +95,7 @@ candidate_group-same row other h =
     let names = name-number row other parts.1 in
     omega arith
 
+-- and rows that give the same rank in the same type are in one group of ranks
 pub rank_group-same : (row other : Row) → same_rank row other ≡ true
     → rank_group other ≡ rank_group row
 rank_group-same row other h =
@@ -111,6 +113,7 @@ same_candidate-group row other g h e =
     both-and _ _ (eq-true (candidate_in row) (candidate_in other) (omega arith))
     (number-name row other g h (omega arith))
 
+-- and rows of one group of ranks give the same rank in the same type
 pub same_rank-group : (row other : Row) → HasFields row → HasFields other
     → rank_group other ≡ rank_group row → same_rank row other ≡ true
 same_rank-group row other g h e =

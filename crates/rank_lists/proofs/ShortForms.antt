@@ -7,6 +7,7 @@ use Rattle.rank_lists.specs.Repeats.{HasNoRepeat, HasUnequalNeighbours}
 use Rattle.market.proofs.Copies.{copies, copies-permutation, copies-twice, Rises}
 use Rattle.rank_lists.proofs.NoCopies.{copies-differ}
 
+-- where no two neighbours of the sorted short forms are equal no number stands twice
 pub short-distinct : (form : ℕ → ℕ) (placed sorted : List ℕ)
     → IsPermutation (map (λ p. form (p / PLACES)) placed) sorted → Rises sorted
     → HasUnequalNeighbours sorted (length sorted)

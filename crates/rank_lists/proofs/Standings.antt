@@ -28,12 +28,14 @@ abbrev pub Each : (Standing → Type 0) → List Standing → Type 0
 Each P [] = Unit {0}
 Each P (s ∷ ss) = P s × Each P ss
 
+-- what holds of each holds of the one at a place
 pub Each-at : (P : Standing → Type 0) (ss : List Standing) → Each P ss → (k : ℕ) (d : Standing)
     → k < length ss → P (slice_index_or ss k d)
 Each-at P [] h k d lt = absurd (omega arith)
 Each-at P (s ∷ ss) h zero d lt = h.0
 Each-at P (s ∷ ss) h (suc k) d lt = Each-at P ss h.1 k d (omega arith)
 
+-- and what follows from it holds of each
 pub Each-weaker : (P Q : Standing → Type 0) → ((s : Standing) → P s → Q s) → (ss : List Standing)
     → Each P ss → Each Q ss
 Each-weaker P Q w [] h = tt
@@ -116,7 +118,7 @@ module _ (P : Standing → Type 0) where
       (λ yes all. all)
       (λ no all. let later = put_in-back s ts all.1 in (later.0, (all.0, later.1))) h
 
-  -- and takes none in
+  -- and what holds of each sorted one holds of each
   pub sorted-Each-back : (ss : List Standing) → Each P (sorted ss) → Each P ss
   sorted-Each-back [] h = tt
   sorted-Each-back (s ∷ ss) h = let both = put_in-back s (sorted ss) h in
@@ -128,11 +130,12 @@ length-put_in s (t ∷ ts) = cond_both (is_before s t) (s ∷ t ∷ ts) (t ∷ p
     (λ all. length all ≡ suc (suc (length ts))) (λ yes. refl)
     (λ no. ap (λ n. suc n) (length-put_in s ts))
 
--- nor lets any go
+-- and it keeps how many they are
 pub length-sorted : (ss : List Standing) → length (sorted ss) ≡ length ss
 length-sorted [] = refl
 length-sorted (s ∷ ss) = length-put_in s (sorted ss) ∙ ap (λ n. suc n) (length-sorted ss)
 
+-- sorting keeps small candidates small
 pub sorted-AreSmall : (ss : List Standing) → AreSmall ss → AreSmall (sorted ss)
 sorted-AreSmall = sorted-Each (λ s. s.candidate < INDEXES)
 

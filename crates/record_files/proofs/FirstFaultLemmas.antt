@@ -106,6 +106,7 @@ module _ {T : Type 0} (rules : FileRules) (header : Header) (HasRows : List Row 
     pub none : least_fault (fault_in rules header all) count ≡ None
     pub has : HasRows (take count all) table
 
+  -- before the first row none was taken, and all are left
   pub TakesTo-begin : (table : T) → HasRows [] table → TakesTo 0 table all
   TakesTo-begin table empty = record {
     within = omega arith;

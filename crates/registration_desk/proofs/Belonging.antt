@@ -14,9 +14,11 @@ there [] i x e = absurd (some-ne-none x (sym e))
 there (y ∷ ys) zero x e = ap Some (some-injective y x e)
 there (y ∷ ys) (suc i) x e = there ys i x e
 
+-- where the bit of a holder is 0 no number is held
 pub not_holding : (x : ClerkKnows) → hold_bit x ≡ 0 → (n : ℕ) → x.holds ≡ Some n → ⊥
 not_holding x zero_bit n is = let e = ap some_bit is in absurd (omega arith)
 
+-- and where none is held the bit is 0
 pub is_none : (x : ClerkKnows) → x.holds ≡ None → hold_bit x ≡ 0
 is_none x free = ap some_bit free
 
@@ -25,6 +27,7 @@ pub is_one : (x : ClerkKnows) (n : ℕ) → x.holds ≡ Some n → hold_bit x �
 is_one x n holds = ap some_bit holds
 
 module _ (key : DeskKey) where
+  -- a view is spent, or that of a clerk of this desk, where the word has this number
   abbrev pub Belongs : ℕ → ClerkKnows → Type 0
   Belongs number x = (x ≡ spent_clerk) ⊎ IsClerk key number x
 

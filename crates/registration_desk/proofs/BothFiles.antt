@@ -109,6 +109,7 @@ pub record AreServed (reads : Reads) (files : DeskFiles) : Type 0 where
   pub seats : files.seats ≡ seats_in two.placement
   pub requests : files.requests ≡ requests_in two.requests
 
+-- it is so where both files say what they hold
 pub are-served : (reads : Reads) (files : DeskFiles) → both_said reads ≡ Some (Ok files)
     → AreServed reads files
 are-served reads files e =

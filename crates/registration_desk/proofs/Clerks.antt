@@ -34,6 +34,7 @@ pub new_snoc : (desk : Desk) (l xs : List Clerk) (m : Clerk) → l ≡ xs ++ m �
     → AllNew desk xs → IsNew desk (length xs) m → AllNew desk l
 new_snoc desk = each_snoc (IsNew desk)
 
+-- and they are one more
 pub count_snoc : (l xs : List Clerk) (m : Clerk) → l ≡ xs ++ m ∷ [] → length l ≡ length xs + 1
 count_snoc l xs m is = let e = ap (λ z. length z) is in let n = length-append xs (m ∷ []) in
     omega arith

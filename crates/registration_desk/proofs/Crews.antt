@@ -39,6 +39,7 @@ module _ (desk : Desk) (xs ys : List Clerk) (new : AllNew desk xs) (same : lengt
             (worked k clerk before),
       )
 
+  -- where they are as many as the desk has, they are still all of its clerks
   pub still_all : length ys ≡ (key_of desk).clerks → AreAllClerksOf desk ys
   still_all count =
       record {
@@ -49,5 +50,6 @@ module _ (desk : Desk) (xs ys : List Clerk) (new : AllNew desk xs) (same : lengt
             (λ k clerk is. let o = one k clerk is in o.1.stays.share ∙ o.0.share) ∙ count;
       }
 
+  -- and none has a request left
   pub none_left : left_by ys ≡ 0
   none_left = sum_zero (λ clerk. (knows clerk).left) ys (λ k clerk is. (one k clerk is).1.none_left)

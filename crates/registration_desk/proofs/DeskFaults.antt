@@ -32,12 +32,14 @@ other-alone zero row = other-row row
 other-alone (suc version) row =
     other-first (reading row) (seat_fault row) (other-row row) (other-if _ _ (λ e. cc e))
 
+-- no fault of a placement is that its file is too long
 pub other-seats : (bytes : List ℕ) → IsOther (seats_fault bytes)
 other-seats bytes = other-file seats_rules bytes (record {
   reading = other-alone;
   meaning = λ earlier row. other-found _ _ 1 (find _ earlier);
 })
 
+-- nor is one of the requests
 pub other-requests : (bytes : List ℕ) → IsOther (requests_fault bytes)
 other-requests bytes = other-file requests_rules bytes (record {
   reading = λ version row.

@@ -131,6 +131,7 @@ pub record IsClosed (key : DeskKey) (x : ClerkKnows) (taken : Option DeskValue) 
   pub fits : HasReplies key.desk.value.seats key.desk.value.requests x.served state
   pub all : x.served + x.left ≡ length key.desk.value.requests
 
+-- it is so for a seat that has every share and does not hold the slot
 pub desk_closed : (key : DeskKey) (id : ℕ) (x : ClerkKnows) (words : List ℕ)
     (slots : List (Option DeskValue))
     (taken : Option DeskValue) → Final (Seen (IsOrderly key) id x) words slots → 0 < x.share

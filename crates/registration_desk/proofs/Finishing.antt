@@ -104,6 +104,7 @@ module _ {K : Type 0} (written : K → Option (List ℕ)) (faults : K → ℕ) (
     (old new : K) (before now tally_before tally_now : ℕ)
     (answers : IsAnswering told words (clerks_of words) answer before now tally_before tally_now)
     (finished : IsFinished endings written faults answer status old new) where
+  -- a run that is done has read two faultless files, printed their text and noted their line
   pub registered-run : (notes_old notes_new : Option (List ℕ)) (notes_before notes_now : ℕ)
       → IsNoted
       (status_line (numbers_said answer) status) notes_old notes_new notes_before notes_now
@@ -136,6 +137,7 @@ module _ {K : Type 0} (written : K → Option (List ℕ)) (faults : K → ℕ) (
         noted = subst (λ v. IsNoted v notes_old notes_new notes_before notes_now) line noted;
       }
 
+  -- where no read and no write failed, all that is said over the bytes read was done
   pub complete-run : (Rose before now → ⊥) → (Rose (faults old) (faults new) → ⊥)
       → IsComplete told words status (written old) (written new) tally_before tally_now
   complete-run no_read no_write =
@@ -147,6 +149,7 @@ module _ {K : Type 0} (written : K → Option (List ℕ)) (faults : K → ℕ) (
             whole;
       }
 
+  -- each refusal has its cause, where words that give no number of clerks are refused
   pub causes-run : ((refused : DeskWords) → clerks_of words ≡ Err refused
       → answer ≡ Err (Words refused))
       → HasStatusCause (clerks_of words) status before now tally_before tally_now (faults old)
@@ -155,6 +158,7 @@ module _ {K : Type 0} (written : K → Option (List ℕ)) (faults : K → ℕ) (
       frame.causes-run are-apart written faults (clerks_of words) status old new answers finished
       (says-refused (clerks_of words) answers.reads) exact
 
+  -- what was written before stays in front, and after a refusal the sink is as it was
   pub leaves-sink : faults old ≤ faults new → LeavesSink written faults status old new
   leaves-sink later =
       frame.leaves-sink are-apart written faults answer status old new finished later

@@ -13,6 +13,7 @@ abbrev value_in : Option DeskValue → Slots → Option DeskValue
 value_in d [] = d
 value_in d (x ∷ xs) = x.1
 
+-- the state that is there, or else this one
 abbrev pub state_or : DeskValue → Option DeskValue → DeskValue
 state_or d None = d
 state_or d (Some s) = s

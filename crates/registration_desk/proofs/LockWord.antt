@@ -17,9 +17,11 @@ or_one n = (or_shr n 1 1 ∙ or_zero_r (n / 2), or_mod n 1 1 ∙ low (n % 2) (om
 pub or_odd : (n : ℕ) → n % 2 ≡ 1 → bit_or n 1 ≡ n
 or_odd n odd = let a = (or_one n).0 in let b = (or_one n).1 in omega arith
 
+-- where the test finds a word odd its remainder by 2 is 1
 pub odd_word : (n : ℕ) → is_odd n ≡ true → n % 2 ≡ 1
 odd_word n e = eqb-true (n % 2) 1 e
 
+-- and where it does not it is 0
 pub even_word : (n : ℕ) → is_odd n ≡ false → n % 2 ≡ 0
 even_word n e = low (n % 2) (omega arith) e
   where

@@ -34,6 +34,7 @@ module _ (requests clerks n : ℕ) (x : ClerkKnows) (r : IsRest requests clerks 
       let last = div_grows ((n + 1) * requests) (clerks * requests) clerks (omega arith) top in
       (div_grows (n * requests) ((n + 1) * requests) clerks (omega arith) up, omega arith)
 
+  -- so the next part is at most what is left
   pub part_fits : n < clerks → next_part x ≤ x.left
   part_fits inside =
       let w = within inside in

@@ -187,6 +187,7 @@ module _ (seats : SeatRows) (requests : List ℕ) (n : ℕ) (inside : n < length
       by true e = absurd (cc (e))
       by false e = refl
 
+  -- so the text stays where the index has no number
   pub text_skipped : (old : List ℕ) → named_at seats requests n ≡ None → old
       ≡ text_to seats requests n
       → old ≡ text_to seats requests (n + 1)
@@ -214,6 +215,7 @@ named_some seats requests i (suc n) number some_number is same =
     ∙ ap (λ (b : Bool). cond b (Some (seat_row_at seats i).0) None)
     (sym (lt-ltb 0 (suc n) (omega arith)) ∙ is)
 
+-- and none where 0 is kept for it
 pub named_none : (seats : SeatRows) (requests : List ℕ) (i n : ℕ) → n ≡ 0
     → nat_lt 0 n ≡ is_named requests (seat_row_at seats i) → None ≡ named_at seats requests i
 named_none seats requests i n none is =

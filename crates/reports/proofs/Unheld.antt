@@ -51,6 +51,7 @@ admitted-rank : (m : Problem) (p j : ℕ) → IsTrue (admits m p j)
 unfolding admits
 admitted-rank m p j h = ranked (rank_of m (kind_of m p) j) h
 
+-- a programme has no base rank exactly where nobody holds it, if all hold what is acceptable
 pub none_where_unheld : (m : Problem) (held : List (Option ℕ)) (table : BaseTable)
     → IsBaseTable m held table → HoldsAcceptable m held → IsNoneWhereUnheld m table
 none_where_unheld m held table t acceptable p lt = (

@@ -88,6 +88,7 @@ module _ {A W E K : Type 0} {ends : Endings A W E} (apart : AreApart ends)
   answered-finished (Err stop) status old new (is, same) none unfailed =
       absurd (unstopped status stop none is)
 
+  -- what was written before stays in front, and after a stop the sink is as it was
   pub leaves-sink : (answer : Result A (Stop W)) (status : E) (old new : K)
       → IsFinished ends written faults answer status old new → faults old ≤ faults new
       → LeavesSink ends.stopped written faults status old new

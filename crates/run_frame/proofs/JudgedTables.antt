@@ -17,11 +17,13 @@ use Rattle.run_frame.proofs.Judging.{judged-bytes}
 use Rattle.run_frame.specs.Says.{judged, fault_or}
 use Rattle.run_frame.proofs.TableFaults.{IsOther}
 
+-- a file within the limit says its fault, or else its table
 pub judged-short : {T : Type 0} (kind : FileKind) (fault : Option FileFault) (table : T)
     (bytes : List ℕ)
     → length bytes ≤ file_limit → judged kind fault table bytes ≡ fault_or fault table
 judged-short kind fault table bytes few = cond-false _ _ _ (le-ltb file_limit (length bytes) few)
 
+-- and a longer one says that it is too long
 pub judged-long : {T : Type 0} (kind : FileKind) (fault : Option FileFault) (table : T)
     (bytes : List ℕ)
     → file_limit < length bytes → judged kind fault table bytes ≡ Err (Fault (too_long kind))
@@ -126,6 +128,7 @@ no-fault : {T : Type 0} (fault : Option FileFault) (table said : T) → fault_or
 no-fault None table said e = (refl, sym (cc e))
 no-fault (Some f) table said e = cc e
 
+-- it is so of a file that says this table
 pub says-table : {T : Type 0} (kind : FileKind) (fault : Option FileFault) (table said : T)
     (bytes : List ℕ)
     → judged kind fault table bytes ≡ Ok said → SaysTable fault table said bytes

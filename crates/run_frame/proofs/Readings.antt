@@ -79,6 +79,7 @@ more-later : (first before now : ℕ) → first ≤ before → GaveMore before n
 more-later first before now later more =
     ⊎_elim (λ many. inl (omega (arith, later, many))) (λ last. inr last) more
 
+-- what has begun by a count has begun by a later one
 pub begun-later : (bytes : Option (List ℕ)) (before between now : ℕ) → between ≤ now
     → HasBegun bytes before between → HasBegun bytes before now
 begun-later bytes before between now later begun =
@@ -178,6 +179,7 @@ pub at-read : (told : Option Files) (names : FileKind → List ℕ) (kind : File
 at-read None names kind bytes reads held one = with-itself kind bytes reads
 at-read (Some files) names kind bytes reads held one = sym (held kind) ∙ one
 
+-- and with it these are still the files that are held, where that is told
 pub held-with : (told : Option Files) (names : FileKind → List ℕ) (kind : FileKind)
     (bytes : Option (List ℕ)) (reads : Reads) → AreHeld told names reads
     → AreHeld told names (with_read told kind bytes reads)

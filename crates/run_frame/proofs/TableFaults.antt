@@ -25,26 +25,31 @@ abbrev pub IsOtherReading : {A : Type 0} → Result A FaultKind → Type 0
 IsOtherReading (Ok read) = Unit {0}
 IsOtherReading (Err kind) = kind ≡ FileTooLong → ⊥
 
+-- the first of two that are of another kind is
 pub other-first : (a b : Option FileFault) → IsOther a → IsOther b → IsOther (first_of a b)
 other-first None b p q = q
 other-first (Some fault) b p q = p
 
+-- so is the fault of a test
 pub other-if : (test : Bool) (fault : FileFault) → (fault.kind ≡ FileTooLong → ⊥)
     → IsOther (fault_if test fault)
 other-if true fault p = p
 other-if false fault p = tt
 
+-- so is that of a field, where what was not read is of another kind
 pub other-reading : {A : Type 0} (kind : FileKind) (line field : ℕ) (read : Result A FaultKind)
     → IsOtherReading read
     → IsOther (reading_fault kind line field read)
 other-reading kind line field (Ok read) p = tt
 other-reading kind line field (Err unread) p = p
 
+-- so is that of a row that repeats one, if one is found
 pub other-found : (kind : FileKind) (line field : ℕ) (found : Option Row)
     → IsOther (option_map (λ row. duplicate_at kind line field row.0) found)
 other-found kind line field None = tt
 other-found kind line field (Some row) = λ e. cc e
 
+-- and so is what was not read as a number
 pub other-number : (field : List ℕ) (low high : ℕ) → IsOtherReading (number_of field low high)
 other-number field low high =
     cond_both (is_number field) _ _ IsOtherReading
@@ -99,6 +104,7 @@ other-row rules bytes others index =
     other-behind rules (header_in rules.form (rows bytes)) (take index (data_rows bytes)) others
     (slice_get (data_rows bytes) index)
 
+-- so no fault of a file by such rules is that it is too long
 pub other-file : (rules : FileRules) (bytes : List ℕ) → AreOther rules
     → IsOther (first_fault rules bytes)
 other-file rules bytes others =

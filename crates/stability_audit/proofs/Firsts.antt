@@ -40,6 +40,7 @@ next-some P x xs (Some j) k not_x small f e =
     let same : suc j ≡ k = omega arith in
     subst (λ (n : ℕ). IsFirstAt P (x ∷ xs) n) same (later P x xs j not_x first)
 
+-- the first answer that is true is where P holds first
 pub first_true-some : (P : ℕ → Type 0) (xs : List ℕ) (bs : List Bool)
     → AllZip (λ x b. IsTrue b ↔ P x) xs bs → length xs < 2 ^ 64 → (k : ℕ)
     → first_true bs ≡ Some k → IsFirstAt P xs k
@@ -58,6 +59,7 @@ next-none : (o : Option ℕ) → option_map (λ j. min (j + 1) (2 ^ 64 - 1)) o �
 next-none None e = refl
 next-none (Some j) e = absurd (none-some (min (j + 1) (2 ^ 64 - 1)) (sym e))
 
+-- and where none is true P holds nowhere
 pub first_true-none : (P : ℕ → Type 0) (xs : List ℕ) (bs : List Bool)
     → AllZip (λ x b. IsTrue b ↔ P x) xs bs → first_true bs ≡ None → (j : ℕ) → j < length xs
     → P (get_or xs j 0) → ⊥
@@ -113,6 +115,7 @@ search-some P start end n xs bs r h k e =
           (subst P (sym (range-at start end n xs r j (omega arith))) p);
     }
 
+-- where it found none P holds of no number below n
 pub search-none : (P : ℕ → Type 0) (start end n : ℕ) (xs : List ℕ) (bs : List Bool)
     → IsRange start end n xs → AllZip (λ x b. IsTrue b ↔ P x) xs bs → first_true bs ≡ None
     → (j : ℕ) → j < n → P j → ⊥

@@ -10,6 +10,7 @@ use Rattle.market.proofs.Valid.{candidate_lt}
 use Rattle.stability_audit.specs.Entries.{BlocksWithSome}
 use Rattle.stability_audit.specs.Verdicts.{HeldIsAcceptable}
 
+-- what a search finds is listed
 pub found-listed : (p : ℕ) (list : List ℕ) → list_any (λ q. q == p) list ≡ true
     → place_of p list < length list
 found-listed p [] e = absurd (false≢true e)
@@ -24,6 +25,7 @@ found-listed p (q ∷ list) e =
     omega arith)
     (cases_eq q p)
 
+-- and what is listed a search finds
 pub listed-found : (p : ℕ) (list : List ℕ) → place_of p list < length list
     → list_any (λ q. q == p) list ≡ true
 listed-found p list l =

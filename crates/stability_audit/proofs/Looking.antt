@@ -24,6 +24,7 @@ nothing-before : (list : List ℕ) (holds : Option ℕ) → stands_before list h
 nothing-before list None = refl
 nothing-before list (Some q) = refl
 
+-- before the first entry it is so
 pub HasPassed-none : (m : Problem) (held : List (Option ℕ)) (i : ℕ) → HasPassed m held i 0
 HasPassed-none m held i =
     record {

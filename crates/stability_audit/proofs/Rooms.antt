@@ -45,6 +45,7 @@ worst-is m held i p rank r w =
     let less = most.most in
     record { worse = most.worst; is = most.is; more = omega arith }
 
+-- so a base rank is worse than the candidate's rank where a holder's is
 pub worse-base : (m : Problem) (held : List (Option ℕ)) (i p rank base : ℕ)
     → rank_of m (kind_of m p) i ≡ Some rank → base_rank m held p ≡ Some base
     → HasWorseHolder m held i p → rank < base
@@ -54,6 +55,7 @@ worse-base m held i p rank base r b w =
     let more = worst.more in
     omega arith
 
+-- and where there is none no holder has a worse rank
 pub no-base : (m : Problem) (held : List (Option ℕ)) (i p rank : ℕ)
     → rank_of m (kind_of m p) i ≡ Some rank → base_rank m held p ≡ None
     → HasWorseHolder m held i p → ⊥
@@ -66,6 +68,7 @@ pub admitted-some : (m : Problem) (i p : ℕ) → rank_of m (kind_of m p) i ≡ 
 unfolding admits
 admitted-some m i p e a = false≢true (sym (ap (λ (o : Option ℕ). is_some o) e) ∙ a)
 
+-- and who has a rank is admitted
 pub some-admitted : (m : Problem) (i p rank : ℕ) → rank_of m (kind_of m p) i ≡ Some rank
     → admits m p i ≡ true
 unfolding admits

@@ -7,6 +7,7 @@ use Rattle.stability_audit.specs.Verdicts.{IsVerdict}
 use Rattle.stability_audit.specs.declared.verdict.Verdict.{Verdict}
 use Rattle.stability_audit.specs.declared.verdict.Verdict.TheVariants.{Stable, OverQuota, NotAcceptable, Blocking}
 
+-- a verdict on this placement is `Stable` exactly where the placement is stable
 pub verdict-stable : (m : Problem) (held : List (Option ℕ)) (v : Verdict) → IsVerdict m held v
     → (v ≡ Stable) ↔ IsStable m held
 verdict-stable m held Stable h = (λ _. h, λ _. refl)

@@ -106,6 +106,7 @@ module _ (m : Problem) (v : IsValid m) (cuts : List ℕ) (cut : CutTakes m cuts)
       omega (arith, x.room))
       blocking.room
 
+  -- where nobody has several, the best programmes taken are a stable placement
   pub settled-stable : is_settled m cuts ≡ true → IsStable m (best_programmes m cuts)
   settled-stable settled =
       record { placement = is_placement m v cuts; unblocked = unblocked settled }

@@ -21,6 +21,7 @@ module _ (m w : Problem) (wide : Widens m w) where
   unfolding turn_of
   turn-same t i = ap (place_of i) (order-same t)
 
+  -- what is listed in the other is listed in the one
   pub listed-same : (i p : ℕ) → place_of p (list_of w i) < length (list_of w i)
       → place_of p (list_of m i) < length (list_of m i)
   listed-same i p l = subst (λ (xs : List ℕ). place_of p xs < length xs) (list-same i) l

@@ -269,6 +269,7 @@ module _ (m w : Problem) (v : IsValid m) (vw : IsValid w) (wide : Widens m w)
       omega arith)
       (cases_Bool (has_several m cuts i))
 
+  -- so the mechanism's placement gives nobody more than the other placement does
   pub worst : GivesAtLeast m (mechanism_placement m) other
   unfolding mechanism_placement TakesLeast
   worst i = by_given (held_by (best_programmes m (cuts_after m (cutting_rounds m))) i) refl

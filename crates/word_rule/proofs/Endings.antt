@@ -51,6 +51,7 @@ module _ (key : RoundKey) where
             ∙ h.sound.cells.below k (omega arith);
       }
 
+  -- it is so at a round's end for a seat with every share that does not hold the mark
   pub round_ends : (id : ℕ) (x : SeatKnows) (words slots : List ℕ)
       → Final (Seen (IsSoundTable key) id x) words slots → 0 < x.share → x.share ≡ key.workers
       → x.core.hold ≡ None → Ends words key.dict.value x.released

@@ -17,10 +17,12 @@ abbrev pub phase_in : Option Holding → Phase
 phase_in None = Idle
 phase_in (Some h) = h.phase
 
+-- and its count
 abbrev pub count_in : Option Holding → ℕ
 count_in None = 0
 count_in (Some h) = h.committed
 
+-- the phase that is there, or else idle
 abbrev pub phase_or : Option Phase → Phase
 phase_or None = Idle
 phase_or (Some x) = x
@@ -42,6 +44,7 @@ pub record NextRaise (round : SharedRound) (me : WorkSeat) (place : ℕ) : Type 
   pub in_list : place < length (list_at (dict_of round) me.committed)
   pub programme : entry (dict_of round) me.committed place < length (dict_of round).quota
 
+-- it is so where a seat of the round shows this phase and may raise
 pub next_raise : (round : SharedRound) (me : WorkSeat) (x : Phase) → IsSeatOf round me
     → me.phase ≡ Some x → MayRaise me → NextRaise round me (phase_place x)
 next_raise round me x of_round is m =

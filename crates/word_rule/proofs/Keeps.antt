@@ -131,9 +131,11 @@ was l id x y at same i a is =
     (at_set l id i y a is.there)
 
 module _ (key : RoundKey) where
+  -- the round's dictatorship
   abbrev pub d : Dictatorship
   d = key.dict.value
 
+  -- the state of its table
   abbrev pub Table : Type 0
   Table = State ℕ SeatKnows
 
@@ -154,6 +156,7 @@ module _ (key : RoundKey) where
       (fits_in_range d (table_core key s) h.sound.count x.core h.sound.mark.within
       (seat_fits s h i x at))
 
+  -- the table with these words, and another view of one seat
   abbrev pub table_after : Table → ℕ → SeatKnows → List ℕ → Table
   table_after s id y words = record { words = words; homes = s.homes; views = set s.views id y }
 

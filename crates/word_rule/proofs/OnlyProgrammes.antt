@@ -9,6 +9,7 @@ replicate_most zero x p = omega arith
 replicate_most (suc n) x zero = omega arith
 replicate_most (suc n) x (suc p) = replicate_most n x p
 
+-- up to 200 programmes of one seat, of which none is taken, are a valid one
 pub only_valid : (n : ℕ) (quota fill : List ℕ) (lists : List (List ℕ)) → n ≤ 200
     → quota ≡ replicate n 1 → fill ≡ replicate n 0 → lists ≡ []
     → IsValidDictatorship (dictatorship quota fill lists)

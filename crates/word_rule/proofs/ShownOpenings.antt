@@ -84,6 +84,7 @@ same_bit flags others group b l same =
     ∙ (λ k. bit_at (get_or fs (its_group k) 0) (its_bit k)) in
     sym (read flags) ∙ (same ∙ read others)
 
+-- while all views are fresh the table of a round shows the core's opening state
 pub shows_opening : (key : RoundKey) → ShowsOpening key
 shows_opening key s h fresh =
     let d : Dictatorship = key.dict.value in

@@ -51,12 +51,14 @@ undrawn_before d c i v (Raises h j) u = (u, refl)
 undrawn_before d c i v (Seals h j phase) u = (u, refl)
 undrawn_before d c i v (Releases h phase) u = (u, refl)
 
+-- what was written at a place stands there
 pub here_set : {A : Type 0} (l : List A) (i : ℕ) (x y : A) → slice_get l i ≡ Some x
     → slice_get (set l i y) i ≡ Some y
 here_set [] i x y e = absurd (cc (e))
 here_set (z ∷ zs) zero x y e = refl
 here_set (z ∷ zs) (suc i) x y e = here_set zs i x y e
 
+-- and what stands at another stays
 pub still_there : {A : Type 0} (l : List A) (i j : ℕ) (x y : A) → j ≢ i → slice_get l j ≡ Some x
     → slice_get (set l i y) j ≡ Some x
 still_there [] i j x y other e = e
