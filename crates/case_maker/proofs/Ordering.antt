@@ -53,7 +53,8 @@ length-put_in a (b ∷ rest) = cond_both (is_before a b) (a ∷ b ∷ rest) (b �
 
 length-in_order : (keys : List Key) → length (in_order keys) ≡ length keys
 length-in_order [] = refl
-length-in_order (a ∷ keys) = length-put_in a (in_order keys) ∙ ap (λ n. suc n) (length-in_order keys)
+length-in_order (a ∷ keys) = length-put_in a (in_order keys)
+    ∙ ap (λ n. suc n) (length-in_order keys)
 
 -- each key has a turn
 pub length-turn_order : (keys : List Key) → length (turn_order keys) ≡ length keys

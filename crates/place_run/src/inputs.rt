@@ -74,7 +74,8 @@ impl Inputs {
         pieces: u32,
     ) -> Result<Inputs, Stop>
         requires words { 4 ≤ length words.now }
-        requires granted { MayOpenTables (H.files shelf.old) (H.grants shelf.old) (texts words.now) }
+        requires granted { MayOpenTables (H.files shelf.old) (H.grants shelf.old)
+            (texts words.now) }
         requires pieces { (1 ≤ pieces) × (pieces ≤ 64) }
         ensures reading { AreRead (H.files shelf.old) (named (texts words.now))
             (Some file.Programmes) tables_said tables_read result

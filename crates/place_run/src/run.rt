@@ -67,9 +67,9 @@ pub fn run_words<R: Threads + Sync, H: Shelf, K: Sink, N: Sink, G: Gate>(
     ensures verdict { PrintsVerdict (H.files shelf.old) (texts words.now) result
         (K.written out.old) (K.written out.new) (H.tally shelf.old) (H.tally shelf.new) }
 
-    // Where the words are `make` and the run is done, the text is the summary of the market of these
-    // numbers and of the mechanism's placement in it. That is stable there, and in every stable
-    // placement there each candidate holds the same programme or one listed higher.
+    // Where the words are `make` and the run is done, the text is the summary of the market of
+    // these numbers and of the mechanism's placement in it. That is stable there, and in every
+    // stable placement there each candidate holds the same programme or one listed higher.
     ensures summary { PrintsSummary (texts words.now) result
         (K.written out.old) (K.written out.new) }
 
@@ -95,8 +95,9 @@ pub fn run_words<R: Threads + Sync, H: Shelf, K: Sink, N: Sink, G: Gate>(
         (texts words.now) result (K.written out.old) (K.written out.new)
         (H.tally shelf.old) (H.tally shelf.new) }
 
-    // What is held and granted stays. Where the words are refused, or ask for a made market, no file
-    // is opened and no read fails: only memory and a failed write can keep a summary from being done.
+    // What is held and granted stays. Where the words are refused, or ask for a made market, no
+    // file is opened and no read fails: only memory and a failed write can keep a summary from
+    // being done.
     ensures files { H.files shelf.new ≡ H.files shelf.old }
     ensures grants { H.grants shelf.new ≡ H.grants shelf.old }
     ensures unopened { IsWordsRefusal result → shelf.new ≡ shelf.old }

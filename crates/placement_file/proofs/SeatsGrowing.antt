@@ -53,7 +53,8 @@ lines-count rows seats lines has =
 
 -- all rows that these seats are of are as many
 pub as-few : (rows others : List Row) (seats : SeatRows) (lines : List ℕ)
-    → HasSeats rows seats lines → HasSeats others seats lines → length others < MOST_CANDIDATES → length rows < MOST_CANDIDATES
+    → HasSeats rows seats lines → HasSeats others seats lines → length others < MOST_CANDIDATES
+    → length rows < MOST_CANDIDATES
 as-few rows others seats lines has also few =
     omega (arith, few, lines-count rows seats lines has, lines-count others seats lines also)
 

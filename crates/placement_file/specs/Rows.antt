@@ -42,7 +42,8 @@ reading row =
 abbrev pub unknown_fault : List ℕ → ℕ → Option ℕ → Option FileFault
 unknown_fault programmes line None = None
 unknown_fault programmes line (Some code) =
-    fault_if (is_none (position (nat_eq code) programmes)) (fault_at Placement line 2 UnknownProgramme)
+    fault_if (is_none (position (nat_eq code) programmes))
+    (fault_at Placement line 2 UnknownProgramme)
 
 -- what is wrong with a row beside the programmes' codes, the candidates' numbers and the earlier
 -- rows
@@ -64,4 +65,5 @@ placement_rules programmes candidates = record {
 
 -- the first fault of a placement file
 abbrev pub placement_fault : List ℕ → List ℕ → List ℕ → Option FileFault
-placement_fault programmes candidates bytes = first_fault (placement_rules programmes candidates) bytes
+placement_fault programmes candidates bytes =
+    first_fault (placement_rules programmes candidates) bytes

@@ -41,7 +41,8 @@ pub reason-above : (m : Problem) (held : List (Option ℕ)) (i place : ℕ)
     → is_programme (entry_at m i place) (held_by held i) ≡ false
     → stands_before (list_of m i) (held_by held i) place ≡ false
     → reason_of m held i place
-    ≡ (if admits m (entry_at m i place) i then Full (base_rank m held (entry_at m i place)) else NoRank)
+    ≡ (if admits m (entry_at m i place) i then Full (base_rank m held (entry_at m i place)) else
+    NoRank)
 unfolding reason_of
 reason-above m held i place h b =
     ap (λ (x : Bool). by_tests x (stands_before (list_of m i) (held_by held i) place)

@@ -57,7 +57,8 @@ full-entry m held i place base full =
     (cases_Bool (is_programme p (held_by held i)))
 
 -- a listed programme that is not held, below no held one, is preferred to what is held
-pub prefers : (list : List ℕ) (holds : Option ℕ) (place : ℕ) → HasNoRepeats list → place < length list
+pub prefers : (list : List ℕ) (holds : Option ℕ) (place : ℕ) → HasNoRepeats list
+    → place < length list
     → ((q : ℕ) → holds ≡ Some q → place_of q list < length list)
     → is_programme (slice_index list place) holds ≡ false
     → stands_before list holds place ≡ false → Prefers list (slice_index list place) holds
@@ -67,10 +68,13 @@ prefers list (Some q) place distinct l listed other none =
     let at = place-at list distinct place l in
     let there = listed q refl in (
       ⊎_elim
-          (λ same. absurd (false≢true (sym other ∙ is_programme-from (slice_index list place) (Some q)
-          (ap Some (sym (place_same (slice_index list place) q list (omega arith) (at ∙ sym same)))))))
+          (λ same. absurd (false≢true (sym other
+          ∙ is_programme-from (slice_index list place) (Some q)
+          (ap Some (sym (place_same (slice_index list place) q list (omega arith)
+          (at ∙ sym same)))))))
           (λ o. ⊎_elim
-          (λ before. absurd (false≢true (sym none ∙ found-before list q place before (omega arith))))
+          (λ before. absurd (false≢true (sym none
+          ∙ found-before list q place before (omega arith))))
           (λ after. omega arith)
           o)
           (cases_order (place_of q list) place),
@@ -103,7 +107,12 @@ better-holder m v held stable i p j f holds =
     (λ earlier. absurd (f.blocks_not (record {
       acceptable = f.acceptable;
       preferred = f.preferred;
-      room = inr (record { holder = j; holds = holds; worse = turn-better m v t i j types earlier turn_j });
+      room = inr (record {
+        holder = j;
+        holds = holds;
+        worse =
+            turn-better m v t i j types earlier turn_j;
+      });
     })))
     (λ later. turn-better m v t j i types later turn_i)
     o)

@@ -55,11 +55,12 @@ abbrev pub base_upto : Problem → List (Option ℕ) → ℕ → ℕ → Option 
 base_upto m held p n = worst_of (map (rank_of m (kind_of m p)) (holders_upto held p n))
 
 -- the table has counted the first n candidates
-pub record HasCounted (m : Problem) (held : List (Option ℕ)) (table : BaseTable) (n : ℕ) : Type 0 where
-  pub base_count : length table.bases ≡ length m.programmes
-  pub held_count : length table.held ≡ length m.programmes
-  pub bases : (p : ℕ) → p < length m.programmes → base_of table p ≡ base_upto m held p n
-  pub holders : (p : ℕ) → p < length m.programmes → holder_count table p ≡ count_of p (take n held)
+pub record HasCounted (m : Problem) (held : List (Option ℕ)) (table : BaseTable) (n : ℕ) : Type 0
+  where
+    pub base_count : length table.bases ≡ length m.programmes
+    pub held_count : length table.held ≡ length m.programmes
+    pub bases : (p : ℕ) → p < length m.programmes → base_of table p ≡ base_upto m held p n
+    pub holders : (p : ℕ) → p < length m.programmes → holder_count table p ≡ count_of p (take n held)
 
 -- a table of none and of 0 has counted nobody
 pub HasCounted-none : (m : Problem) (held : List (Option ℕ)) (table : BaseTable)
@@ -92,7 +93,8 @@ base-more m held p n e =
     (sym (kept_more (λ i. is_programme p (held_by held i)) n (holders_upto held p n)
     (holders_upto held p n ++ n ∷ []) refl e refl))
     ∙ ap worst_of (map-append (rank_of m (kind_of m p)) (holders_upto held p n) (n ∷ []))
-    ∙ worst_of-push (map (rank_of m (kind_of m p)) (holders_upto held p n)) (rank_of m (kind_of m p) n)
+    ∙ worst_of-push (map (rank_of m (kind_of m p)) (holders_upto held p n))
+    (rank_of m (kind_of m p) n)
 
 -- who holds nothing is counted nowhere
 pub HasCounted-skip : (m : Problem) (held : List (Option ℕ)) (table : BaseTable) (n : ℕ)
@@ -115,18 +117,21 @@ base-written : (m : Problem) (held : List (Option ℕ)) (table : BaseTable) (n p
     ≡ base_upto m held p (n + 1)
 base-written m held table n p lp e c =
     let count = c.base_count in
-    get_or-set_same table.bases p (worse_of (base_of table p) (rank_of m (kind_of m p) n)) None (omega arith)
+    get_or-set_same table.bases p (worse_of (base_of table p) (rank_of m (kind_of m p) n)) None
+    (omega arith)
     ∙ ap (λ (o : Option ℕ). worse_of o (rank_of m (kind_of m p) n)) (c.bases p lp)
     ∙ sym (base-more m held p n (is_programme-from p (held_by held n) e))
 
 holders-written : (m : Problem) (held : List (Option ℕ)) (table : BaseTable) (n p : ℕ)
-    → n < length held → p < length m.programmes → held_by held n ≡ Some p → HasCounted m held table n
+    → n < length held → p < length m.programmes → held_by held n ≡ Some p
+    → HasCounted m held table n
     → get_or (set table.held p (holder_count table p + 1)) p 0 ≡ count_of p (take (n + 1) held)
 holders-written m held table n p l lp e c =
     let count = c.held_count in
     get_or-set_same table.held p (holder_count table p + 1) 0 (omega arith)
     ∙ ap (λ (x : ℕ). x + 1) (c.holders p lp)
-    ∙ sym (count_by_more_yes (is_programme p) held n None l (is_programme-from p (held_by held n) e))
+    ∙ sym (count_by_more_yes (is_programme p) held n None l
+    (is_programme-from p (held_by held n) e))
 
 -- who holds p does not hold another
 not_another : (held : List (Option ℕ)) (n p q : ℕ) → held_by held n ≡ Some p → q ≢ p
@@ -136,7 +141,8 @@ not_another held n p q e other =
 
 -- a holder is counted at the programme held
 pub HasCounted-more : (m : Problem) (held : List (Option ℕ)) (table more : BaseTable)
-    (n p : ℕ) → n < length held → p < length m.programmes → held_by held n ≡ Some p → HasCounted m held table n
+    (n p : ℕ) → n < length held → p < length m.programmes → held_by held n ≡ Some p
+    → HasCounted m held table n
     → more.bases ≡ set table.bases p (worse_of (base_of table p) (rank_of m (kind_of m p) n))
     → more.held ≡ set table.held p (holder_count table p + 1) → HasCounted m held more (n + 1)
 HasCounted-more m held table more n p l lp e c b h =

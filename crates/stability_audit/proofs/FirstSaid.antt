@@ -53,8 +53,11 @@ filter-first : (test : ℕ → Bool) (list : List ℕ) (p : ℕ) → place_of p 
 filter-first test [] p listed passes before = absurd (omega arith)
 filter-first test (x ∷ xs) p listed passes before =
     ⊎_elim
-    (λ (same : x ≡ p).
-    (filter test xs, cond-true (test x) _ _ (ap test same ∙ passes) ∙ ap (λ v. v ∷ filter test xs) same))
+    (λ (same : x ≡ p). (
+      filter test xs,
+      cond-true (test x) _ _ (ap test same ∙ passes)
+          ∙ ap (λ v. v ∷ filter test xs) same,
+    ))
     (λ other.
     let next = place-next x p xs other in
     let here = place-here x xs in
@@ -136,7 +139,8 @@ room-from m held i p e =
     (λ free. inl free)
     (λ full.
     let worse = better-parts (rank_of m (kind_of m p) i) (base_rank m held p)
-    (sym (ap (λ b. b || is_better (rank_of m (kind_of m p) i) (base_rank m held p)) (le-ltb _ _ full)) ∙ e) in
+    (sym (ap (λ b. b || is_better (rank_of m (kind_of m p) i) (base_rank m held p))
+    (le-ltb _ _ full)) ∙ e) in
     inr (worse-holder m held i p worse.0 worse.1 worse.2 worse.3 worse.4))
     (cases_lt (count_of p held) (quota_of m p))
 
@@ -191,7 +195,8 @@ over-within m held p programmes over =
     ⊎_elim
     (λ within. within)
     (λ past.
-    let none = count_none p held (λ i holds. let is = programmes i p holds in absurd (omega arith)) in
+    let none = count_none p held
+    (λ i holds. let is = programmes i p holds in absurd (omega arith)) in
     absurd (omega arith))
     (cases_lt p (length m.programmes))
 
@@ -230,7 +235,8 @@ first-verdict m held programmes sizes (NotAcceptable i) h =
     let none_over = none-said (said_of_programme m held) 0 (length m.programmes)
     (λ p _. not-over m held p (h.quotas p)) in
     let within = holder-within m held i sizes h.unacceptable in
-    sym (ap (λ v. first_said (v ++ (flat_map (said_of_candidate m held) (range_with_len 0 (length m.lists))
+    sym (ap (λ v. first_said (v ++
+    (flat_map (said_of_candidate m held) (range_with_len 0 (length m.lists))
     ++ flat_map (said_of_list m held) (range_with_len 0 (length m.lists))))) none_over
     ∙ first-among (said_of_candidate m held) 0 (length m.lists) i (NotAcceptable i) [] _
     (omega arith) (omega (arith, within))
@@ -245,7 +251,8 @@ first-verdict m held programmes sizes (Blocking i p) h =
     (blocks-true m held i p h.blocks)
     (λ q less. blocks-false m held i q (h.first_entry q less)) in
     let within = candidate_lt m i (place_of p (list_of m i)) h.blocks.acceptable.listed in
-    sym (ap (λ v. first_said (v ++ (flat_map (said_of_candidate m held) (range_with_len 0 (length m.lists))
+    sym (ap (λ v. first_said (v ++
+    (flat_map (said_of_candidate m held) (range_with_len 0 (length m.lists))
     ++ lists))) none_over
     ∙ ap (λ v. first_said (v ++ lists)) all_keep
     ∙ ap first_said (sym (append-nil lists))

@@ -20,7 +20,8 @@ found-listed p (q ∷ list) e =
     let here = ap (λ (x : ℕ). place_of p (x ∷ list)) same ∙ place-here p list in
     omega arith)
     (λ other.
-    let rest = found-listed p list (sym (ap (λ (b : Bool). b || list_any (λ q. q == p) list) (ne_eqb q p other)) ∙ e) in
+    let rest = found-listed p list
+    (sym (ap (λ (b : Bool). b || list_any (λ q. q == p) list) (ne_eqb q p other)) ∙ e) in
     let next = place-next q p list other in
     omega arith)
     (cases_eq q p)
@@ -40,7 +41,8 @@ not_unacceptable m held i not_not p holds =
     record {
       listed = ⊎_elim
           (λ listed. listed)
-          (λ past. absurd (not_not (λ all. let listed = (all p holds).listed in absurd (omega arith))))
+          (λ past. absurd (not_not
+          (λ all. let listed = (all p holds).listed in absurd (omega arith))))
           (cases_lt (place_of p list) (length list));
       admitted = ⊎_elim
           (λ admitted. admitted)

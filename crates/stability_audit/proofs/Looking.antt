@@ -93,7 +93,8 @@ HasPassed-more m held i k l passed other refuses =
           (λ less. passed.blocks_with_none p less b)
           (λ past.
           let here : place_of p list ≡ k = omega arith in
-          let same : slice_index list k ≡ p = ap (slice_index list) (sym here) ∙ place_get p list 0 (omega arith) in
+          let same : slice_index list k ≡ p = ap (slice_index list) (sym here)
+          ∙ place_get p list 0 (omega arith) in
           refuses (subst (λ (x : ℕ). WouldTake m held i x) (sym same)
           (record { admitted = b.acceptable.admitted; room = b.room })))
           (cases_lt (place_of p list) k);

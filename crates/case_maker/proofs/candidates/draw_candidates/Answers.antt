@@ -20,8 +20,8 @@ range-more n =
     ∙ ap (λ xs. xs ++ n ∷ []) (map-id (range_with_len 0 n))
 
 -- the keys with one candidate more
-made_keys-more : (s : Sizes) (words : Words) (n kind : ℕ) → made_keys s words (n + 1) kind
-    ≡ made_keys s words n kind
+made_keys-more : (s : Sizes) (words : Words) (n kind : ℕ)
+    → made_keys s words (n + 1) kind ≡ made_keys s words n kind
     ++ cons_option (drawn_key s.programmes (own_words s words n) kind n) []
 made_keys-more s words n kind =
     let key = λ (i : ℕ). drawn_key s.programmes (own_words s words i) kind i in
@@ -100,7 +100,8 @@ loop-candidate-init c =
     record {
       drawn = record {
         lists_are = c.in_ok-lists.ensures.items;
-        types_are = ap (λ ks. length {A = List Key} ks) keys ∙ length-replicate c.args.sizes.types [];
+        types_are = ap (λ ks. length {A = List Key} ks) keys
+            ∙ length-replicate c.args.sizes.types [];
         keys_are = λ kind lt. ap (λ ks. slice_index_or {A = List Key} ks kind []) keys
             ∙ get_or-replicate c.args.sizes.types kind [] [] lt;
       };

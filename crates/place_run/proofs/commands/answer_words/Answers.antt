@@ -41,16 +41,24 @@ base-requires-clause-workers g c κs within =
 pub reasons-requires-clause-words : goal.reasons-requires-clause-words
 reasons-requires-clause-words g c κs within =
     let words = c.args.words.now in
-    let given : command_of (texts words) ≡ Ok (Reasons c.in-Ok-Reasons.workers) = cc
-    (c.read_words.ensures, c.in-Ok-Reasons.is, c.in-Ok-Reasons.field-0-is, c.in-Ok-Reasons.workers-is) in
+    let given : command_of (texts words) ≡ Ok (Reasons c.in-Ok-Reasons.workers) = cc (
+      c.read_words.ensures,
+      c.in-Ok-Reasons.is,
+      c.in-Ok-Reasons.field-0-is,
+      c.in-Ok-Reasons.workers-is,
+    ) in
     let enough = (fits (texts words) (Reasons c.in-Ok-Reasons.workers) given).words in
     omega (arith, enough, length-map words string_bytes)
 
 pub reasons-requires-clause-workers : goal.reasons-requires-clause-workers
 reasons-requires-clause-workers g c κs within =
     let words = c.args.words.now in
-    let given : command_of (texts words) ≡ Ok (Reasons c.in-Ok-Reasons.workers) = cc
-    (c.read_words.ensures, c.in-Ok-Reasons.is, c.in-Ok-Reasons.field-0-is, c.in-Ok-Reasons.workers-is) in
+    let given : command_of (texts words) ≡ Ok (Reasons c.in-Ok-Reasons.workers) = cc (
+      c.read_words.ensures,
+      c.in-Ok-Reasons.is,
+      c.in-Ok-Reasons.field-0-is,
+      c.in-Ok-Reasons.workers-is,
+    ) in
     (fits (texts words) (Reasons c.in-Ok-Reasons.workers) given).workers
 
 pub audit-requires-clause-words : goal.audit-requires-clause-words

@@ -39,7 +39,9 @@ returns-in-Some c =
     c.args.place ≡ false = cc in
     let ranked : admits m p c.args.candidate ≡ true
     = ap (λ (o : Option ℕ). is_some o) (sym c.entry_rank.ensures.rank ∙ c.in-Some.is) in
-    let base = c.base.ensures ∙ ap (λ (xs : List ℕ). base_of c.args.bases.now (get_or xs c.args.place 0)) c.list-list.ensures.list
+    let base = c.base.ensures ∙ ap
+    (λ (xs : List ℕ). base_of c.args.bases.now (get_or xs c.args.place 0))
+    c.list-list.ensures.list
     ∙ c.requires.bases.bases p c.entry_rank.ensures.programme in
     sym (reason-above m held c.args.candidate c.args.place is_held is_before
     ∙ ap (λ (b : Bool). if b then Full (base_rank m held p) else NoRank) ranked

@@ -51,7 +51,11 @@ returns-in-Some g c =
       items = e.2;
       small = omega arith;
     }) e.3 c.in-Some.candidate (sym e.4 ∙ c.in-Some.is) in
-    record { unacceptable = first.holds; first = λ j l. not_unacceptable m held j (first.before j l) }
+    record {
+      unacceptable = first.holds;
+      first =
+          λ j l. not_unacceptable m held j (first.before j l);
+    }
 
 pub returns-in-None : goal.returns-in-None
 returns-in-None g c j =

@@ -20,8 +20,11 @@ returns-in_default c =
     let p = c.args.programme in
     let kind = read-kind m p c.programme-kind.result c.programme-kind.ensures in
     let none = ap (λ (t : ℕ). rank_of m t c.args.candidate) (sym kind) ∙ sym c.rank.ensures
-    ∙ c.in_default.is in
-    (λ no_. absurd (false≢true no_), λ takes. absurd (admitted-some m c.args.candidate p none takes.admitted))
+    ∙ c.in_default.is in (
+      λ no_. absurd (false≢true no_),
+      λ takes. absurd
+          (admitted-some m c.args.candidate p none takes.admitted),
+    )
 
 pub returns-then-held-quota : goal.returns-then-held-quota
 unfolding quota_of
