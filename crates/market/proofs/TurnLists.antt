@@ -31,6 +31,27 @@ rest_at order part from k e l =
           ∙ get_or-drop from part k 0 ∙ ap (λ (xs : List ℕ). slice_index xs (from + k)) e;
     }
 
+-- the list of a turn lies within the lists of its type
+pub record HasTurn (f : FlatTypeLists) (k : ℕ) : Type 0 where
+  pub turn : k + 1 < length f.bounds
+  pub rising : slice_index f.bounds k ≤ slice_index f.bounds (k + 1)
+  pub items : slice_index f.bounds (k + 1) ≤ length f.items
+  pub places : slice_index f.bounds (k + 1) ≤ length f.places
+
+-- and so does each turn of the type
+pub has_turn : (m : Problem) (t k : ℕ) (f : FlatTypeLists) → IsTypeLists m t f
+    → k < length (order_of m t) → HasTurn f k
+has_turn m t k f h l =
+    let a = length-map (order_of m t) (type_items m t) in
+    let b = length-map (order_of m t) (type_places m t) in
+    let count = h.items.count in
+    record {
+      turn = omega arith;
+      rising = h.items.rising k (omega arith);
+      items = h.items.within (k + 1) (omega arith);
+      places = h.places.within (k + 1) (omega arith);
+    }
+
 -- what a turn's cut leaves is the turn's list
 pub turn_below : (m : Problem) (cuts : List ℕ) (t k i cut : ℕ) (f : FlatTypeLists)
     → IsTypeLists m t f → k < length (order_of m t) → i ≡ slice_index (order_of m t) k

@@ -6,8 +6,29 @@ use Rattle.market.specs.LocalNumbers.{local_list}
 use Rattle.market.proofs.Dicts.{order-le}
 use Rattle.market.proofs.Between.{flat-self, flat-is}
 use Rattle.market.proofs.Below.{flat_next}
-use Rattle.market.proofs.TurnLists.{rest_at, turn_below, few_more}
+use Rattle.market.proofs.TurnLists.{HasTurn, few_more, has_turn, rest_at, turn_below}
 use Rattle.market.proofs.market.Market.turn_lists.Goals as goal
+
+-- the list of the turn that is added lies within the lists of the type
+turn_at : (c : goal.After-cut)
+    → HasTurn c.type_lists-type_lists.result.now (c.args.from_turn + c.loop-index.index)
+turn_at c =
+    let at = rest_at (order_of c.args.self.now c.args.kind) c.order-order.result.now
+    c.args.from_turn c.loop-index.index c.order-order.ensures.order c.loop-index-test.true in
+    has_turn c.args.self.now c.args.kind (c.args.from_turn + c.loop-index.index)
+    c.type_lists-type_lists.result.now c.type_lists-type_lists.ensures.lists at.inside
+
+pub add_turn-requires-clause-turn : goal.add_turn-requires-clause-turn
+add_turn-requires-clause-turn c = (turn_at c).turn
+
+pub add_turn-requires-clause-rising : goal.add_turn-requires-clause-rising
+add_turn-requires-clause-rising c = (turn_at c).rising
+
+pub add_turn-requires-clause-items : goal.add_turn-requires-clause-items
+add_turn-requires-clause-items c = (turn_at c).items
+
+pub add_turn-requires-clause-places : goal.add_turn-requires-clause-places
+add_turn-requires-clause-places c = (turn_at c).places
 
 pub overflow_cast-len : goal.overflow_cast-len
 overflow_cast-len c =
