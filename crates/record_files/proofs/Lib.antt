@@ -4,3 +4,4 @@ pub mod FieldCuts
 pub mod FirstFaultLemmas
 pub mod Keys
 pub mod Headers
+pub mod RowTexts

@@ -1,11 +1,20 @@
-use Rattle.std.proofs.Common.{ℕ, ◌∙◌, refl, ap, sym, List, length, take, arith}
+use Rattle.std.proofs.Common.{◌≡◌, ℕ, ◌∙◌, refl, ap, sym, subst, List, length, take, map, arith}
 use Rattle.std.specs.Prelude.{slice_index}
-use Rattle.std.proofs.lemmas.List.{length-append, length-map}
+use Rattle.std.proofs.lemmas.List.{length-append, length-map, take_all}
 use Rattle.market.specs.Problems.{order_of}
+use Rattle.market.specs.FlatLists.{IsFlat}
 use Rattle.market.specs.TypeLists.{type_items, type_places}
 use Rattle.market.proofs.Dicts.{order-le, read_lt}
+use Rattle.market.proofs.Between.{flat-none}
 use Rattle.market.proofs.Below.{flat_next, length-type_items, length-type_places}
 use Rattle.market.proofs.type_lists.lists_of_type.Goals as goal
+
+pub loop-candidate-init : goal.loop-candidate-init
+loop-candidate-init c = record {
+  items = flat-none _ _ c.new-items.ensures.items c.in_ok-bounds.ensures;
+  places = flat-none _ _ c.new-places.ensures.items c.in_ok-bounds.ensures;
+  few = omega arith;
+}
 
 pub add_list-requires-clause-candidate : goal.add_list-requires-clause-candidate
 add_list-requires-clause-candidate c =
@@ -70,4 +79,25 @@ loop-candidate-preserved c =
           c.len.result c.loop-candidate-test.true inv.places refl c.in_ok-add_list.ensures.places
           c.in_ok-push.ensures.items (omega arith);
       few = omega arith;
+    }
+
+pub returns : goal.returns
+returns c =
+    let m = c.args.parts.now in
+    let t = c.args.kind in
+    let k = c.loop-candidate.candidate-index in
+    let order = c.order-order.result.now in
+    let bounds = c.loop-candidate.bounds.items in
+    let inv = c.loop-candidate.invariant in
+    let all : take k order ≡ order_of m t = take_all k order (omega arith)
+    ∙ c.order-order.ensures.order in
+    record {
+      items = subst
+          (λ (xs : List ℕ). IsFlat c.loop-candidate.items.items bounds (map (type_items m t) xs))
+          all
+          inv.items;
+      places = subst
+          (λ (xs : List ℕ). IsFlat c.loop-candidate.places.items bounds (map (type_places m t) xs))
+          all
+          inv.places;
     }
