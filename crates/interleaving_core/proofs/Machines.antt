@@ -2,6 +2,7 @@
 -- after it is the event's, and the machine stays sound, with room for every turn.
 use Rattle.std.proofs.Common.{◌≡◌, ℕ, suc, ◌+◌, ◌<◌, ◌≤◌, Bool, true, false, List, [], ◌∷◌, ◌++◌, Option, Some, None, length, length-append, eqb, map, set, get_or, replicate, ⊎_elim, refl, sym, ap, ◌∙◌, subst, arith, vec_capacity, length-set}
 use Rattle.std.specs.Prelude.{slice_get, option_map}
+use Rattle.std.specs.Vec.{vec_len}
 use Rattle.std.proofs.lemmas.List.{map-set, length-map, map-append, length-replicate, replicate_more}
 use Rattle.std.proofs.lemmas.List.Sums.{sum_by-le}
 use Rattle.std.proofs.lemmas.Option.{slice_get_read, slice_get-map, get_or_from_slice_get}
@@ -172,6 +173,14 @@ has_room s i w k at new =
     (λ j x there. (omega arith, (own.each j x there).1)) own.rise in
     omega arith
 
+-- the worker that acts is one of the workers
+pub worker_there : (s : Inside) (now : Machine) (i : ℕ) → machine_of s ≡ now
+    → i < length now.core.views → i < vec_len s.workers
+worker_there s now i is l =
+    let here : i < length (map view_of s.workers.items) =
+    subst (λ (m : Machine). i < length m.core.views) (sym is) l in
+    omega (arith, length-map s.workers.items view_of)
+
 -- what a worker may look up
 pub within : (s : Inside) (now : Machine) (i : ℕ) (w : Worker) → IsKept s → machine_of s ≡ now
     → i < length now.core.views → w ≡ get_or s.workers.items i w → IsWithin s.dict (view_of w)
@@ -265,6 +274,34 @@ flag_word_is s p n k l at =
     let inside = flag_word_within s p k l in
     let got = slice_get_read s.flags.items (length s.flags.items) (flag_group p) n refl inside at in
     sym (get_or_from_slice_get s.flags.items (flag_group p) n 0 got)
+
+-- a programme has its word of flags
+pub flag_there : (s : Inside) (p g : ℕ) → IsKept s → p < length s.dict.quota → g ≡ flag_group p
+    → g < vec_len s.flags
+flag_there s p g k l e = let inside = flag_word_within s p k l in omega arith
+
+-- a programme has its seat count
+pub seat_there : (s : Inside) (p : ℕ) → IsKept s → p < length s.dict.quota → p < vec_len s.seats
+seat_there s p k l =
+    let sound = k.sound in
+    let count = sound.seats.each_programme in
+    omega arith
+
+-- there are as many seat counts, as they were read, as programmes
+pub counts_fit : (s : Inside) (xs : List ℕ) → IsKept s → xs ≡ s.seats.items
+    → length xs ≡ length s.dict.quota
+counts_fit s xs k e =
+    let same = ap (λ (ys : List ℕ). length ys) e in
+    let sound = k.sound in
+    let count = sound.seats.each_programme in
+    omega arith
+
+-- a turn has its cell
+pub cell_there : (s : Inside) (n : ℕ) → IsKept s → n < turn_count s.dict → n < vec_len s.cells
+cell_there s n k l =
+    let sound = k.sound in
+    let count = sound.cells.each_turn in
+    omega arith
 
 -- the turn that is committed
 pub sealed_within : (s : Inside) (i : ℕ) (w : Worker) (c j : ℕ) (phase : Phase) → IsKept s

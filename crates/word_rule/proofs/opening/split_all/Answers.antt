@@ -65,3 +65,53 @@ returns-clause-count c =
 pub returns-clause-shares : goal.returns-clause-shares
 returns-clause-shares c =
     opens_shares c.args.round.now c.args.workers _ (returns-clause-new c) (returns-clause-count c)
+
+pub push_reserved-requires : goal.push_reserved-requires
+push_reserved-requires c =
+    let below = c.loop-number-test.true in
+    let len = c.loop-number.invariant.len in
+    let room = c.loop-number.invariant.room in
+    omega arith
+
+pub new_seat-requires-clause-fresh : goal.new_seat-requires-clause-fresh
+new_seat-requires-clause-fresh c =
+    let e = c.split_seat-next.ensures in
+    ap (λ m. m.0.core) e.2 ∙ ap (λ (x : SeatKnows). x.core) c.loop-number.invariant.rest
+
+pub new_seat-requires-clause-number : goal.new_seat-requires-clause-number
+new_seat-requires-clause-number c =
+    let e = c.split_seat-next.ensures in
+    ap (λ m. m.0.number) e.2 ∙ ap (λ (x : SeatKnows). x.number) c.loop-number.invariant.rest
+
+pub new_seat-requires-clause-share : goal.new_seat-requires-clause-share
+new_seat-requires-clause-share c =
+    let e = c.split_seat-next.ensures in
+    ap (λ m. m.0.share) e.2
+
+pub new_seat-requires-2-clause-fresh : goal.new_seat-requires-2-clause-fresh
+new_seat-requires-2-clause-fresh c = ap (λ (x : SeatKnows). x.core) c.loop-number.invariant.rest
+
+pub new_seat-requires-2-clause-number : goal.new_seat-requires-2-clause-number
+new_seat-requires-2-clause-number c =
+    let over = c.loop-number-test.false in
+    let upto = c.loop-number.auto.number-end in
+    let e = ap (λ (x : SeatKnows). x.number) c.loop-number.invariant.rest in
+    omega arith
+
+pub new_seat-requires-2-clause-share : goal.new_seat-requires-2-clause-share
+new_seat-requires-2-clause-share c =
+    let over = c.loop-number-test.false in
+    let upto = c.loop-number.auto.number-end in
+    let e = ap (λ (x : SeatKnows). x.share) c.loop-number.invariant.rest in
+    omega arith
+
+pub new_seat-requires-2-clause-bare : goal.new_seat-requires-2-clause-bare
+new_seat-requires-2-clause-bare c = c.loop-number.invariant.bare
+
+pub push_reserved-requires-2 : goal.push_reserved-requires-2
+push_reserved-requires-2 c =
+    let over = c.loop-number-test.false in
+    let upto = c.loop-number.auto.number-end in
+    let len = c.loop-number.invariant.len in
+    let room = c.loop-number.invariant.room in
+    omega arith

@@ -1,6 +1,6 @@
 use Rattle.std.proofs.Common.{true, false, refl, sym}
 use Rattle.interleaving_core.specs.Events.{Takes}
-use Rattle.interleaving_core.proofs.Machines.{allowed}
+use Rattle.interleaving_core.proofs.Machines.{allowed, worker_there}
 use Rattle.interleaving_core.proofs.MachineEvents.{tries_mark}
 use Rattle.interleaving_core.proofs.state.CoreState.take.Goals as goal
 
@@ -31,3 +31,9 @@ returns c =
     (Takes) c.self.invariant c.self.view_is c.requires c.index.ensures
     c.index_mut-me.ensures.value (c.in_ok-may_take.ensures c.self.inside.dict) in
     (tries_mark c.self.inside _ _ _ refl false x (sym c.if-held.false) refl).step _ c.self.view_is
+
+pub index-requires : goal.index-requires
+index-requires c = worker_there c.self.inside _ _ c.self.view_is c.requires
+
+pub index_mut-me-requires : goal.index_mut-me-requires
+index_mut-me-requires c = worker_there c.self.inside _ _ c.self.view_is c.requires
