@@ -184,6 +184,13 @@ module _ (names : List (List ℕ)) (numbers : List ℕ) (bytes : List ℕ) (read
   fault-of-duplicate d e = duplicate-first names numbers bytes read are.taken d
       (subst (IsFirstDuplicate read.table.candidates read.table.ranks) e looked)
 
+  -- and its rows are rows of the file
+  pub rows-of-duplicate : (d : Duplicate) → duplicate ≡ Some d
+      → ((duplicate_of d).0.earlier < length (data_rows bytes))
+      × ((duplicate_of d).0.later < length (data_rows bytes))
+  rows-of-duplicate d e = duplicate-within names numbers bytes read are.taken d
+      (subst (IsFirstDuplicate read.table.candidates read.table.ranks) e looked)
+
   -- with none, the fault at which reading stopped is the first
   pub fault-of-stop : (f : FileFault) → duplicate ≡ None → read.fault ≡ Some f
       → ranks_fault bytes ≡ Some f

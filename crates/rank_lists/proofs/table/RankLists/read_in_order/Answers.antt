@@ -1,6 +1,31 @@
 use Rattle.std.proofs.Common.{◌∙◌, Some, sym, ap, arith}
-use Rattle.rank_lists.proofs.Reading.{fault-of-duplicate, fault-of-stop, table-of-turns}
+use Rattle.rank_lists.proofs.Reading.{fault-of-duplicate, fault-of-stop, rows-of-duplicate, same-length, table-of-turns}
 use Rattle.rank_lists.proofs.table.RankLists.read_in_order.Goals as goal
+
+pub read_rows-requires-clause-empty : goal.read_rows-requires-clause-empty
+read_rows-requires-clause-empty g c =
+    c.in_ok-empty.ensures {u = tt} (g.T.TypeFinder.names c.args.types.now)
+    (sym c.type_count.ensures.length)
+
+pub first_duplicate-requires : goal.first_duplicate-requires
+first_duplicate-requires g c =
+    same-length (g.T.TypeFinder.names c.args.types.now)
+    (g.C.Finder.numbers c.args.candidates.now) c.args.bytes.now c.in_ok-read.read
+    (c.in_ok-read.ensures {u = tt}).taken
+
+pub fault-requires-clause-earlier : goal.fault-requires-clause-earlier
+fault-requires-clause-earlier g c =
+    (rows-of-duplicate (g.T.TypeFinder.names c.args.types.now)
+    (g.C.Finder.numbers c.args.candidates.now) c.args.bytes.now c.in_ok-read.read
+    c.in_ok-duplicate.field-0 (c.in_ok-read.ensures {u = tt})
+    (c.in_ok-duplicate.ensures {u = tt}) c.in-Some.duplicate c.in-Some.is).0
+
+pub fault-requires-clause-later : goal.fault-requires-clause-later
+fault-requires-clause-later g c =
+    (rows-of-duplicate (g.T.TypeFinder.names c.args.types.now)
+    (g.C.Finder.numbers c.args.candidates.now) c.args.bytes.now c.in_ok-read.read
+    c.in_ok-duplicate.field-0 (c.in_ok-read.ensures {u = tt})
+    (c.in_ok-duplicate.ensures {u = tt}) c.in-Some.duplicate c.in-Some.is).1
 
 pub returns-in-Some : goal.returns-in-Some
 returns-in-Some g c =
