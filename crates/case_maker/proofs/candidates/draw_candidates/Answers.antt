@@ -130,3 +130,10 @@ loop-candidate-preserved c =
           c.draw_list.new.words c.draw_keys.new.words (length old) c.in_ok-list.ensures.taken
           c.in_ok-draw_keys.ensures.taken drawn.types_are;
     }
+
+pub returns : goal.returns
+returns c =
+    subst
+    (λ (n : ℕ). HasDrawn c.args.sizes (words_of c.args.words.now) n
+    c.loop-candidate.lists.items c.loop-candidate.keys.items)
+    (omega arith) c.loop-candidate.invariant.drawn

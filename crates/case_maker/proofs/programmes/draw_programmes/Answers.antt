@@ -1,10 +1,10 @@
-use Rattle.std.proofs.Common.{◌≡◌, ℕ, ◌+◌, List, [], ◌∷◌, ◌++◌, map, sym, ap, ◌∙◌, zero-add}
+use Rattle.std.proofs.Common.{◌≡◌, ℕ, ◌+◌, List, [], ◌∷◌, ◌++◌, map, sym, ap, ◌∙◌, zero-add, arith}
 use Rattle.std.specs.List.{range_with_len}
 use Rattle.std.proofs.lemmas.List.FromFn.{map-range_with_len_more}
 use Rattle.market.specs.declared.programme.Prog.{Prog}
 use Rattle.case_maker.specs.declared.sizes.Sizes.{Sizes}
 use Rattle.case_maker.specs.MadeMarkets.{drawn_programme}
-use Rattle.case_maker.specs.Words.{Words, words_of}
+use Rattle.case_maker.specs.Words.{Words, generator_after, words_of}
 use Rattle.case_maker.proofs.Taking.{after_none, taken-rest, taken-word}
 use Rattle.case_maker.proofs.programmes.draw_programmes.Goals as goal
 
@@ -40,3 +40,16 @@ loop-index-preserved c =
       taken = taken-rest index start c.loop-index.words c.next_word-word.new.self
           c.next_word-word.result c.loop-index.invariant.taken c.next_word-word.ensures;
     }
+
+-- the programmes have come to their end
+all_made : (c : goal.After-loop-index) → c.loop-index.index ≡ c.args.sizes.programmes
+all_made c = omega arith
+
+pub returns-clause-made : goal.returns-clause-made
+returns-clause-made c =
+    let one = λ (i : ℕ). drawn_programme c.args.sizes (words_of c.args.words.now i) i in
+    c.loop-index.invariant.made ∙ ap (λ n. map one (range_with_len 0 n)) (all_made c)
+
+pub returns-clause-taken : goal.returns-clause-taken
+returns-clause-taken c =
+    c.loop-index.invariant.taken ∙ ap (λ n. generator_after n c.args.words.now) (all_made c)

@@ -1,4 +1,5 @@
 use Rattle.std.proofs.Common.{◌∙◌, sym, arith}
+use Rattle.std.proofs.lemmas.Nat.{mul-le}
 use Rattle.market.proofs.Plain.{IsRoundsUpto-none, IsRoundsUpto-more, rounds-fall, rounds_small, total_small, outcome_is}
 use Rattle.market.proofs.Replays.{round-table, round-best_programmes}
 use Rattle.dictatorship.proofs.mechanism.mechanism_plain.Goals as goal
@@ -52,3 +53,12 @@ rounds-preserved c =
 pub best_programmes-requires : goal.best_programmes-requires
 best_programmes-requires c =
     round-table c.args.market.now c.rounds.cuts c.in_ok-table.table c.in_ok-table.ensures
+
+pub overflow_mul-result : goal.overflow_mul-result
+overflow_mul-result c =
+    let rounds = c.rounds.auto.rounds-fits in
+    let same = c.from.ensures in
+    let few = c.all_turns-turns.ensures.few in
+    let turns = c.all_turns-turns.result in
+    let most = mul-le c.from.result turns 4294967296 112000000 (omega arith) (omega arith) in
+    omega arith

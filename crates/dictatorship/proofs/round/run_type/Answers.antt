@@ -1,4 +1,4 @@
-use Rattle.std.proofs.Common.{◌≡◌, ℕ, ◌+◌, ◌∙◌, ap, sym, subst, length, List, [], arith, rules, replicate}
+use Rattle.std.proofs.Common.{◌≡◌, ℕ, ◌+◌, ◌∙◌, ap, refl, sym, subst, length, List, [], arith, rules, replicate}
 use Rattle.std.specs.Prelude.{slice_index_or}
 use Rattle.std.proofs.lemmas.List.{get_or_read}
 use Rattle.market.specs.Dictatorships.{Dictatorship}
@@ -88,3 +88,14 @@ returns-clause-row c =
     let k = c.turns-turn-end.ensures.count in
     subst (λ (n : ℕ). IsRunUpto m c.args.cuts.now t n (slice_index_or c.loop-turn.table t []))
     (omega arith) c.loop-turn.invariant.row
+
+pub overflow_cast-turn : goal.overflow_cast-turn
+overflow_cast-turn c =
+    let below = c.loop-turn-test.true in
+    let count = c.turns-turn-end.ensures.count in
+    let fits = c.turns-turn-end.type_inv in
+    omega arith
+
+pub loop-turn-init : goal.loop-turn-init
+loop-turn-init c =
+    record { types = c.requires.types; row = c.requires.row; others = λ _ _. refl }
