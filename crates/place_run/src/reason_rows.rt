@@ -144,6 +144,7 @@ fn make_room<K: Sink>(rows: &mut RowBuffer, out: &mut K) -> Result<(), Failed>
     ensures queued { IsQueued [] result rows.old rows.new (K.written out.old) (K.written out.new)
         (K.faults out.old) (K.faults out.new) }
     ensures room { IfOk result (λ _. length rows.new + 96 ≤ 4096) }
+    ensures kept { length rows.old + 96 ≤ 4096 → (rows.new ≡ rows.old) × (out.new ≡ out.old) }
 {
     if rows.room() < ROW {
         write_whole(out, rows.bytes())?;

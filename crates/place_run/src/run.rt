@@ -24,7 +24,7 @@ use std::thread::Threads;
 /// judged one after the other: a read fault of a file comes first, then that it has more than 2^30
 /// bytes, then its first fault. All memory is taken before the first byte is written to `out`. So
 /// after each refusal `out` is as it was; only a write fault leaves a part of the text there. A
-/// fault of `notes` changes neither the status nor `out`.
+/// fault of `notes` changes neither the status nor `out`, which is tested.
 ///
 /// The rounds are written to run on as many workers as the words say, who pass the gate; what is
 /// written does not depend on them.

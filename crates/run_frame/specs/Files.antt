@@ -27,7 +27,8 @@ pub record HasCauses {T S : Type 0} (stopped : FileStop → S) (result : Result 
       → GaveMore tally_before tally_now file_limit
 
 -- The causes of what reading one file came to; and in no case were more bytes taken than one piece
--- beyond 2^30, so that the reading of a file that is too long is not begun again.
+-- beyond 2^30, nor more than 2^30 where a read failed, so that the reading of a file that is too
+-- long, or whose last piece cannot be read, is not begun again.
 pub record HasFileCauses {T : Type 0} (result : Result T FileStop)
     (before now tally_before tally_now : ℕ) : Type 0 where
   pub faults : before ≤ now
@@ -36,6 +37,7 @@ pub record HasFileCauses {T : Type 0} (result : Result T FileStop)
   pub long : (kind : FileKind) → IsErrOf result (Fault (too_long kind))
       → GaveMore tally_before tally_now file_limit
   pub once : tally_now ≤ tally_before + file_limit + piece_size
+  pub failed : IsErrOf result ReadFault → tally_now ≤ tally_before + file_limit
 
 -- the bytes held under a name, none where there is no such file, if that is told
 abbrev pub IsHeld : Option Files → List ℕ → Option (List ℕ) → Type 0
@@ -54,8 +56,8 @@ AreTaken [] before now = now ≡ before
 AreTaken (bytes ∷ files) before now =
     (between : ℕ) × IsTaken bytes before between × AreTaken files between now
 
--- Of these files some in front were each read once. What was taken of those behind them is at most
--- one piece beyond 2^30.
+-- Of these files some in front were each read once. What was taken beside them is at most one piece
+-- beyond 2^30.
 pub record AreTakenUpTo (files : List (List ℕ)) (before now : ℕ) : Type 0 where
   pub front : List (List ℕ)
   pub behind : List (List ℕ)
@@ -106,8 +108,8 @@ FirstHasBegun (Some kind) reads before now = HasBegun (reads kind) before now
 -- What reading files came to in a run: there are bytes for each kind of file, those held under the
 -- files' names where that is told, such that the result meets what is said over them. Each file up
 -- to the one that decides was read once; where a read fault or want of memory decides, some in
--- front were, and of those behind them at most one piece beyond 2^30 was taken. Memory is refused
--- only once the reading of the first file has begun.
+-- front were, and beside them at most one piece beyond 2^30 was taken. Memory is refused only once
+-- the reading of the first file has begun.
 pub record AreRead {T W : Type 0} (told : Option Files) (names : FileKind → List ℕ)
     (first : Option FileKind) (said : Reads → Option (Result T (Stop W)))
     (files : Reads → List (List ℕ)) (result : Result T (Stop W))

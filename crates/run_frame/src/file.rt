@@ -28,7 +28,8 @@ pub fn read_file<H: Shelf>(
         H.tally shelf.new ≡ tally_with (H.tally shelf.old) (vec_len bytes)) }
 
     // Each stop has its cause in the counts, and in no case were more bytes taken than one piece
-    // beyond 2^30; memory is refused only where bytes were taken.
+    // beyond 2^30, nor more than 2^30 where a read failed or memory was refused; memory is refused
+    // only where bytes were taken.
     ensures causes { HasFileCauses result (H.faults shelf.old) (H.faults shelf.new)
         (H.tally shelf.old) (H.tally shelf.new) }
 
