@@ -1,8 +1,8 @@
 -- A table of turns, filled turn by turn.
-use Rattle.std.proofs.Common.{◌≡◌, ◌≢◌, ℕ, ◌+◌, ◌<◌, ◌≤◌, not, List, length, refl, sym, ap, ◌∙◌, arith, set, replicate, ⊎_elim}
+use Rattle.std.proofs.Common.{◌≡◌, ◌≢◌, ℕ, ◌+◌, ◌<◌, ◌≤◌, not, List, length, refl, sym, ap, ◌∙◌, arith, set, replicate, ⊎_elim, [], ◌∷◌, ◌++◌, subst, get_or}
 use Rattle.std.specs.Prelude.{slice_index, ◌==◌}
 use Rattle.std.proofs.lemmas.Bool.{cases_lt, cases_eq, ne_eqb, eq-eqb}
-use Rattle.std.proofs.lemmas.List.{get_or-set_same, get_or-set_other, length-set, length-replicate, get_or-replicate}
+use Rattle.std.proofs.lemmas.List.{get_or_append_left, get_or_push, get_or-set_same, get_or-set_other, length-set, length-replicate, get_or-replicate}
 use Rattle.std.proofs.lemmas.List.Sums.{position_or_len_is, prefix_len-le-length}
 use Rattle.market.specs.Problems.{HasNoRepeats, place_of}
 use Rattle.market.specs.Tables.{IsTurnTable}
@@ -76,3 +76,18 @@ IsTurnTable-all count order table k e f = record {
       (λ above. let le = place-le i order in f.unwritten i li above ∙ omega arith)
       (cases_lt (place_of i order) k);
 }
+
+-- what holds of each, with one more
+pub each_more : {X : Type 0} (d : X) (P : ℕ → X → Type 0) (found more : List X) (x : X) (k : ℕ)
+    → length found ≡ k → more ≡ found ++ x ∷ []
+    → ((t : ℕ) → t < k → P t (get_or found t d)) → P k x
+    → (t : ℕ) → t < k + 1 → P t (get_or more t d)
+each_more {X} d P found more x k n e each here t l =
+    let read = ap (λ (xs : List X). get_or xs t d) e in
+    ⊎_elim
+    (λ same.
+    let at = read ∙ get_or_push found x d t (n ∙ sym same) in
+    subst (λ (u : ℕ). P u (get_or more t d)) (sym same) (subst (P k) (sym at) here))
+    (λ ne. subst (P t) (sym (read ∙ get_or_append_left found (x ∷ []) d t (omega arith)))
+    (each t (omega arith)))
+    (cases_eq t k)

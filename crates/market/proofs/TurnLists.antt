@@ -1,7 +1,6 @@
 -- The dictatorships copied from a market's lists in turn order have the lists of their turns.
-use Rattle.std.proofs.Common.{◌≡◌, ℕ, zero, suc, ◌+◌, ◌-◌, ◌*◌, ◌<◌, ◌≤◌, List, [], ◌∷◌, ◌++◌, length, refl, ⊎_elim, sym, ap, ◌∙◌, subst, arith, take, drop}
+use Rattle.std.proofs.Common.{◌≡◌, ℕ, ◌+◌, ◌-◌, ◌*◌, ◌<◌, ◌≤◌, List, [], ◌∷◌, ◌++◌, length, sym, ap, ◌∙◌, arith, take, drop}
 use Rattle.std.specs.Prelude.{slice_index}
-use Rattle.std.proofs.lemmas.Bool.{cases_eq}
 use Rattle.std.proofs.lemmas.List.{length-map, get_or-map, length-take, length-drop, get_or-drop, get_or-take, length-append}
 use Rattle.market.specs.declared.limits.TheConstants.{MAX_ENTRIES}
 use Rattle.market.specs.Problems.{Problem, IsValid, order_of}
@@ -9,6 +8,7 @@ use Rattle.market.specs.LocalNumbers.{local_list}
 use Rattle.market.specs.FlatLists.{between}
 use Rattle.market.specs.TypeLists.{items_below, type_items, type_places, FlatTypeLists, IsTypeLists, type_lists_at}
 use Rattle.market.proofs.Dicts.{local_length}
+use Rattle.market.proofs.Tables.{each_more}
 use Rattle.market.proofs.Below.{front_local}
 
 -- the place of an entry of the rest of an order
@@ -87,23 +87,4 @@ pub type_lists_more : (P : ℕ → FlatTypeLists → Type 0) (found more : List 
     (f : FlatTypeLists) (k : ℕ) → length found ≡ k → more ≡ found ++ f ∷ []
     → ((t : ℕ) → t < k → P t (type_lists_at found t)) → P k f
     → (t : ℕ) → t < k + 1 → P t (type_lists_at more t)
-type_lists_more P found more f k n e each here t l =
-    ⊎_elim
-    (λ same.
-    let at = ap (λ (xs : List FlatTypeLists). type_lists_at xs t) e
-    ∙ ap (type_lists_at (found ++ f ∷ [])) (same ∙ sym n) ∙ last found in
-    subst (λ (u : ℕ). P u (type_lists_at more t)) (sym same) (subst (P k) (sym at) here))
-    (λ ne. subst (P t)
-    (sym (ap (λ (xs : List FlatTypeLists). type_lists_at xs t) e ∙ front found t (omega arith)))
-    (each t (omega arith)))
-    (cases_eq t k)
-  where
-    last : (xs : List FlatTypeLists) → type_lists_at (xs ++ f ∷ []) (length xs) ≡ f
-    last [] = refl
-    last (x ∷ xs) = last xs
-
-    front : (xs : List FlatTypeLists) (t : ℕ) → t < length xs
-        → type_lists_at (xs ++ f ∷ []) t ≡ type_lists_at xs t
-    front [] t l = absurd (omega arith)
-    front (x ∷ xs) zero l = refl
-    front (x ∷ xs) (suc t) l = front xs t (omega arith)
+type_lists_more = each_more (record { items = []; places = []; bounds = [] })

@@ -3,11 +3,11 @@ use Rattle.std.proofs.Common.{◌≡◌, ℕ, ◌+◌, ◌-◌, ◌^◌, suc, �
 use Rattle.std.specs.Prelude.{slice_get, Option}
 use Rattle.std.specs.Str.{bytes_eq}
 use Rattle.std.proofs.Math.Seq.{drop-cons}
-use Rattle.std.proofs.lemmas.List.{take-append-drop, drop-drop, drop_all}
+use Rattle.std.proofs.lemmas.List.{length-drop, take-append-drop, drop-drop, drop_all}
 use Rattle.std.proofs.lemmas.Bool.{cases_lt}
 use Rattle.std.proofs.lemmas.Grind.{common_steps}
 use Rattle.std.proofs.lemmas.Option.{slice_get-get_or, slice_get_past}
-use Rattle.place_edges.specs.Shelf.{TakesCount}
+use Rattle.place_edges.specs.Shelf.{TakesCount, left_count}
 use Rattle.place_edges.specs.HeldFiles.{Entries, Held, files_of, bytes_of, left_at, place_behind_one_more}
 use Rattle.place_edges.specs.declared.held.Place.{Place}
 use Rattle.place_edges.specs.declared.held.Place.TheVariants.{Closed, Unknown, Inside}
@@ -73,6 +73,16 @@ takes-entry entries place file at from count entry bytes into p s b f k t =
     let piece : take count into ≡ take count (drop from bytes) = t ∙ ap (λ v. take count v) whole in
     let front = loses-front bytes at from count (length into) f k in
     rw (p, s, ← b) (front.0 ∙ ap (λ v. v ++ drop (from + count) bytes) (sym piece), front.1)
+
+-- how many bytes a take inside an entry gives
+pub counts-entry : (entries : Entries) (place : Place) (file at from count n : ℕ)
+    (entry : List ℕ × List ℕ) (bytes : List ℕ)
+    → place ≡ Inside file at → slice_get entries file ≡ Some entry → bytes ≡ entry.1
+    → from ≡ min at (length bytes) → count ≡ min (length bytes - from) n
+    → count ≡ min (left_count (left_at entries place)) n
+counts-entry entries place file at from count n entry bytes p s b f k =
+    let left = length-drop at bytes in
+    rw (p, s, ← b) (omega arith)
 
 -- an entry in front leaves what is left of an older one
 pub left_at-cons : (entry : List ℕ × List ℕ) (entries : Entries) (place : Place)
