@@ -1,7 +1,9 @@
 -- A machine that makes an event. The worker that makes it is the only one to change, so the state
 -- after it is the event's, and the machine stays sound, with room for every turn.
-use Rattle.std.proofs.Common.{◌≡◌, ℕ, suc, ◌+◌, ◌<◌, ◌≤◌, Bool, true, false, List, [], ◌∷◌, ◌++◌, Option, Some, None, length, length-append, eqb, map, set, get_or, replicate, ⊎_elim, refl, sym, ap, ◌∙◌, subst, arith, vec_capacity, length-set}
+use Rattle.std.proofs.Common.{◌≡◌, ℕ, suc, ◌+◌, ◌<◌, ◌≤◌, Bool, true, false, List, [], ◌∷◌, ◌++◌, Option, Some, None, Result, Ok, Err, length, length-append, eqb, map, set, get_or, replicate, ⊎_elim, refl, sym, ap, ◌∙◌, subst, arith, vec_capacity, length-set}
 use Rattle.std.specs.Prelude.{slice_get, option_map}
+use Rattle.std.specs.Result.{IsErr}
+use Rattle.std.specs.Vec.{vec_len}
 use Rattle.std.proofs.lemmas.List.{map-set, length-map, map-append, length-replicate, replicate_more}
 use Rattle.std.proofs.lemmas.List.Sums.{sum_by-le}
 use Rattle.std.proofs.lemmas.Option.{slice_get_read, slice_get-map, get_or_from_slice_get}
@@ -14,13 +16,14 @@ use Rattle.interleaving_core.specs.declared.parts.Phase.{Phase}
 use Rattle.interleaving_core.specs.declared.parts.Phase.TheVariants.{Idle, Halted, Scan, Ready, Seated, Raised}
 use Rattle.interleaving_core.specs.declared.parts.Holding.{Holding}
 use Rattle.interleaving_core.specs.declared.events.CoreEvent.{CoreEvent}
+use Rattle.interleaving_core.specs.declared.events.NotNow.{NotNow}
 use Rattle.interleaving_core.specs.declared.events.Told.{Told}
 use Rattle.interleaving_core.specs.declared.team.Worker.{Worker}
 use Rattle.interleaving_core.specs.declared.state.CoreState.TheInside.{Inside}
 use Rattle.interleaving_core.specs.Flags.{flag_group}
 use Rattle.interleaving_core.specs.Core.{View, Core, Machine, fresh_view, opening, turn_count, entry, hold_at}
 use Rattle.interleaving_core.specs.Events.{Action, event_of, Seals, CanSeal, IsAllowed, Refuses, view_after, words_after, after, told_by}
-use Rattle.interleaving_core.specs.Runs.{IsStep, IsNotNow}
+use Rattle.interleaving_core.specs.Runs.{IsStep, IsNotNow, Answers}
 use Rattle.interleaving_core.specs.Sound.{bit, done_bit, phase_seat_bit, holder_seat_bit, seat_bit, IsSoundPhase, IsSoundView, IsSound}
 use Rattle.interleaving_core.specs.Machines.{view_of, machine_of, IsKept, IsTeam, IsWithin}
 use Rattle.interleaving_core.proofs.Places.{each_set, at_snoc}
@@ -172,6 +175,14 @@ has_room s i w k at new =
     (λ j x there. (omega arith, (own.each j x there).1)) own.rise in
     omega arith
 
+-- the worker that acts is one of the workers
+pub worker_there : (s : Inside) (now : Machine) (i : ℕ) → machine_of s ≡ now
+    → i < length now.core.views → i < vec_len s.workers
+worker_there s now i is l =
+    let here : i < length (map view_of s.workers.items) =
+    subst (λ (m : Machine). i < length m.core.views) (sym is) l in
+    omega (arith, length-map s.workers.items view_of)
+
 -- what a worker may look up
 pub within : (s : Inside) (now : Machine) (i : ℕ) (w : Worker) → IsKept s → machine_of s ≡ now
     → i < length now.core.views → w ≡ get_or s.workers.items i w → IsWithin s.dict (view_of w)
@@ -211,6 +222,15 @@ refused s now i w event is l e refuses =
     (λ v there.
     let same : view_of w ≡ v = cc (at, there) in
     subst (λ (x : View). Refuses s.dict x event) same refuses)
+
+-- the answer to such an event is an error, and the machine stays
+pub answers_refused : (s : Inside) (now : Machine) (i : ℕ) (w : Worker) (event : CoreEvent)
+    (answer : Result Told NotNow) → IsErr answer → machine_of s ≡ now
+    → i < length now.core.views → w ≡ get_or s.workers.items i w
+    → Refuses s.dict (view_of w) event → Answers now i event now answer
+answers_refused s now i w event (Ok told) err is l e refuses = absurd (cc err)
+answers_refused s now i w event (Err reason) err is l e refuses =
+    (refl, refused s now i w event is l e refuses)
 
 -- a claimed turn is one of the turns
 pub claim_within : (s : Inside) (i : ℕ) (w : Worker) (x : Claiming) → IsKept s
@@ -265,6 +285,20 @@ flag_word_is s p n k l at =
     let inside = flag_word_within s p k l in
     let got = slice_get_read s.flags.items (length s.flags.items) (flag_group p) n refl inside at in
     sym (get_or_from_slice_get s.flags.items (flag_group p) n 0 got)
+
+-- a programme has its word of flags
+pub flag_there : (s : Inside) (p g : ℕ) → IsKept s → p < length s.dict.quota → g ≡ flag_group p
+    → g < vec_len s.flags
+flag_there s p g k l e = let inside = flag_word_within s p k l in omega arith
+
+-- there are as many seat counts, as they were read, as programmes
+pub counts_fit : (s : Inside) (xs : List ℕ) → IsKept s → xs ≡ s.seats.items
+    → length xs ≡ length s.dict.quota
+counts_fit s xs k e =
+    let same = ap (λ (ys : List ℕ). length ys) e in
+    let sound = k.sound in
+    let count = sound.seats.each_programme in
+    omega arith
 
 -- the turn that is committed
 pub sealed_within : (s : Inside) (i : ℕ) (w : Worker) (c j : ℕ) (phase : Phase) → IsKept s

@@ -1,6 +1,6 @@
 use Rattle.std.proofs.Common.{Some, false, refl, arith}
 use Rattle.interleaving_core.specs.Events.{Claims}
-use Rattle.interleaving_core.proofs.Machines.{allowed, claims_small, has_room}
+use Rattle.interleaving_core.proofs.Machines.{allowed, answers_refused, claims_small, has_room}
 use Rattle.interleaving_core.proofs.MachineEvents.{draws_turn, finds_no_turn}
 use Rattle.interleaving_core.proofs.state.CoreState.claim.Goals as goal
 
@@ -70,3 +70,8 @@ returns c =
       owes = me.owes;
       hold = me.hold;
     })).step _ c.self.view_is
+
+pub returns-in_err-may_claim : goal.returns-in_err-may_claim
+returns-in_err-may_claim c =
+    answers_refused c.self.inside _ _ _ _ _ c.from_residual.ensures.0 c.self.view_is c.requires
+    c.index.ensures (c.in_err-may_claim.ensures c.self.inside.dict)

@@ -1,6 +1,6 @@
 use Rattle.std.proofs.Common.{refl}
 use Rattle.interleaving_core.specs.Events.{Looks}
-use Rattle.interleaving_core.proofs.Machines.{allowed}
+use Rattle.interleaving_core.proofs.Machines.{allowed, answers_refused}
 use Rattle.interleaving_core.proofs.MachineEvents.{finds_post, finds_nothing}
 use Rattle.interleaving_core.proofs.state.CoreState.look.Goals as goal
 
@@ -35,3 +35,8 @@ returns c =
     c.index.ensures c.index_mut-me.ensures.value c.in_ok-committed.ensures in
     (finds_nothing c.self.inside _ _ _ refl _ c.index-cell.result.now x c.index-cell.ensures
     c.in_default.not-Posted refl).step _ c.self.view_is
+
+pub returns-in_err-committed : goal.returns-in_err-committed
+returns-in_err-committed c =
+    answers_refused c.self.inside _ _ _ _ _ c.from_residual.ensures.0 c.self.view_is c.requires
+    c.index.ensures c.in_err-committed.ensures

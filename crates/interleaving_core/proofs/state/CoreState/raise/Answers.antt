@@ -1,6 +1,6 @@
 use Rattle.std.proofs.Common.{ℕ, get_or, ◌∙◌, ap, refl, bit_or}
 use Rattle.interleaving_core.specs.Events.{Raises}
-use Rattle.interleaving_core.proofs.Machines.{allowed, seated_within, flag_word_is}
+use Rattle.interleaving_core.proofs.Machines.{allowed, answers_refused, seated_within, flag_word_is}
 use Rattle.interleaving_core.proofs.MachineEvents.{raises_flag}
 use Rattle.interleaving_core.proofs.state.CoreState.raise.Goals as goal
 
@@ -49,3 +49,8 @@ returns c =
     (raises_flag c.self.inside _ _ _ refl _ _ _ _ _ _ x c.entry_at-programme.ensures.entry
     c.flag_group-group.ensures word
     (ap (λ n. bit_or c.index-2.result.now n) c.flag_mask.ensures) refl).step _ c.self.view_is
+
+pub returns-in_err-committed : goal.returns-in_err-committed
+returns-in_err-committed c =
+    answers_refused c.self.inside _ _ _ _ _ c.from_residual.ensures.0 c.self.view_is c.requires
+    c.index.ensures (c.in_err-committed.ensures c.self.inside.dict)

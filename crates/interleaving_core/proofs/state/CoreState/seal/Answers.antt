@@ -1,6 +1,6 @@
 use Rattle.std.proofs.Common.{refl, arith}
 use Rattle.interleaving_core.specs.Events.{Seals}
-use Rattle.interleaving_core.proofs.Machines.{allowed, sealed_within}
+use Rattle.interleaving_core.proofs.Machines.{allowed, answers_refused, sealed_within}
 use Rattle.interleaving_core.proofs.MachineEvents.{seals_turn}
 use Rattle.interleaving_core.proofs.state.CoreState.seal.Goals as goal
 
@@ -39,3 +39,8 @@ returns c =
     c.self.view_is c.requires c.index.ensures c.index_mut-2.ensures.value c.in_ok-turn.ensures.1
     in
     (seals_turn c.self.inside _ _ _ refl _ _ c.in_ok-turn.ensures.0 x refl).step _ c.self.view_is
+
+pub returns-in_err-turn : goal.returns-in_err-turn
+returns-in_err-turn c =
+    answers_refused c.self.inside _ _ _ _ _ c.from_residual.ensures.0 c.self.view_is c.requires
+    c.index.ensures c.in_err-turn.ensures

@@ -1,6 +1,6 @@
 use Rattle.std.proofs.Common.{ℕ, ◌+◌, nat_le, refl, ap, arith}
 use Rattle.interleaving_core.specs.Events.{Seats}
-use Rattle.interleaving_core.proofs.Machines.{allowed, ready_within, count_is, seats_small}
+use Rattle.interleaving_core.proofs.Machines.{allowed, answers_refused, ready_within, count_is, seats_small}
 use Rattle.interleaving_core.proofs.MachineEvents.{takes_seat}
 use Rattle.interleaving_core.proofs.state.CoreState.seat.Goals as goal
 
@@ -52,3 +52,8 @@ returns c =
     (takes_seat c.self.inside _ _ _ refl _ _ _ _ _ x c.entry_at-programme.ensures.entry count
     (ap (λ (q : ℕ). nat_le q
     (c.index-2.result.now + 1)) c.quota.ensures) refl).step _ c.self.view_is
+
+pub returns-in_err-committed : goal.returns-in_err-committed
+returns-in_err-committed c =
+    answers_refused c.self.inside _ _ _ _ _ c.from_residual.ensures.0 c.self.view_is c.requires
+    c.index.ensures (c.in_err-committed.ensures c.self.inside.dict)
