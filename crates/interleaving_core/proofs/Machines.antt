@@ -1,7 +1,8 @@
 -- A machine that makes an event. The worker that makes it is the only one to change, so the state
 -- after it is the event's, and the machine stays sound, with room for every turn.
-use Rattle.std.proofs.Common.{◌≡◌, ℕ, suc, ◌+◌, ◌<◌, ◌≤◌, Bool, true, false, List, [], ◌∷◌, ◌++◌, Option, Some, None, length, length-append, eqb, map, set, get_or, replicate, ⊎_elim, refl, sym, ap, ◌∙◌, subst, arith, vec_capacity, length-set}
+use Rattle.std.proofs.Common.{◌≡◌, ℕ, suc, ◌+◌, ◌<◌, ◌≤◌, Bool, true, false, List, [], ◌∷◌, ◌++◌, Option, Some, None, Result, Ok, Err, length, length-append, eqb, map, set, get_or, replicate, ⊎_elim, refl, sym, ap, ◌∙◌, subst, arith, vec_capacity, length-set}
 use Rattle.std.specs.Prelude.{slice_get, option_map}
+use Rattle.std.specs.Result.{IsErr}
 use Rattle.std.specs.Vec.{vec_len}
 use Rattle.std.proofs.lemmas.List.{map-set, length-map, map-append, length-replicate, replicate_more}
 use Rattle.std.proofs.lemmas.List.Sums.{sum_by-le}
@@ -15,13 +16,14 @@ use Rattle.interleaving_core.specs.declared.parts.Phase.{Phase}
 use Rattle.interleaving_core.specs.declared.parts.Phase.TheVariants.{Idle, Halted, Scan, Ready, Seated, Raised}
 use Rattle.interleaving_core.specs.declared.parts.Holding.{Holding}
 use Rattle.interleaving_core.specs.declared.events.CoreEvent.{CoreEvent}
+use Rattle.interleaving_core.specs.declared.events.NotNow.{NotNow}
 use Rattle.interleaving_core.specs.declared.events.Told.{Told}
 use Rattle.interleaving_core.specs.declared.team.Worker.{Worker}
 use Rattle.interleaving_core.specs.declared.state.CoreState.TheInside.{Inside}
 use Rattle.interleaving_core.specs.Flags.{flag_group}
 use Rattle.interleaving_core.specs.Core.{View, Core, Machine, fresh_view, opening, turn_count, entry, hold_at}
 use Rattle.interleaving_core.specs.Events.{Action, event_of, Seals, CanSeal, IsAllowed, Refuses, view_after, words_after, after, told_by}
-use Rattle.interleaving_core.specs.Runs.{IsStep, IsNotNow}
+use Rattle.interleaving_core.specs.Runs.{IsStep, IsNotNow, Answers}
 use Rattle.interleaving_core.specs.Sound.{bit, done_bit, phase_seat_bit, holder_seat_bit, seat_bit, IsSoundPhase, IsSoundView, IsSound}
 use Rattle.interleaving_core.specs.Machines.{view_of, machine_of, IsKept, IsTeam, IsWithin}
 use Rattle.interleaving_core.proofs.Places.{each_set, at_snoc}
@@ -221,6 +223,15 @@ refused s now i w event is l e refuses =
     let same : view_of w ≡ v = cc (at, there) in
     subst (λ (x : View). Refuses s.dict x event) same refuses)
 
+-- the answer to such an event is an error, and the machine stays
+pub answers_refused : (s : Inside) (now : Machine) (i : ℕ) (w : Worker) (event : CoreEvent)
+    (answer : Result Told NotNow) → IsErr answer → machine_of s ≡ now
+    → i < length now.core.views → w ≡ get_or s.workers.items i w
+    → Refuses s.dict (view_of w) event → Answers now i event now answer
+answers_refused s now i w event (Ok told) err is l e refuses = absurd (cc err)
+answers_refused s now i w event (Err reason) err is l e refuses =
+    (refl, refused s now i w event is l e refuses)
+
 -- a claimed turn is one of the turns
 pub claim_within : (s : Inside) (i : ℕ) (w : Worker) (x : Claiming) → IsKept s
     → slice_get s.workers.items i ≡ Some w
@@ -280,13 +291,6 @@ pub flag_there : (s : Inside) (p g : ℕ) → IsKept s → p < length s.dict.quo
     → g < vec_len s.flags
 flag_there s p g k l e = let inside = flag_word_within s p k l in omega arith
 
--- a programme has its seat count
-pub seat_there : (s : Inside) (p : ℕ) → IsKept s → p < length s.dict.quota → p < vec_len s.seats
-seat_there s p k l =
-    let sound = k.sound in
-    let count = sound.seats.each_programme in
-    omega arith
-
 -- there are as many seat counts, as they were read, as programmes
 pub counts_fit : (s : Inside) (xs : List ℕ) → IsKept s → xs ≡ s.seats.items
     → length xs ≡ length s.dict.quota
@@ -294,13 +298,6 @@ counts_fit s xs k e =
     let same = ap (λ (ys : List ℕ). length ys) e in
     let sound = k.sound in
     let count = sound.seats.each_programme in
-    omega arith
-
--- a turn has its cell
-pub cell_there : (s : Inside) (n : ℕ) → IsKept s → n < turn_count s.dict → n < vec_len s.cells
-cell_there s n k l =
-    let sound = k.sound in
-    let count = sound.cells.each_turn in
     omega arith
 
 -- the turn that is committed

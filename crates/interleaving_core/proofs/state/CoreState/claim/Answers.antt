@@ -1,6 +1,6 @@
 use Rattle.std.proofs.Common.{Some, false, refl, arith}
 use Rattle.interleaving_core.specs.Events.{Claims}
-use Rattle.interleaving_core.proofs.Machines.{allowed, claims_small, has_room, worker_there}
+use Rattle.interleaving_core.proofs.Machines.{allowed, answers_refused, claims_small, has_room}
 use Rattle.interleaving_core.proofs.MachineEvents.{draws_turn, finds_no_turn}
 use Rattle.interleaving_core.proofs.state.CoreState.claim.Goals as goal
 
@@ -71,8 +71,7 @@ returns c =
       hold = me.hold;
     })).step _ c.self.view_is
 
-pub index-requires : goal.index-requires
-index-requires c = worker_there c.self.inside _ _ c.self.view_is c.requires
-
-pub index_mut-me-requires : goal.index_mut-me-requires
-index_mut-me-requires c = worker_there c.self.inside _ _ c.self.view_is c.requires
+pub returns-in_err-may_claim : goal.returns-in_err-may_claim
+returns-in_err-may_claim c =
+    answers_refused c.self.inside _ _ _ _ _ c.from_residual.ensures.0 c.self.view_is c.requires
+    c.index.ensures (c.in_err-may_claim.ensures c.self.inside.dict)

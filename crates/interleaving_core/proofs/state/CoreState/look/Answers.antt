@@ -1,6 +1,6 @@
 use Rattle.std.proofs.Common.{refl}
 use Rattle.interleaving_core.specs.Events.{Looks}
-use Rattle.interleaving_core.proofs.Machines.{allowed, worker_there, cell_there}
+use Rattle.interleaving_core.proofs.Machines.{allowed, answers_refused}
 use Rattle.interleaving_core.proofs.MachineEvents.{finds_post, finds_nothing}
 use Rattle.interleaving_core.proofs.state.CoreState.look.Goals as goal
 
@@ -36,11 +36,7 @@ returns c =
     (finds_nothing c.self.inside _ _ _ refl _ c.index-cell.result.now x c.index-cell.ensures
     c.in_default.not-Posted refl).step _ c.self.view_is
 
-pub index-requires : goal.index-requires
-index-requires c = worker_there c.self.inside _ _ c.self.view_is c.requires
-
-pub index-cell-requires : goal.index-cell-requires
-index-cell-requires c = cell_there c.self.inside _ c.self.invariant c.in_ok-committed.ensures.1
-
-pub index_mut-me-requires : goal.index_mut-me-requires
-index_mut-me-requires c = worker_there c.self.inside _ _ c.self.view_is c.requires
+pub returns-in_err-committed : goal.returns-in_err-committed
+returns-in_err-committed c =
+    answers_refused c.self.inside _ _ _ _ _ c.from_residual.ensures.0 c.self.view_is c.requires
+    c.index.ensures c.in_err-committed.ensures

@@ -1,6 +1,6 @@
 use Rattle.std.proofs.Common.{arith}
 use Rattle.interleaving_core.specs.Events.{Posts}
-use Rattle.interleaving_core.proofs.Machines.{allowed, within, has_own, worker_there}
+use Rattle.interleaving_core.proofs.Machines.{allowed, answers_refused, within, has_own}
 use Rattle.interleaving_core.proofs.MachineEvents.{posts_turn}
 use Rattle.interleaving_core.proofs.state.CoreState.post.Goals as goal
 
@@ -42,12 +42,7 @@ returns c =
     (posts_turn c.self.inside _ _ _ c.post.ensures.room _ _ _ _ x c.post.ensures.view).step _
     c.self.view_is
 
-pub index-requires : goal.index-requires
-index-requires c = worker_there c.self.inside _ _ c.self.view_is c.requires
-
-pub may_post-requires : goal.may_post-requires
-may_post-requires c =
-    within c.self.inside _ _ _ c.self.invariant c.self.view_is c.requires c.index.ensures
-
-pub index_mut-requires-2 : goal.index_mut-requires-2
-index_mut-requires-2 c = worker_there c.self.inside _ _ c.self.view_is c.requires
+pub returns-in_err-claim : goal.returns-in_err-claim
+returns-in_err-claim c =
+    answers_refused c.self.inside _ _ _ _ _ c.from_residual.ensures.0 c.self.view_is c.requires
+    c.index.ensures c.in_err-claim.ensures

@@ -1,6 +1,6 @@
 use Rattle.std.proofs.Common.{ℕ, get_or, ◌∙◌, ap, refl, bit_or}
 use Rattle.interleaving_core.specs.Events.{Raises}
-use Rattle.interleaving_core.proofs.Machines.{allowed, seated_within, flag_word_is, worker_there, flag_there}
+use Rattle.interleaving_core.proofs.Machines.{allowed, answers_refused, seated_within, flag_word_is}
 use Rattle.interleaving_core.proofs.MachineEvents.{raises_flag}
 use Rattle.interleaving_core.proofs.state.CoreState.raise.Goals as goal
 
@@ -50,21 +50,7 @@ returns c =
     c.flag_group-group.ensures word
     (ap (λ n. bit_or c.index-2.result.now n) c.flag_mask.ensures) refl).step _ c.self.view_is
 
-pub index-requires : goal.index-requires
-index-requires c = worker_there c.self.inside _ _ c.self.view_is c.requires
-
-pub entry_at-programme-requires-clause-valid : goal.entry_at-programme-requires-clause-valid
-entry_at-programme-requires-clause-valid c = c.self.invariant.valid
-
-pub index-requires-2 : goal.index-requires-2
-index-requires-2 c =
-    flag_there c.self.inside _ _ c.self.invariant c.entry_at-programme.ensures.programme
-    c.flag_group-group.ensures
-
-pub index_mut-requires : goal.index_mut-requires
-index_mut-requires c =
-    flag_there c.self.inside _ _ c.self.invariant c.entry_at-programme.ensures.programme
-    c.flag_group-group.ensures
-
-pub index_mut-requires-2 : goal.index_mut-requires-2
-index_mut-requires-2 c = worker_there c.self.inside _ _ c.self.view_is c.requires
+pub returns-in_err-committed : goal.returns-in_err-committed
+returns-in_err-committed c =
+    answers_refused c.self.inside _ _ _ _ _ c.from_residual.ensures.0 c.self.view_is c.requires
+    c.index.ensures (c.in_err-committed.ensures c.self.inside.dict)

@@ -1,6 +1,6 @@
 use Rattle.std.proofs.Common.{true, false, refl, arith}
 use Rattle.interleaving_core.specs.Events.{Reads}
-use Rattle.interleaving_core.proofs.Machines.{allowed, within, worker_there, counts_fit, list_short}
+use Rattle.interleaving_core.proofs.Machines.{allowed, answers_refused, within, worker_there, counts_fit, list_short}
 use Rattle.interleaving_core.proofs.MachineEvents.{reads_entry}
 use Rattle.interleaving_core.proofs.state.CoreState.read.Goals as goal
 
@@ -80,3 +80,8 @@ has_seat-open-requires-clause-seats c =
 
 pub index_mut-me-requires : goal.index_mut-me-requires
 index_mut-me-requires c = worker_there c.self.inside _ _ c.self.view_is c.requires
+
+pub returns-in_err-claim : goal.returns-in_err-claim
+returns-in_err-claim c =
+    answers_refused c.self.inside _ _ _ _ _ c.from_residual.ensures.0 c.self.view_is c.requires
+    c.index.ensures c.in_err-claim.ensures

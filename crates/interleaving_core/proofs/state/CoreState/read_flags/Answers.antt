@@ -3,7 +3,7 @@ use Rattle.interleaving_core.specs.declared.parts.Claiming.{Claiming}
 use Rattle.interleaving_core.specs.Flags.{flag_group}
 use Rattle.interleaving_core.specs.Events.{ReadsFlags, with_claim}
 use Rattle.interleaving_core.specs.Machines.{view_of}
-use Rattle.interleaving_core.proofs.Machines.{allowed, flag_word_is, within, worker_there, flag_there}
+use Rattle.interleaving_core.proofs.Machines.{allowed, answers_refused, flag_word_is, within, worker_there, flag_there}
 use Rattle.interleaving_core.proofs.MachineEvents.{reads_flags}
 use Rattle.interleaving_core.proofs.state.CoreState.read_flags.Goals as goal
 
@@ -73,3 +73,8 @@ past_flags-next-requires-clause-place c = c.in_ok-claim.ensures.1
 
 pub index_mut-requires : goal.index_mut-requires
 index_mut-requires c = worker_there c.self.inside _ _ c.self.view_is c.requires
+
+pub returns-in_err-claim : goal.returns-in_err-claim
+returns-in_err-claim c =
+    answers_refused c.self.inside _ _ _ _ _ c.from_residual.ensures.0 c.self.view_is c.requires
+    c.index.ensures c.in_err-claim.ensures

@@ -1,6 +1,6 @@
 use Rattle.std.proofs.Common.{refl}
 use Rattle.interleaving_core.specs.Events.{Releases}
-use Rattle.interleaving_core.proofs.Machines.{allowed, worker_there}
+use Rattle.interleaving_core.proofs.Machines.{allowed, answers_refused}
 use Rattle.interleaving_core.proofs.MachineEvents.{frees_mark}
 use Rattle.interleaving_core.proofs.state.CoreState.release.Goals as goal
 
@@ -20,8 +20,7 @@ returns c =
     c.in_ok-committed.ensures.1 in
     (frees_mark c.self.inside _ _ _ refl _ c.in_ok-committed.ensures.0 x refl).step _ c.self.view_is
 
-pub index-requires : goal.index-requires
-index-requires c = worker_there c.self.inside _ _ c.self.view_is c.requires
-
-pub index_mut-requires : goal.index_mut-requires
-index_mut-requires c = worker_there c.self.inside _ _ c.self.view_is c.requires
+pub returns-in_err-committed : goal.returns-in_err-committed
+returns-in_err-committed c =
+    answers_refused c.self.inside _ _ _ _ _ c.from_residual.ensures.0 c.self.view_is c.requires
+    c.index.ensures c.in_err-committed.ensures

@@ -1,6 +1,6 @@
 use Rattle.std.proofs.Common.{refl, arith}
 use Rattle.interleaving_core.specs.Events.{Seals}
-use Rattle.interleaving_core.proofs.Machines.{allowed, sealed_within, within, worker_there}
+use Rattle.interleaving_core.proofs.Machines.{allowed, answers_refused, sealed_within}
 use Rattle.interleaving_core.proofs.MachineEvents.{seals_turn}
 use Rattle.interleaving_core.proofs.state.CoreState.seal.Goals as goal
 
@@ -40,12 +40,7 @@ returns c =
     in
     (seals_turn c.self.inside _ _ _ refl _ _ c.in_ok-turn.ensures.0 x refl).step _ c.self.view_is
 
-pub index-requires : goal.index-requires
-index-requires c = worker_there c.self.inside _ _ c.self.view_is c.requires
-
-pub index_mut-requires-2 : goal.index_mut-requires-2
-index_mut-requires-2 c = worker_there c.self.inside _ _ c.self.view_is c.requires
-
-pub may_seal-requires : goal.may_seal-requires
-may_seal-requires c =
-    within c.self.inside _ _ _ c.self.invariant c.self.view_is c.requires c.index.ensures
+pub returns-in_err-turn : goal.returns-in_err-turn
+returns-in_err-turn c =
+    answers_refused c.self.inside _ _ _ _ _ c.from_residual.ensures.0 c.self.view_is c.requires
+    c.index.ensures c.in_err-turn.ensures

@@ -1,6 +1,6 @@
 use Rattle.std.proofs.Common.{ℕ, ◌+◌, nat_le, refl, ap, arith}
 use Rattle.interleaving_core.specs.Events.{Seats}
-use Rattle.interleaving_core.proofs.Machines.{allowed, ready_within, count_is, seats_small, worker_there, seat_there}
+use Rattle.interleaving_core.proofs.Machines.{allowed, answers_refused, ready_within, count_is, seats_small}
 use Rattle.interleaving_core.proofs.MachineEvents.{takes_seat}
 use Rattle.interleaving_core.proofs.state.CoreState.seat.Goals as goal
 
@@ -53,22 +53,7 @@ returns c =
     (ap (λ (q : ℕ). nat_le q
     (c.index-2.result.now + 1)) c.quota.ensures) refl).step _ c.self.view_is
 
-pub index-requires : goal.index-requires
-index-requires c = worker_there c.self.inside _ _ c.self.view_is c.requires
-
-pub entry_at-programme-requires-clause-valid : goal.entry_at-programme-requires-clause-valid
-entry_at-programme-requires-clause-valid c = c.self.invariant.valid
-
-pub index-requires-2 : goal.index-requires-2
-index-requires-2 c =
-    seat_there c.self.inside _ c.self.invariant c.entry_at-programme.ensures.programme
-
-pub index_mut-requires : goal.index_mut-requires
-index_mut-requires c =
-    seat_there c.self.inside _ c.self.invariant c.entry_at-programme.ensures.programme
-
-pub index_mut-requires-2 : goal.index_mut-requires-2
-index_mut-requires-2 c = worker_there c.self.inside _ _ c.self.view_is c.requires
-
-pub quota-requires : goal.quota-requires
-quota-requires c = c.entry_at-programme.ensures.programme
+pub returns-in_err-committed : goal.returns-in_err-committed
+returns-in_err-committed c =
+    answers_refused c.self.inside _ _ _ _ _ c.from_residual.ensures.0 c.self.view_is c.requires
+    c.index.ensures (c.in_err-committed.ensures c.self.inside.dict)

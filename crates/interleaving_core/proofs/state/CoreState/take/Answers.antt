@@ -1,6 +1,6 @@
 use Rattle.std.proofs.Common.{true, false, refl, sym}
 use Rattle.interleaving_core.specs.Events.{Takes}
-use Rattle.interleaving_core.proofs.Machines.{allowed, worker_there}
+use Rattle.interleaving_core.proofs.Machines.{allowed, answers_refused}
 use Rattle.interleaving_core.proofs.MachineEvents.{tries_mark}
 use Rattle.interleaving_core.proofs.state.CoreState.take.Goals as goal
 
@@ -32,8 +32,7 @@ returns c =
     c.index_mut-me.ensures.value (c.in_ok-may_take.ensures c.self.inside.dict) in
     (tries_mark c.self.inside _ _ _ refl false x (sym c.if-held.false) refl).step _ c.self.view_is
 
-pub index-requires : goal.index-requires
-index-requires c = worker_there c.self.inside _ _ c.self.view_is c.requires
-
-pub index_mut-me-requires : goal.index_mut-me-requires
-index_mut-me-requires c = worker_there c.self.inside _ _ c.self.view_is c.requires
+pub returns-in_err-may_take : goal.returns-in_err-may_take
+returns-in_err-may_take c =
+    answers_refused c.self.inside _ _ _ _ _ c.from_residual.ensures.0 c.self.view_is c.requires
+    c.index.ensures (c.in_err-may_take.ensures c.self.inside.dict)

@@ -1,7 +1,7 @@
 use Rattle.std.proofs.Common.{true, false, refl, arith}
 use Rattle.interleaving_core.specs.declared.parts.Phase.TheVariants.{Scan}
 use Rattle.interleaving_core.specs.Events.{Weighs}
-use Rattle.interleaving_core.proofs.Machines.{allowed, within, worker_there, counts_fit, list_short}
+use Rattle.interleaving_core.proofs.Machines.{allowed, answers_refused, within, worker_there, counts_fit, list_short}
 use Rattle.interleaving_core.proofs.MachineEvents.{weighs_entry}
 use Rattle.interleaving_core.proofs.state.CoreState.weigh.Goals as goal
 
@@ -77,3 +77,8 @@ has_seat-open-requires-clause-seats c =
 
 pub index_mut-me-requires : goal.index_mut-me-requires
 index_mut-me-requires c = worker_there c.self.inside _ _ c.self.view_is c.requires
+
+pub returns-in_err-committed : goal.returns-in_err-committed
+returns-in_err-committed c =
+    answers_refused c.self.inside _ _ _ _ _ c.from_residual.ensures.0 c.self.view_is c.requires
+    c.index.ensures c.in_err-committed.ensures
