@@ -1,13 +1,28 @@
 -- The text of a placement, row by row: what was written so far is its header and the rows of the
 -- first candidates.
 use Rattle.std.proofs.Common.{◌≡◌, ℕ, ◌+◌, ◌<◌, ◌≤◌, List, [], ◌∷◌, ◌++◌, length, take, get_or, sym, ap, ◌∙◌, arith, Option, Some, None}
-use Rattle.std.specs.Prelude.{codes, slice_get}
+use Rattle.std.specs.Prelude.{codes, decimal, slice_get, slice_index}
 use Rattle.std.specs.List.{flat_map, zip}
 use Rattle.std.proofs.lemmas.List.{flat_map_more, take_more, take_all}
 use Rattle.std.proofs.lemmas.Option.{slice_get-get_or}
 use Rattle.std.proofs.lemmas.Slice.Zip.{length-zip, get_or-zip}
 use Rattle.record_files.specs.Texts.{row_text}
-use Rattle.placement_file.specs.Texts.{candidate_row, placement_text}
+use Rattle.placement_file.specs.Texts.{candidate_row, held_text, placement_text}
+
+-- what a candidate without a programme holds is printed as a dash
+pub none_held : (programmes : List ℕ) (held : Option ℕ) → held ≡ None
+    → codes "-" ≡ held_text programmes held
+none_held programmes held none = ap (held_text programmes) (sym none)
+
+-- and a programme that is held is printed as its code
+pub code_is_held : (programmes : List ℕ) (held : Option ℕ) (p code : ℕ) → held ≡ Some p
+    → p < length programmes → slice_get programmes p ≡ Some code
+    → decimal code ≡ held_text programmes held
+code_is_held programmes held p code some within read =
+    let first : Some code ≡ Some (slice_index programmes p) = sym read ∙ slice_get-get_or
+    programmes p 0 within in
+    let same : code ≡ slice_index programmes p = cc in
+    ap decimal same ∙ ap (held_text programmes) (sym some)
 
 -- the header of a placement
 abbrev pub header : List ℕ
