@@ -1,4 +1,4 @@
-use Rattle.std.proofs.Common.{◌≡◌, ℕ, ◌<◌, true, false, List, length, sym, ap, ◌∙◌, subst, arith, get_or}
+use Rattle.std.proofs.Common.{ℕ, ◌<◌, true, false, List, length, sym, ap, ◌∙◌, subst, arith, get_or}
 use Rattle.std.proofs.lemmas.Bool.{false≢true}
 use Rattle.reports.proofs.EntryTests.{held-read}
 use Rattle.stability_audit.specs.Entries.{IsFirstEntry, WouldTake}
