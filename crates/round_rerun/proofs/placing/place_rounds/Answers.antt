@@ -1,6 +1,6 @@
-use Rattle.std.proofs.Common.{◌∙◌, arith}
+use Rattle.std.proofs.Common.{ℕ, ◌∙◌, arith}
 use Rattle.market.proofs.Plain.{rounds_small, total_small}
-use Rattle.market.proofs.Replays.{round-within, round-count}
+use Rattle.market.proofs.Replays.{round-within, round-count, round-table}
 use Rattle.market.specs.Reruns.{placement_turns}
 use Rattle.round_rerun.specs.Runs.{HasRisenWithin}
 use Rattle.round_rerun.proofs.Replaying.{replay-none, replay-within, replay-more, replay-fall, replay-short, replay-last, err_too}
@@ -115,3 +115,34 @@ returns-in_err-held-clause-refused g c =
     let risen : HasRisenWithin c.args.turns.now c.run_round.new.turns
     (placement_turns c.args.market.now) = (omega arith, omega arith) in
     err_too _ _ risen
+
+pub overflow_add-done : goal.overflow_add-done
+overflow_add-done g c =
+    let fits = c.rounds.auto.rounds-fits in
+    let before = c.rounds.invariant.replay.few in
+    let ran = c.in_ok-done.ensures.few in
+    omega arith
+
+pub cut_lists-touched-requires-clause-table : goal.cut_lists-touched-requires-clause-table
+cut_lists-touched-requires-clause-table g c =
+    round-table c.args.market.now c.rounds.cuts c.run_round.new.tentative c.in_ok-done.ensures.round
+
+pub best_programmes-requires : goal.best_programmes-requires
+best_programmes-requires g c =
+    round-table c.args.market.now c.rounds.cuts c.run_round.new.tentative c.in_ok-done.ensures.round
+
+-- a counter that stands still has risen within any number of turns
+stands_still : (turns most : ℕ) → HasRisenWithin turns turns most
+stands_still turns most = (omega arith, omega arith)
+
+pub returns-in_err-cuts-clause-refused : goal.returns-in_err-cuts-clause-refused
+returns-in_err-cuts-clause-refused g c =
+    err_too _ _ (stands_still c.args.turns.now (placement_turns c.args.market.now))
+
+pub returns-in_err-tentative-clause-refused : goal.returns-in_err-tentative-clause-refused
+returns-in_err-tentative-clause-refused g c =
+    err_too _ _ (stands_still c.args.turns.now (placement_turns c.args.market.now))
+
+pub returns-then-count-eq0-clause-turns : goal.returns-then-count-eq0-clause-turns
+returns-then-count-eq0-clause-turns g c =
+    omega (arith, c.rounds.invariant.steps, c.in_ok-done.ensures.turns)

@@ -1,4 +1,4 @@
-use Rattle.std.proofs.Common.{◌≡◌, ℕ, ◌+◌, ◌∙◌, ap, sym, subst, length, [], arith}
+use Rattle.std.proofs.Common.{◌≡◌, ℕ, ◌+◌, ◌∙◌, ap, refl, sym, subst, length, [], arith}
 use Rattle.std.specs.Prelude.{slice_index_or}
 use Rattle.market.specs.Dictatorships.{Dictatorship, choice}
 use Rattle.market.specs.LocalNumbers.{local_dictatorship, IsFillBefore}
@@ -94,3 +94,20 @@ returns-clause-count g c =
     c.turns.ensures.count
     ∙ ap (λ (x : Dictatorship). length x.lists) c.in_ok-dict.ensures.dictatorship
     ∙ local-turns c.args.market.now c.args.cuts.now c.deref.result.now c.args.kind c.args.from
+
+pub loop-turn-init : goal.loop-turn-init
+loop-turn-init g c =
+    let m = c.args.market.now in
+    let t = c.args.kind in
+    let at : c.args.from ≡ c.args.from + 0 = omega arith in
+    record {
+      types = c.requires.types;
+      row = subst (λ (n : ℕ). IsRunUpto m c.args.cuts.now t n
+          (slice_index_or c.args.tentative.now t [])) at c.requires.kept;
+      others = λ _ _. refl;
+    }
+
+pub returns-clause-turns : goal.returns-clause-turns
+returns-clause-turns g c =
+    c.in_ok-words.ensures.turns
+    ∙ ap (λ (n : ℕ). c.args.turns.now + n) (sym c.turns.ensures.count)
