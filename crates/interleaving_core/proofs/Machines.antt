@@ -291,15 +291,6 @@ pub flag_there : (s : Inside) (p g : ℕ) → IsKept s → p < length s.dict.quo
     → g < vec_len s.flags
 flag_there s p g k l e = let inside = flag_word_within s p k l in omega arith
 
--- there are as many seat counts, as they were read, as programmes
-pub counts_fit : (s : Inside) (xs : List ℕ) → IsKept s → xs ≡ s.seats.items
-    → length xs ≡ length s.dict.quota
-counts_fit s xs k e =
-    let same = ap (λ (ys : List ℕ). length ys) e in
-    let sound = k.sound in
-    let count = sound.seats.each_programme in
-    omega arith
-
 -- the turn that is committed
 pub sealed_within : (s : Inside) (i : ℕ) (w : Worker) (c j : ℕ) (phase : Phase) → IsKept s
     → slice_get s.workers.items i ≡ Some w → IsAllowed s.dict (view_of w) (Seals c j phase)

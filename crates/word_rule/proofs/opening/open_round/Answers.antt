@@ -1,8 +1,7 @@
-use Rattle.std.proofs.Common.{ℕ, ◌<◌, List, [], length, ap, sym, ◌∙◌, subst}
+use Rattle.std.proofs.Common.{ℕ, ◌<◌, List, length, ap, sym, ◌∙◌, subst}
 use Rattle.market.specs.Dictatorships.{IsValidDictatorship}
 use Rattle.interleaving_core.specs.Core.{turn_count}
 use Rattle.word_rule.specs.Layout.{first_words, programme_count, word_count}
-use Rattle.word_rule.specs.Views.{first_seat}
 use Rattle.word_rule.specs.declared.rule.RoundKey.{RoundKey}
 use Rattle.word_rule.proofs.Openings.{first_words_long, table_opens}
 use Rattle.word_rule.proofs.ShownOpenings.{shows_opening}
@@ -34,38 +33,3 @@ invariant_of-round c =
       no_slots = made.1;
       staffed = subst (λ (k : RoundKey). 0 < k.workers) (sym made.5) c.requires.0;
     }
-
-pub split_all-requires-clause-table : goal.split_all-requires-clause-table
-split_all-requires-clause-table c = let made = c.in_ok-table.ensures {u = tt} in made.2
-
-pub split_all-requires-clause-first : goal.split_all-requires-clause-first
-split_all-requires-clause-first c =
-    let made = c.in_ok-table.ensures {u = tt} in
-    made.4 ∙ ap (λ (k : RoundKey). (first_seat k.dict.value c.args.workers, [])) (sym made.5)
-
-pub split_all-requires-clause-workers : goal.split_all-requires-clause-workers
-split_all-requires-clause-workers c =
-    let made = c.in_ok-table.ensures {u = tt} in
-    (c.requires.0, ap (λ (k : RoundKey). k.workers) made.5)
-
-pub split_all-requires-clause-empty : goal.split_all-requires-clause-empty
-split_all-requires-clause-empty c = (c.in_ok-seats.ensures.items, c.in_ok-seats.ensures.len)
-
-pub returns-clause-dict : goal.returns-clause-dict
-returns-clause-dict c =
-    let made = c.in_ok-table.ensures {u = tt} in
-    ap (λ (k : RoundKey). k.dict.value) made.5 ∙ c.of.ensures
-
-pub returns-clause-workers : goal.returns-clause-workers
-returns-clause-workers c =
-    let made = c.in_ok-table.ensures {u = tt} in
-    ap (λ (k : RoundKey). k.workers) made.5
-
-pub returns-clause-seats : goal.returns-clause-seats
-returns-clause-seats c = c.split_all.ensures.count
-
-pub returns-clause-new : goal.returns-clause-new
-returns-clause-new c = c.split_all.ensures.new
-
-pub returns-clause-shares : goal.returns-clause-shares
-returns-clause-shares c = c.split_all.ensures.shares

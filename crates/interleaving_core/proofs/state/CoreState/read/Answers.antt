@@ -1,6 +1,6 @@
 use Rattle.std.proofs.Common.{true, false, refl, arith}
 use Rattle.interleaving_core.specs.Events.{Reads}
-use Rattle.interleaving_core.proofs.Machines.{allowed, answers_refused, within, worker_there, counts_fit, list_short}
+use Rattle.interleaving_core.proofs.Machines.{allowed, answers_refused, within, list_short}
 use Rattle.interleaving_core.proofs.MachineEvents.{reads_entry}
 use Rattle.interleaving_core.proofs.state.CoreState.read.Goals as goal
 
@@ -60,26 +60,6 @@ returns c =
     c.requires c.index.ensures c.index_mut-me.ensures.value c.in_ok-claim.ensures in
     (reads_entry c.self.inside _ _ _ refl _ _ false c.has_seat-open.result c.deref.result.now x
     c.if-open.false c.has_seat-open.ensures c.deref.ensures.value refl).step _ c.self.view_is
-
-pub index-requires : goal.index-requires
-index-requires c = worker_there c.self.inside _ _ c.self.view_is c.requires
-
-pub may_read-requires : goal.may_read-requires
-may_read-requires c =
-    within c.self.inside _ _ _ c.self.invariant c.self.view_is c.requires c.index.ensures
-
-pub has_seat-open-requires-clause-valid : goal.has_seat-open-requires-clause-valid
-has_seat-open-requires-clause-valid c = c.self.invariant.valid
-
-pub has_seat-open-requires-clause-place : goal.has_seat-open-requires-clause-place
-has_seat-open-requires-clause-place c = c.in_ok-claim.ensures.1
-
-pub has_seat-open-requires-clause-seats : goal.has_seat-open-requires-clause-seats
-has_seat-open-requires-clause-seats c =
-    counts_fit c.self.inside _ c.self.invariant c.deref.ensures.value
-
-pub index_mut-me-requires : goal.index_mut-me-requires
-index_mut-me-requires c = worker_there c.self.inside _ _ c.self.view_is c.requires
 
 pub returns-in_err-claim : goal.returns-in_err-claim
 returns-in_err-claim c =

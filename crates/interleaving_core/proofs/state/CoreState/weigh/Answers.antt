@@ -1,7 +1,7 @@
 use Rattle.std.proofs.Common.{true, false, refl, arith}
 use Rattle.interleaving_core.specs.declared.parts.Phase.TheVariants.{Scan}
 use Rattle.interleaving_core.specs.Events.{Weighs}
-use Rattle.interleaving_core.proofs.Machines.{allowed, answers_refused, within, worker_there, counts_fit, list_short}
+use Rattle.interleaving_core.proofs.Machines.{allowed, answers_refused, within, list_short}
 use Rattle.interleaving_core.proofs.MachineEvents.{weighs_entry}
 use Rattle.interleaving_core.proofs.state.CoreState.weigh.Goals as goal
 
@@ -57,26 +57,6 @@ returns c =
     c.requires c.index.ensures c.index_mut-me.ensures.value c.in_ok-committed.ensures in
     (weighs_entry c.self.inside _ _ _ refl _ _ false c.has_seat-open.result c.deref.result.now x
     c.if-open.false c.has_seat-open.ensures c.deref.ensures.value refl).step _ c.self.view_is
-
-pub index-requires : goal.index-requires
-index-requires c = worker_there c.self.inside _ _ c.self.view_is c.requires
-
-pub may_weigh-requires : goal.may_weigh-requires
-may_weigh-requires c =
-    within c.self.inside _ _ _ c.self.invariant c.self.view_is c.requires c.index.ensures
-
-pub has_seat-open-requires-clause-valid : goal.has_seat-open-requires-clause-valid
-has_seat-open-requires-clause-valid c = c.self.invariant.valid
-
-pub has_seat-open-requires-clause-place : goal.has_seat-open-requires-clause-place
-has_seat-open-requires-clause-place c = c.in_ok-committed.ensures.1
-
-pub has_seat-open-requires-clause-seats : goal.has_seat-open-requires-clause-seats
-has_seat-open-requires-clause-seats c =
-    counts_fit c.self.inside _ c.self.invariant c.deref.ensures.value
-
-pub index_mut-me-requires : goal.index_mut-me-requires
-index_mut-me-requires c = worker_there c.self.inside _ _ c.self.view_is c.requires
 
 pub returns-in_err-committed : goal.returns-in_err-committed
 returns-in_err-committed c =
