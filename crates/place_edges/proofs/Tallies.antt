@@ -1,23 +1,10 @@
--- What the tally says at each end of a read.
-use Rattle.std.proofs.Common.{◌≡◌, ℕ, ◌+◌, ◌-◌, ◌^◌, ◌<◌, ◌≤◌, ⊎_elim, inl, inr, arith, Result, Ok, Err}
+-- What the tally says where a read fails.
+use Rattle.std.proofs.Common.{◌≡◌, ℕ, ◌+◌, ◌-◌, ◌^◌, ◌<◌, ◌≤◌, ⊎_elim, inl, inr, arith, Result, Err}
 use Rattle.std.proofs.lemmas.Bool.{cases_lt}
 use Rattle.place_edges.specs.Shelf.{file_limit, piece_size, tally_with}
 use Rattle.place_edges.specs.Whole.{HasTally}
 use Rattle.place_edges.specs.declared.whole.ReadStop.{ReadStop}
 use Rattle.place_edges.specs.declared.whole.ReadStop.TheVariants.{Failed, TooLong, Memory}
-
--- the tally after a read of a whole file
-pub tally_whole : {T : Type 0} (bytes : T) (before middle now size count : ℕ)
-    → middle ≡ tally_with before size → now ≡ tally_with middle count
-    → size + count ≤ file_limit → HasTally (Ok bytes) before now
-tally_whole bytes before middle now size count m n few = record {
-  later = omega arith;
-  long = λ h. cc;
-  failed = λ h. cc;
-  memory = λ h. cc;
-  bounded = omega arith;
-  begun = λ h. cc;
-}
 
 -- the tally where the shelf failed
 pub tally_failed : {T : Type 0} (result : Result T ReadStop) (before now size : ℕ)

@@ -1,6 +1,6 @@
 -- Which reason an entry has, by three tests.
-use Rattle.std.proofs.Common.{◌≡◌, ℕ, Bool, true, false, List, Option, sym, ap, ◌∙◌}
-use Rattle.std.specs.Prelude.{if◌then◌else◌, slice_index}
+use Rattle.std.proofs.Common.{◌≡◌, ℕ, Bool, true, false, List, Option, ap, ◌∙◌}
+use Rattle.std.specs.Prelude.{if◌then◌else◌}
 use Rattle.market.specs.Counting.{is_programme}
 use Rattle.market.specs.Problems.{Problem, admits, list_of}
 use Rattle.market.specs.BaseRanks.{base_rank}
@@ -49,24 +49,6 @@ reason-above m held i place h b =
     (admits m (entry_at m i place) i) (base_rank m held (entry_at m i place))) h
     ∙ ap (λ (x : Bool). by_tests false x
     (admits m (entry_at m i place) i) (base_rank m held (entry_at m i place))) b
-
--- whether an entry is held, by what was read of the list and of the placement
-pub held-read : (m : Problem) (held : List (Option ℕ)) (i place : ℕ) (list : List ℕ)
-    (holds : Option ℕ) (told answer : Bool) → list ≡ list_of m i → holds ≡ held_by held i
-    → told ≡ is_programme (slice_index list place) holds → told ≡ answer
-    → is_programme (entry_at m i place) (held_by held i) ≡ answer
-held-read m held i place list holds told answer lists at tells is =
-    ap (λ (xs : List ℕ). is_programme (slice_index xs place) (held_by held i)) (sym lists)
-    ∙ ap (is_programme (slice_index list place)) (sym at) ∙ sym tells ∙ is
-
--- whether what is held stands before an entry, by the same
-pub before-read : (m : Problem) (held : List (Option ℕ)) (i place : ℕ) (list : List ℕ)
-    (holds : Option ℕ) (told answer : Bool) → list ≡ list_of m i → holds ≡ held_by held i
-    → told ≡ stands_before list holds place → told ≡ answer
-    → stands_before (list_of m i) (held_by held i) place ≡ answer
-before-read m held i place list holds told answer lists at tells is =
-    ap (λ (xs : List ℕ). stands_before xs (held_by held i) place) (sym lists)
-    ∙ ap (λ (o : Option ℕ). stands_before list o place) (sym at) ∙ sym tells ∙ is
 
 -- what is so where the reason is that the programme is full
 pub record IsFullEntry (m : Problem) (held : List (Option ℕ)) (i place : ℕ) : Type 0 where

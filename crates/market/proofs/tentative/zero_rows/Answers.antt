@@ -7,7 +7,8 @@ loop-preserved c =
     let k = c.loop.counter in
     let zeros : List ℕ = replicate c.args.count 0 in
     let row = c.from_vec.ensures ∙ c.in_ok-row.ensures.items_if_clones_equal (λ y h. h) in
-    c.in_ok-push.ensures.items
+    let pushed : ◌≡◌ {A = List (List ℕ)} c.push.new.self.items _ = c.in_ok-push.ensures.items in
+    pushed
     ∙ ap (λ (xs : List (List ℕ)). xs ++ c.from_vec.result ∷ []) c.loop.invariant
     ∙ ap (λ (xs : List ℕ). replicate k zeros ++ xs ∷ []) row
     ∙ replicate_more k zeros

@@ -1,8 +1,8 @@
-use Rattle.std.proofs.Common.{◌≡◌, ◌∙◌, ap, sym, subst, List, Option, length, drop, arith}
+use Rattle.std.proofs.Common.{◌≡◌, ℕ, ◌∙◌, ap, sym, subst, List, Option, length, drop, arith}
 use Rattle.std.specs.Option.{IfSome}
 use Rattle.std.specs.Prelude.{slice_index_or}
 use Rattle.std.proofs.lemmas.List.{get_or-set_other, length-set, length_push, take_at}
-use Rattle.market.specs.TypeLists.{FlatTypeLists, IsTypeLists}
+use Rattle.market.specs.TypeLists.{FlatTypeLists, IsTypeLists, type_lists_at}
 use Rattle.market.proofs.TurnLists.{type_lists_more}
 use Rattle.market.proofs.type_lists_by.type_lists_by.Goals as goal
 
@@ -16,10 +16,12 @@ loop-kind-init g c =
     let all : length made ≡ c.type_count-types.result = omega arith in
     let whole =
     take_at made (drop (length made) c.in_ok-made.made.items) c.in_ok-made.made.len same in
+    let found = c.new-found.result.items in
+    let none = λ (t : ℕ). IsTypeLists c.args.parts.now t (type_lists_at found t) in
     record {
       made = ap (λ (os : List (Option FlatTypeLists)). length os) whole ∙ all;
       count = ap (λ (xs : List FlatTypeLists). length xs) c.new-found.ensures.items;
-      each = λ t l. absurd (omega arith);
+      each = λ t l. absurd {A = none t} (omega arith);
       left = λ t d h l.
           subst
           (λ (os : List (Option FlatTypeLists)).

@@ -14,10 +14,11 @@ returns-in-None g c =
     let read = c.in_ok-read.ensures in
     let all = data_rows c.args.bytes.now in
     let count = c.in_ok-read.read.count in
+    let rows = g.T.RowTable.has_rows c.args.beside.now in
     let whole : count ≡ length all = read.taken.whole c.in-None.is in (
       read.first ∙ c.in-None.is,
       subst
-          (λ (rows : List Row). g.T.RowTable.has_rows c.args.beside.now rows c.in_ok-read.read.table)
+          (λ (xs : List Row). rows xs c.in_ok-read.read.table)
           (take_all count all (omega arith))
           read.taken.has,
     )

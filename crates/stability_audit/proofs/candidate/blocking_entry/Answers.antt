@@ -1,6 +1,8 @@
-use Rattle.std.proofs.Common.{ℕ, ◌<◌, true, false, List, length, sym, ap, ◌∙◌, subst, arith, get_or}
+use Rattle.std.proofs.Common.{◌≡◌, ℕ, ◌<◌, true, false, List, length, sym, ap, ◌∙◌, subst, arith, get_or}
 use Rattle.std.proofs.lemmas.Bool.{false≢true}
-use Rattle.reports.proofs.EntryTests.{held-read}
+use Rattle.market.specs.Counting.{is_programme}
+use Rattle.market.specs.Problems.{list_of}
+use Rattle.market.specs.Stability.{held_by}
 use Rattle.stability_audit.specs.Entries.{IsFirstEntry, WouldTake}
 use Rattle.stability_audit.proofs.Looking.{HasPassed-none, HasPassed-more, HasPassed-all, held-ends, first-entry}
 use Rattle.stability_audit.proofs.candidate.blocking_entry.Goals as goal
@@ -15,9 +17,7 @@ returns-then-is_held c =
     let i = c.args.candidate in
     let k = c.loop-programme.programme-index in
     let size = ap (λ (xs : List ℕ). length xs) c.list-programme-items.ensures.list in
-    let is = held-read m held i k c.list-programme-items.result.now c.holds-held.result
-    c.is_held.result true c.list-programme-items.ensures.list c.holds-held.ensures
-    c.is_held.ensures c.if-is_held.true in
+    let is : is_programme (get_or (list_of m i) k 0) (held_by held i) ≡ true = cc in
     held-ends m c.candidate_count.ensures.valid held i k (omega arith) c.loop-programme.invariant is
 
 pub would_take-requires-clause-programme : goal.would_take-requires-clause-programme
@@ -38,9 +38,7 @@ returns-then-would_take c =
     let k = c.loop-programme.programme-index in
     let size = ap (λ (xs : List ℕ). length xs) c.list-programme-items.ensures.list in
     let entry = ap (λ (xs : List ℕ). get_or xs k 0) c.list-programme-items.ensures.list in
-    let other = held-read m held i k c.list-programme-items.result.now c.holds-held.result
-    c.is_held.result false c.list-programme-items.ensures.list c.holds-held.ensures
-    c.is_held.ensures c.if-is_held.false in
+    let other : is_programme (get_or (list_of m i) k 0) (held_by held i) ≡ false = cc in
     let takes = subst (λ (p : ℕ). WouldTake m held i p) entry
     (c.would_take.ensures.0 c.if-would_take.true) in
     subst (λ (p : ℕ). IsFirstEntry m held i p) (sym entry)
@@ -55,9 +53,7 @@ loop-programme-preserved c =
     let k = c.loop-programme.programme-index in
     let size = ap (λ (xs : List ℕ). length xs) c.list-programme-items.ensures.list in
     let entry = ap (λ (xs : List ℕ). get_or xs k 0) c.list-programme-items.ensures.list in
-    let other = held-read m held i k c.list-programme-items.result.now c.holds-held.result
-    c.is_held.result false c.list-programme-items.ensures.list c.holds-held.ensures
-    c.is_held.ensures c.if-is_held.false in
+    let other : is_programme (get_or (list_of m i) k 0) (held_by held i) ≡ false = cc in
     HasPassed-more m held i k (omega arith) c.loop-programme.invariant other
     (λ takes. false≢true (sym c.if-would_take.false ∙ c.would_take.ensures.1
     (subst (λ (p : ℕ). WouldTake m held i p) (sym entry) takes)))
