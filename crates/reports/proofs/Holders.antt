@@ -60,7 +60,8 @@ pub record HasCounted (m : Problem) (held : List (Option ℕ)) (table : BaseTabl
     pub base_count : length table.bases ≡ length m.programmes
     pub held_count : length table.held ≡ length m.programmes
     pub bases : (p : ℕ) → p < length m.programmes → base_of table p ≡ base_upto m held p n
-    pub holders : (p : ℕ) → p < length m.programmes → holder_count table p ≡ count_of p (take n held)
+    pub holders : (p : ℕ) → p < length m.programmes
+        → holder_count table p ≡ count_of p (take n held)
 
 -- a table of none and of 0 has counted nobody
 pub HasCounted-none : (m : Problem) (held : List (Option ℕ)) (table : BaseTable)
