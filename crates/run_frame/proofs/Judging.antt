@@ -54,7 +54,7 @@ judged-bytes told name bytes judge result before now tally_before tally_now held
             long = λ many. absurd (omega (arith, few, many));
             once = λ many. absurd (omega (arith, few, many));
           });
-      once = omega (arith, few, given);
+      few = λ _. omega (arith, few, given);
       begun = λ unread. begun-bytes bytes tally_before tally_now given;
       causes = causes;
     }
@@ -93,7 +93,7 @@ judged-unread told name kind judge (Fault found) before now tally_before tally_n
             long = λ many. causes.long kind (ap (λ v. Err (Fault v)) is);
             once = λ many. causes.once;
           });
-      once = causes.once;
+      few = λ undecided. absurd (undecided refl);
       begun = λ unread.
           inr (omega (arith, causes.tally, causes.long kind (ap (λ v. Err (Fault v)) is)));
       causes = same-causes _ before now tally_before tally_now causes;
@@ -105,7 +105,7 @@ judged-unread told name kind judge ReadFault before now tally_before tally_now l
       held = file.1;
       meets = inl refl;
       taken = λ bytes same decided. cc decided;
-      once = causes.once;
+      few = λ _. causes.failed refl;
       begun = λ unread. absurd (unread refl);
       causes = same-causes _ before now tally_before tally_now causes;
     }
@@ -116,7 +116,7 @@ judged-unread told name kind judge Memory before now tally_before tally_now long
       held = file.1;
       meets = inl refl;
       taken = λ bytes same decided. cc decided;
-      once = causes.once;
+      few = λ _. causes.refused refl;
       begun = λ unread. inr (begun refl);
       causes = same-causes _ before now tally_before tally_now causes;
     }

@@ -1,16 +1,16 @@
 -- Files that are read and judged one after the other come to what is said of all of them: what the
 -- files behind one come to is what they all come to.
-use Rattle.std.proofs.Common.{◌≡◌, ℕ, ◌+◌, ◌≤◌, List, [], ◌∷◌, Option, Some, None, Result, Ok, Err, refl, sym, ap, subst, ◌∙◌, inl, inr, arith, ⊎_elim}
+use Rattle.std.proofs.Common.{◌≡◌, ℕ, ◌+◌, ◌≤◌, List, [], ◌∷◌, Option, Some, None, Result, Ok, Err, refl, sym, ap, subst, ◌∙◌, append-nil, inl, inr, arith, ⊎_elim}
 use Rattle.std.specs.Prelude.{Bool, IsErrAnd, IsErrOf, IsFalse, IsTrue, option_map}
 use Rattle.place_base.specs.declared.fault.FileKind.{FileKind}
 use Rattle.place_base.specs.declared.fault.FileKind.TheVariants as file
-use Rattle.place_edges.specs.Shelf.{Files, GaveMore, file_limit, piece_size}
+use Rattle.place_edges.specs.Shelf.{Files, GaveMore, file_limit}
 use Rattle.run_frame.specs.Files.{AreHeld, AreRead, AreTaken, AreTakenUpTo, HasBegun, HasCauses, IsHeld, IsJudged, IsTaken, Reads}
 use Rattle.run_frame.specs.Meetings.{Meets}
 use Rattle.run_frame.specs.Says.{and_then, opened, read_from}
 use Rattle.run_frame.specs.Stops.{is_free, is_free_stop, too_long}
 use Rattle.run_frame.specs.declared.stop.FileStop.{FileStop}
-use Rattle.run_frame.specs.declared.stop.FileStop.TheVariants.{Fault, ReadFault}
+use Rattle.run_frame.specs.declared.stop.FileStop.TheVariants.{Fault, ReadFault, Memory}
 use Rattle.run_frame.specs.declared.stop.Stop.{Stop}
 use Rattle.run_frame.specs.declared.stop.Stop.TheVariants.{File}
 use Rattle.run_frame.proofs.Parts.{at-error}
@@ -50,7 +50,7 @@ up-to-ok judge next given held table before between now same meets taken rest =
     })))
 
 -- of the first file so many bytes may be taken
-none-taken : (files : List (List ℕ)) (before now : ℕ) → now ≤ before + file_limit + piece_size
+none-taken : (files : List (List ℕ)) (before now : ℕ) → now ≤ before + file_limit
     → AreTakenUpTo files before now
 none-taken files before now few = record {
   front = [];
@@ -60,6 +60,23 @@ none-taken files before now few = record {
   taken = refl;
   more = few;
 }
+
+-- files that end in a stop: all are taken where it decides, and else so many bytes of the first
+up-to-stop : (files : List (List ℕ)) (stop : FileStop) (before now : ℕ)
+    → (IsFalse (is_free stop) → AreTaken files before now)
+    → ((IsFalse (is_free stop) → ⊥) → now ≤ before + file_limit) → AreTakenUpTo files before now
+up-to-stop files (Fault found) before now taken few = record {
+  front = files;
+  behind = [];
+  all = append-nil files;
+  between = now;
+  taken = taken refl;
+  more = omega arith;
+}
+up-to-stop files ReadFault before now taken few =
+    none-taken files before now (few (λ decided. cc decided))
+up-to-stop files Memory before now taken few =
+    none-taken files before now (few (λ decided. cc decided))
 
 -- no file is taken behind one that has a stop
 pub taken-stop : {T : Type 0} (judge : List ℕ → Result T FileStop) (next : T → List (List ℕ))
@@ -242,14 +259,15 @@ module _ {W : Type 0} (told : Option Files) (names : FileKind → List ℕ) wher
       let held = are-held told names in
       let all = with_read told kind one.bytes others in
       let same = at-read told names kind one.bytes others held one.held in
+      let taken = taken-stop judge (λ table. files table all) (all kind) one.bytes stop
+      tally_before tally_now same one.meets one.taken in
       record {
         reads = all;
         held = held-with told names kind one.bytes others held;
         meets = opened-stop judge (λ table. next table all) (all kind) one.bytes stop same
             one.meets;
-        taken = λ decided. taken-stop judge (λ table. files table all) (all kind) one.bytes stop
-            tally_before tally_now same one.meets one.taken decided;
-        once = none-taken _ tally_before tally_now one.once;
+        taken = taken;
+        once = up-to-stop _ stop tally_before tally_now taken one.few;
         begun = λ unread. subst (λ v. HasBegun v tally_before tally_now) (sym same)
             (one.begun (λ e. let is : stop ≡ ReadFault = cc e in
             unread (ap (λ v. Err (File v)) is)));

@@ -27,8 +27,8 @@ pub record HasCauses {T S : Type 0} (stopped : FileStop → S) (result : Result 
       → GaveMore tally_before tally_now file_limit
 
 -- The causes of what reading one file came to; and in no case were more bytes taken than one piece
--- beyond 2^30, nor more than 2^30 where a read failed, so that the reading of a file that is too
--- long, or whose last piece cannot be read, is not begun again.
+-- beyond 2^30, nor more than 2^30 where a read failed or memory was refused, so that the reading of
+-- a file that is too long, or whose last piece cannot be read, is not begun again.
 pub record HasFileCauses {T : Type 0} (result : Result T FileStop)
     (before now tally_before tally_now : ℕ) : Type 0 where
   pub faults : before ≤ now
@@ -38,6 +38,7 @@ pub record HasFileCauses {T : Type 0} (result : Result T FileStop)
       → GaveMore tally_before tally_now file_limit
   pub once : tally_now ≤ tally_before + file_limit + piece_size
   pub failed : IsErrOf result ReadFault → tally_now ≤ tally_before + file_limit
+  pub refused : IsErrOf result Memory → tally_now ≤ tally_before + file_limit
 
 -- the bytes held under a name, none where there is no such file, if that is told
 abbrev pub IsHeld : Option Files → List ℕ → Option (List ℕ) → Type 0
@@ -56,22 +57,22 @@ AreTaken [] before now = now ≡ before
 AreTaken (bytes ∷ files) before now =
     (between : ℕ) × IsTaken bytes before between × AreTaken files between now
 
--- Of these files some in front were each read once. What was taken beside them is at most one piece
--- beyond 2^30.
+-- Of these files some in front were each read once, and beside them at most 2^30 bytes were taken.
 pub record AreTakenUpTo (files : List (List ℕ)) (before now : ℕ) : Type 0 where
   pub front : List (List ℕ)
   pub behind : List (List ℕ)
   pub all : front ++ behind ≡ files
   pub between : ℕ
   pub taken : AreTaken front before between
-  pub more : now ≤ between + file_limit + piece_size
+  pub more : now ≤ between + file_limit
 
 -- the reading of a file has begun: a byte was taken of it, or it has none
 abbrev pub HasBegun : Option (List ℕ) → ℕ → ℕ → Type 0
 HasBegun bytes before now = (bytes ≡ Some []) ⊎ (tally_with before 1 ≤ now)
 
 -- What reading and judging one file came to: there are bytes, those held where that is told, by
--- which it meets what the file says. In no case were more taken than one piece beyond 2^30.
+-- which it meets what the file says, and they were taken once; where a read fault or want of memory
+-- stands in place of that, at most 2^30 were.
 pub record IsJudged {T : Type 0} (told : Option Files) (name : List ℕ)
     (judge : List ℕ → Result T FileStop) (result : Result T FileStop)
     (before now tally_before tally_now : ℕ) : Type 0 where
@@ -80,7 +81,7 @@ pub record IsJudged {T : Type 0} (told : Option Files) (name : List ℕ)
   pub meets : Meets is_free (option_map judge bytes) result
   pub taken : (file : List ℕ) → bytes ≡ Some file → IsDecided is_free result
       → IsTaken file tally_before tally_now
-  pub once : tally_now ≤ tally_before + file_limit + piece_size
+  pub few : (IsDecided is_free result → ⊥) → tally_now ≤ tally_before + file_limit
   pub begun : (IsErrOf result ReadFault → ⊥) → HasBegun bytes tally_before tally_now
   pub causes : HasCauses (λ stop. stop) result before now tally_before tally_now
 
@@ -107,9 +108,9 @@ FirstHasBegun (Some kind) reads before now = HasBegun (reads kind) before now
 
 -- What reading files came to in a run: there are bytes for each kind of file, those held under the
 -- files' names where that is told, such that the result meets what is said over them. Each file up
--- to the one that decides was read once; where a read fault or want of memory decides, some in
--- front were, and beside them at most one piece beyond 2^30 was taken. Memory is refused only once
--- the reading of the first file has begun.
+-- to the one that decides was read once; where a read fault or want of memory stands in place of
+-- that, some in front were, and beside them at most 2^30 bytes were taken. Memory is refused only
+-- once the reading of the first file has begun.
 pub record AreRead {T W : Type 0} (told : Option Files) (names : FileKind → List ℕ)
     (first : Option FileKind) (said : Reads → Option (Result T (Stop W)))
     (files : Reads → List (List ℕ)) (result : Result T (Stop W))

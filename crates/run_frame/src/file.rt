@@ -35,8 +35,6 @@ pub fn read_file<H: Shelf>(
 
     ensures memory { IsErrOf result FileStop.Memory
         → tally_with (H.tally shelf.old) 1 ≤ H.tally shelf.new }
-    ensures short { IsErrOf result FileStop.Memory
-        → H.tally shelf.new ≤ H.tally shelf.old + file_limit }
 
     // What is held and granted stays.
     ensures files { H.files shelf.new ≡ H.files shelf.old }
