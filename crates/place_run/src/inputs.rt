@@ -2,6 +2,7 @@
 ghost use Rattle.std.specs.Prelude.{◌≡◌, ◌≤◌, ◌<◌, ℕ, All, IfOk, IsTrue, Some, length};
 ghost use Rattle.command_words.specs.Words.{texts};
 ghost use Rattle.place_base.specs.declared.fault.FileKind.TheVariants as file;
+ghost use Rattle.place_base.specs.declared.limits.TheConstants.{MOST_PIECES};
 ghost use Rattle.programme_table.specs.Table.{codes_of};
 ghost use Rattle.candidate_table.specs.Table.{IsPreferenceList, numbers_of};
 ghost use Rattle.market.specs.Stability.{held_by};
@@ -76,7 +77,7 @@ impl Inputs {
         requires words { 4 ≤ length words.now }
         requires granted { MayOpenTables (H.files shelf.old) (H.grants shelf.old)
             (texts words.now) }
-        requires pieces { (1 ≤ pieces) × (pieces ≤ 64) }
+        requires pieces { (1 ≤ pieces) × (pieces ≤ MOST_PIECES) }
         ensures reading { AreRead (H.files shelf.old) (named (texts words.now))
             (Some file.Programmes) tables_said tables_read result
             (H.faults shelf.old) (H.faults shelf.new) (H.tally shelf.old) (H.tally shelf.new) }
@@ -174,7 +175,7 @@ fn read_programmes<R: Threads + Sync, H: Shelf>(
     pieces: u32,
 ) -> Result<ProgrammeTable, FileStop>
     requires granted { IsTrue (H.grants shelf.old name.now) }
-    requires pieces { (1 ≤ pieces) × (pieces ≤ 64) }
+    requires pieces { (1 ≤ pieces) × (pieces ≤ MOST_PIECES) }
     ensures judged { IsJudged (H.files shelf.old) name.now programmes_said result
         (H.faults shelf.old) (H.faults shelf.new) (H.tally shelf.old) (H.tally shelf.new) }
     ensures files { H.files shelf.new ≡ H.files shelf.old }
@@ -194,7 +195,7 @@ fn read_candidates<R: Threads + Sync, H: Shelf>(
     programmes: &ProgrammeTable,
 ) -> Result<CandidateTable, FileStop>
     requires granted { IsTrue (H.grants shelf.old name.now) }
-    requires pieces { (1 ≤ pieces) × (pieces ≤ 64) }
+    requires pieces { (1 ≤ pieces) × (pieces ≤ MOST_PIECES) }
     ensures judged { IsJudged (H.files shelf.old) name.now
         (candidates_said (codes_of programmes.now.rows)) result
         (H.faults shelf.old) (H.faults shelf.new) (H.tally shelf.old) (H.tally shelf.new) }
@@ -218,7 +219,7 @@ fn read_ranks<R: Threads + Sync, H: Shelf>(
     candidates: &CandidateTable,
 ) -> Result<RankLists, FileStop>
     requires granted { IsTrue (H.grants shelf.old name.now) }
-    requires pieces { (1 ≤ pieces) × (pieces ≤ 64) }
+    requires pieces { (1 ≤ pieces) × (pieces ≤ MOST_PIECES) }
     ensures judged { IsJudged (H.files shelf.old) name.now
         (ranks_said programmes.now.names (numbers_of candidates.now.numbers)) result
         (H.faults shelf.old) (H.faults shelf.new) (H.tally shelf.old) (H.tally shelf.new) }

@@ -3,7 +3,9 @@
 ghost use Rattle.place_run.specs.Limits.{HasFileBytes, HasFileLimits, HasMarketLimits, HasWorkerLimits};
 
 /// The limits of the files, the bytes that cut them, the numbers of workers and the limits of a
-/// market are the numbers that users are told. Every other clause speaks of them by name.
+/// market are the numbers that users are told. The other clauses speak of them by name, but that
+/// the definition of a made market has its own numbers, and that the line ends of printed texts
+/// stand as a number.
 ///
 /// A law: it changes and answers nothing.
 pub fn limits_in_numbers()

@@ -1,6 +1,7 @@
 // What the mechanism gives in a market, by rounds over teams of workers.
 
 ghost use Rattle.std.specs.Prelude.{◌≡◌, ◌<◌, ◌≤◌, IfOk};
+ghost use Rattle.command_words.specs.declared.words.TheConstants.{MAX_WORKERS};
 ghost use Rattle.place_run.specs.Placings.{IsOutcomeOf, IsPlacedOf};
 
 use crate::inputs::Inputs;
@@ -39,7 +40,7 @@ impl Placed {
         workers: u32,
         gate: &G,
     ) -> Result<Placed, AllocError>
-        requires { (1 ≤ workers) × (workers ≤ 64) }
+        requires { (1 ≤ workers) × (workers ≤ MAX_WORKERS) }
         ensures { IfOk result (IsPlacedOf inputs) }
     {
         let problem = Problem::build(rt, alloc, inputs, workers)?;
@@ -60,7 +61,7 @@ pub(crate) fn outcome_by<R: Threads + Sync, G: Gate>(
     workers: u32,
     gate: &G,
 ) -> Result<Outcome, AllocError>
-    requires { (1 ≤ workers) × (workers ≤ 64) }
+    requires { (1 ≤ workers) × (workers ≤ MAX_WORKERS) }
     ensures { IfOk result (IsOutcomeOf market.now) }
 {
     uncounted::<R, G, Brand>(rt, alloc, market, workers, gate, Blank::new(1))
@@ -75,7 +76,7 @@ fn uncounted<R: Threads + Sync, G: Gate, L: Ledger>(
     gate: &G,
     blank: Blank,
 ) -> Result<Outcome, AllocError>
-    requires workers { (1 ≤ workers) × (workers ≤ 64) }
+    requires workers { (1 ≤ workers) × (workers ≤ MAX_WORKERS) }
     requires ledger { (blank.name ≡ L.name) × (blank.parts ≡ L.parts) × (0 < blank.parts) }
     ensures { IfOk result (IsOutcomeOf market.now) }
 {

@@ -3,6 +3,7 @@
 ghost use Rattle.std.specs.Prelude.{◌≡◌, ◌<◌, ◌≤◌, ℕ, IfOk, Ok, Option, length};
 ghost use Rattle.command_words.specs.Words.{texts};
 ghost use Rattle.command_words.specs.declared.words.Command.TheVariants as command;
+ghost use Rattle.command_words.specs.declared.words.TheConstants.{MAX_WORKERS};
 ghost use Rattle.candidate_table.specs.Table.{numbers_of};
 ghost use Rattle.market.specs.Stability.{held_by};
 ghost use Rattle.programme_table.specs.Table.{codes_of};
@@ -34,7 +35,7 @@ pub(crate) fn audit<R: Threads + Sync, H: Shelf>(
 ) -> Result<Answer, Stop>
     requires words { 5 ≤ length words.now }
     requires granted { MayOpenAudit (H.files shelf.old) (H.grants shelf.old) (texts words.now) }
-    requires workers { (1 ≤ workers) × (workers ≤ 64) }
+    requires workers { (1 ≤ workers) × (workers ≤ MAX_WORKERS) }
     ensures answers { IsAnswering (H.files shelf.old) (texts words.now) (Ok (command.Audit workers))
         result (H.faults shelf.old) (H.faults shelf.new) (H.tally shelf.old) (H.tally shelf.new) }
     ensures files { H.files shelf.new ≡ H.files shelf.old }

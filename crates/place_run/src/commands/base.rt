@@ -3,6 +3,7 @@
 ghost use Rattle.std.specs.Prelude.{◌≡◌, ◌≤◌, IfOk, Ok, length};
 ghost use Rattle.command_words.specs.Words.{texts};
 ghost use Rattle.command_words.specs.declared.words.Command.TheVariants as command;
+ghost use Rattle.command_words.specs.declared.words.TheConstants.{MAX_WORKERS};
 ghost use Rattle.programme_table.specs.Table.{codes_of};
 ghost use Rattle.place_run.specs.Placings.{IsNamedPlacement};
 ghost use Rattle.place_run.specs.Runs.{IsAnswering};
@@ -33,7 +34,7 @@ pub(crate) fn base<R: Threads + Sync, H: Shelf, G: Gate>(
 ) -> Result<Answer, Stop>
     requires words { 4 ≤ length words.now }
     requires granted { MayOpenTables (H.files shelf.old) (H.grants shelf.old) (texts words.now) }
-    requires workers { (1 ≤ workers) × (workers ≤ 64) }
+    requires workers { (1 ≤ workers) × (workers ≤ MAX_WORKERS) }
     ensures answers { IsAnswering (H.files shelf.old) (texts words.now) (Ok (command.Base workers))
         result (H.faults shelf.old) (H.faults shelf.new) (H.tally shelf.old) (H.tally shelf.new) }
     ensures files { H.files shelf.new ≡ H.files shelf.old }

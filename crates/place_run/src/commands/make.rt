@@ -1,6 +1,7 @@
 // The summary of a market that is made from numbers.
 
 ghost use Rattle.std.specs.Prelude.{◌≤◌};
+ghost use Rattle.command_words.specs.declared.words.TheConstants.{MAX_WORKERS};
 ghost use Rattle.market.specs.declared.limits.TheConstants.{MAX_CANDIDATES, MAX_PROGRAMMES, MAX_TYPES};
 ghost use Rattle.place_run.specs.Makings.{IsSummarised};
 
@@ -29,7 +30,7 @@ pub(crate) fn make<R: Threads + Sync, G: Gate>(
     requires candidates { candidates ≤ MAX_CANDIDATES }
     requires programmes { programmes ≤ MAX_PROGRAMMES }
     requires types { (1 ≤ types) × (types ≤ MAX_TYPES) }
-    requires workers { (1 ≤ workers) × (workers ≤ 64) }
+    requires workers { (1 ≤ workers) × (workers ≤ MAX_WORKERS) }
     ensures { IsSummarised seed candidates programmes types result }
 {
     let market = make_market(alloc, seed, candidates, programmes, types)?;

@@ -3,6 +3,7 @@
 ghost use Rattle.std.specs.Prelude.{◌≡◌, ◌≤◌, Ok, length};
 ghost use Rattle.command_words.specs.Words.{texts};
 ghost use Rattle.command_words.specs.declared.words.Command.TheVariants as command;
+ghost use Rattle.command_words.specs.declared.words.TheConstants.{MAX_WORKERS};
 ghost use Rattle.place_run.specs.Runs.{IsAnswering};
 ghost use Rattle.place_run.specs.Says.{MayOpenTables};
 
@@ -29,7 +30,7 @@ pub(crate) fn reasons<R: Threads + Sync, H: Shelf, G: Gate>(
 ) -> Result<Answer, Stop>
     requires words { 4 ≤ length words.now }
     requires granted { MayOpenTables (H.files shelf.old) (H.grants shelf.old) (texts words.now) }
-    requires workers { (1 ≤ workers) × (workers ≤ 64) }
+    requires workers { (1 ≤ workers) × (workers ≤ MAX_WORKERS) }
     ensures answers { IsAnswering (H.files shelf.old) (texts words.now)
         (Ok (command.Reasons workers)) result
         (H.faults shelf.old) (H.faults shelf.new) (H.tally shelf.old) (H.tally shelf.new) }
