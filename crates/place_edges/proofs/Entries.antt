@@ -7,7 +7,7 @@ use Rattle.std.proofs.lemmas.List.{length-drop, take-append-drop, drop-drop, dro
 use Rattle.std.proofs.lemmas.Bool.{cases_lt}
 use Rattle.std.proofs.lemmas.Grind.{common_steps}
 use Rattle.std.proofs.lemmas.Option.{slice_get-get_or, slice_get_past}
-use Rattle.place_edges.specs.Shelf.{TakesCount, left_count}
+use Rattle.place_edges.specs.Shelf.{TakesCount, byte_count}
 use Rattle.place_edges.specs.HeldFiles.{Entries, Held, files_of, bytes_of, left_at, place_behind_one_more}
 use Rattle.place_edges.specs.declared.held.Place.{Place}
 use Rattle.place_edges.specs.declared.held.Place.TheVariants.{Closed, Unknown, Inside}
@@ -79,7 +79,7 @@ pub counts-entry : (entries : Entries) (place : Place) (file at from count n : �
     (entry : List ℕ × List ℕ) (bytes : List ℕ)
     → place ≡ Inside file at → slice_get entries file ≡ Some entry → bytes ≡ entry.1
     → from ≡ min at (length bytes) → count ≡ min (length bytes - from) n
-    → count ≡ min (left_count (left_at entries place)) n
+    → count ≡ min (byte_count (left_at entries place)) n
 counts-entry entries place file at from count n entry bytes p s b f k =
     let left = length-drop at bytes in
     rw (p, s, ← b) (omega arith)

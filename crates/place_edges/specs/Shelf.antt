@@ -68,7 +68,11 @@ HasMore told name n =
 abbrev pub GaveMore : ℕ → ℕ → ℕ → Type 0
 GaveMore before now n = (before + n < now) ⊎ (2 ^ 64 - 1 ≤ now)
 
--- how many bytes are left, none where that is not told
-abbrev pub left_count : Option (List ℕ) → ℕ
-left_count None = 0
-left_count (Some xs) = length xs
+-- how many bytes these are, none where none are told or held
+abbrev pub byte_count : Option (List ℕ) → ℕ
+byte_count None = 0
+byte_count (Some xs) = length xs
+
+-- no more bytes were taken than the named file has, and none where it is not held, if that is told
+abbrev pub IsWithin : Option Files → List ℕ → ℕ → ℕ → Type 0
+IsWithin told name before now = IfSome told (λ files. now ≤ before + byte_count (files name))

@@ -2,7 +2,7 @@
 
 ghost use Rattle.std.specs.Prelude.{◌≡◌, ◌<◌, ◌∷◌, [], min, length, take, Some, None, OnOk, OnErr, MatchOption, slice_get, unwrap_or, is_some};
 ghost use Rattle.std.specs.String.{string_bytes};
-ghost use Rattle.place_edges.specs.Shelf.{TakesCount, left_count};
+ghost use Rattle.place_edges.specs.Shelf.{TakesCount, byte_count};
 ghost use Rattle.place_edges.specs.HeldFiles.{files_of, left_at, bytes_of, place_behind_one_more};
 
 use std::alloc::{AllocError, Global};
@@ -111,7 +111,7 @@ impl HeldFiles {
     // Puts as many of the next bytes as fit at the front of `into`, and says how many they are.
     pub(crate) fn take(&mut self, into: &mut [u8]) -> usize
         ensures entries { self.new.entries ≡ self.old.entries }
-        ensures count { result ≡ min (left_count self.old.rest) (length into.new) }
+        ensures count { result ≡ min (byte_count self.old.rest) (length into.new) }
         ensures bytes { TakesCount self.old.rest self.new.rest result into.new }
     {
         take_at(&self.entries, &mut self.place, into)
@@ -145,7 +145,7 @@ fn find_entry(entries: &[Entry], name: &str) -> Option<usize>
 
 // Gives the next bytes at a place, and moves it behind them.
 fn take_at(entries: &[Entry], place: &mut Place, into: &mut [u8]) -> usize
-    ensures count { result ≡ min (left_count (left_at entries.now place.old)) (length into.new) }
+    ensures count { result ≡ min (byte_count (left_at entries.now place.old)) (length into.new) }
     ensures bytes { TakesCount (left_at entries.now place.old) (left_at entries.now place.new)
         result into.new }
 {

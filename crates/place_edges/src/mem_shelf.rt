@@ -4,7 +4,7 @@ ghost use Rattle.std.specs.Prelude.{◌≡◌, ◌↔◌, ◌∷◌, ◌++◌, [
 ghost use Rattle.std.specs.Io.{ReadsAtMost};
 ghost use Rattle.std.specs.String.{string_bytes};
 ghost use Rattle.place_edges.specs.Causes.{HasCause, counted, faults_after};
-ghost use Rattle.place_edges.specs.Shelf.{Opens, Takes, left_count, tally_after};
+ghost use Rattle.place_edges.specs.Shelf.{Opens, Takes, byte_count, tally_after};
 ghost use Rattle.place_edges.specs.HeldFiles.{files_of};
 ghost use Rattle.place_edges.specs.MemShelf.{FailsToOpen};
 
@@ -142,7 +142,7 @@ impl Shelf for MemShelf {
 
         // Exactly when it fails, how much it gives, and what it changes.
         ensures fails { IsErr result ↔ Contains self.old.failing self.new.calls }
-        ensures count { IfOk result (λ n. n ≡ min (left_count self.old.rest) (length into.new)) }
+        ensures count { IfOk result (λ n. n ≡ min (byte_count self.old.rest) (length into.new)) }
         ensures changes { self.new ≡ record self.old {
           rest = self.new.rest;
           calls = counted self.old.calls;

@@ -2,7 +2,7 @@
 
 ghost use Rattle.std.specs.Prelude.{◌≡◌, ◌≤◌, IfOk, IsTrue, IsErrOf, vec_len};
 ghost use Rattle.place_edges.specs.Causes.{Rose};
-ghost use Rattle.place_edges.specs.Shelf.{HasBytes, HasMore, file_limit, tally_with};
+ghost use Rattle.place_edges.specs.Shelf.{HasBytes, HasMore, IsWithin, file_limit, tally_with};
 ghost use Rattle.place_edges.specs.Sink.{IsWritten};
 ghost use Rattle.place_edges.specs.Whole.{HasTally};
 
@@ -60,6 +60,9 @@ pub fn read_whole<H: Shelf>(alloc: Global, shelf: &mut H, name: &str) -> Result<
     ensures tally { HasTally result (H.tally shelf.old) (H.tally shelf.new) }
     ensures long { IsErrOf result ReadStop.TooLong
         → HasMore (H.files shelf.old) name.now file_limit }
+
+    // Whatever is answered, no more was taken than the file has.
+    ensures within { IsWithin (H.files shelf.old) name.now (H.tally shelf.old) (H.tally shelf.new) }
 
     // A read fails only where the shelf failed.
     ensures failed { IsErrOf result ReadStop.Failed

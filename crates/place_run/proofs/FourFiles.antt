@@ -1,5 +1,5 @@
 -- A placement file that is read and judged behind three files: what all four come to.
-use Rattle.std.proofs.Common.{◌≡◌, ◌∙◌, ℕ, List, [], ◌∷◌, ◌++◌, Option, Some, None, Result, Ok, Err, refl, sym, ap, subst, append_assoc, append-nil, inl, inr, ⊎_elim}
+use Rattle.std.proofs.Common.{◌≡◌, ◌∙◌, ℕ, List, [], ◌∷◌, ◌++◌, Option, Some, None, Result, Ok, Err, ◌≤◌, arith, refl, sym, ap, subst, append_assoc, append-nil, inl, inr, ⊎_elim}
 use Rattle.std.specs.Prelude.{Bool, IsTrue}
 use Rattle.place_base.specs.declared.fault.FileKind.{FileKind}
 use Rattle.place_base.specs.declared.fault.FileKind.TheVariants as file
@@ -7,7 +7,7 @@ use Rattle.place_edges.specs.Shelf.{Files}
 use Rattle.command_words.specs.declared.words.WordsFault.{WordsFault}
 use Rattle.programme_table.specs.Table.{codes_of}
 use Rattle.candidate_table.specs.Table.{numbers_of}
-use Rattle.run_frame.specs.Files.{AreHeld, AreRead, AreTaken, AreTakenUpTo, HasBegun, IsHeld, IsJudged, Reads}
+use Rattle.run_frame.specs.Files.{AreHeld, AreRead, AreTaken, AreTakenUpTo, HasBegun, IsHeld, IsJudged, Reads, next_length}
 use Rattle.run_frame.specs.Meetings.{Meets}
 use Rattle.run_frame.specs.Says.{opened, read_from}
 use Rattle.run_frame.specs.declared.stop.FileStop.{FileStop}
@@ -37,7 +37,13 @@ up-to-both xs ys before between now first rest = record {
   between = rest.between;
   taken = taken-both xs rest.front before between rest.between first rest.taken;
   more = rest.more;
+  next = rest.next;
 }
+
+-- further files behind do not make the next one shorter
+next-behind : (xs ys : List (List ℕ)) → next_length xs ≤ next_length (xs ++ ys)
+next-behind [] ys = omega arith
+next-behind (x ∷ xs) ys = omega arith
 
 up-to-first : (xs ys : List (List ℕ)) (before now : ℕ) → AreTakenUpTo xs before now
     → AreTakenUpTo (xs ++ ys) before now
@@ -48,6 +54,7 @@ up-to-first xs ys before now first = record {
   between = first.between;
   taken = first.taken;
   more = first.more;
+  next = omega (arith, first.next, next-behind first.behind ys);
 }
 
 -- what the placement file says beside these tables

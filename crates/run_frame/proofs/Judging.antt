@@ -3,7 +3,7 @@ use Rattle.std.proofs.Common.{◌≡◌, ℕ, ◌+◌, ◌<◌, ◌≤◌, List,
 use Rattle.std.specs.Prelude.{length, replicate, IsErrAnd, IsErrOf}
 use Rattle.std.proofs.lemmas.List.{length-replicate}
 use Rattle.place_base.specs.declared.fault.FileKind.{FileKind}
-use Rattle.place_edges.specs.Shelf.{Files, HasBytes, HasMore, file_limit, tally_with}
+use Rattle.place_edges.specs.Shelf.{Files, HasBytes, HasMore, IsWithin, file_limit, byte_count, piece_size, tally_with}
 use Rattle.run_frame.specs.Files.{HasBegun, HasCauses, HasFileCauses, IsHeld, IsJudged, IsTaken, IsUnread}
 use Rattle.run_frame.specs.Meetings.{Meets}
 use Rattle.run_frame.specs.Stops.{is_free, too_long}
@@ -11,21 +11,33 @@ use Rattle.run_frame.specs.declared.stop.FileStop.{FileStop}
 use Rattle.run_frame.specs.declared.stop.FileStop.TheVariants.{Fault, ReadFault, Memory}
 use Rattle.run_frame.proofs.Parts.{at-error}
 
--- a file that has more than so many bytes: one that is held, where that is told, and else some
-long-file : (told : Option Files) (name : List ℕ) (n : ℕ) → HasMore told name n
+-- a file that has more than so many bytes, and no fewer than were taken: one that is held, where
+-- that is told, and else some
+long-file : (told : Option Files) (name : List ℕ) (n more before now : ℕ) → HasMore told name n
+    → IsWithin told name before now → now ≤ before + n + more → 0 < more
     → (bytes : List ℕ) × IsHeld told name (Some bytes) × (n < length bytes)
-long-file None name n many = (replicate (n + 1) 0, tt, omega (arith, length-replicate {A = ℕ}))
-long-file (Some files) name n many = many
+    × (now ≤ before + length bytes)
+long-file None name n more before now many within once some = (
+  replicate (n + more) 0,
+  tt,
+  omega (arith, length-replicate {A = ℕ}, some),
+  omega (arith, length-replicate {A = ℕ}, once),
+)
+long-file (Some files) name n more before now (bytes, is, long) within once some =
+    (bytes, is, long, subst (λ v. now ≤ before + byte_count v) is within)
 
 held-bytes : (told : Option Files) (name bytes : List ℕ) → HasBytes told name bytes
     → IsHeld told name (Some bytes)
 held-bytes None name bytes held = tt
 held-bytes (Some files) name bytes held = held
 
-held-some : (told : Option Files) (name : List ℕ)
-    → (bytes : Option (List ℕ)) × IsHeld told name bytes
-held-some None name = (None, tt)
-held-some (Some files) name = (files name, refl)
+-- a file that has no fewer bytes than were taken
+held-some : (told : Option Files) (name : List ℕ) (n before now : ℕ)
+    → IsWithin told name before now → now ≤ before + n
+    → (bytes : Option (List ℕ)) × IsHeld told name bytes × (now ≤ before + byte_count bytes)
+held-some None name n before now within few =
+    (Some (replicate n 0), tt, omega (arith, length-replicate {A = ℕ}, few))
+held-some (Some files) name n before now within few = (files name, refl, within)
 
 -- of a file that was read at least one byte was taken, but where it has none
 begun-bytes : (bytes : List ℕ) (before now : ℕ) → now ≡ tally_with before (length bytes)
@@ -53,8 +65,10 @@ judged-bytes told name bytes judge result before now tally_before tally_now held
             short = λ _. given;
             long = λ many. absurd (omega (arith, few, many));
             once = λ many. absurd (omega (arith, few, many));
+            within = omega (arith, given);
           });
       few = λ _. omega (arith, few, given);
+      within = omega (arith, given);
       begun = λ unread. begun-bytes bytes tally_before tally_now given;
       causes = causes;
     }
@@ -79,10 +93,13 @@ judged-unread : {T S : Type 0} (told : Option Files) (name : List ℕ) (kind : F
     → IsUnread told name kind stop
     → (IsErrOf {T = S} (Err stop) Memory → tally_with tally_before 1 ≤ tally_now)
     → HasFileCauses {T = S} (Err stop) before now tally_before tally_now
+    → IsWithin told name tally_before tally_now
     → IsJudged told name judge (Err stop) before now tally_before tally_now
 judged-unread told name kind judge (Fault found) before now tally_before tally_now long
-    (is, more) begun causes =
-    let file = long-file told name file_limit more in record {
+    (is, more) begun causes within =
+    let file = long-file told name file_limit piece_size tally_before tally_now more within
+    causes.once (omega arith) in
+    record {
       bytes = Some file.0;
       held = file.1;
       meets = inr (ap (λ v. Some v) (long file.0 file.2 ∙ ap (λ v. Err (Fault v)) (sym is)));
@@ -92,31 +109,37 @@ judged-unread told name kind judge (Fault found) before now tally_before tally_n
             short = λ few. absurd (omega (arith, few, file.2));
             long = λ many. causes.long kind (ap (λ v. Err (Fault v)) is);
             once = λ many. causes.once;
+            within = file.3;
           });
       few = λ undecided. absurd (undecided refl);
+      within = file.3;
       begun = λ unread.
           inr (omega (arith, causes.tally, causes.long kind (ap (λ v. Err (Fault v)) is)));
       causes = same-causes _ before now tally_before tally_now causes;
     }
 judged-unread told name kind judge ReadFault before now tally_before tally_now long unread begun
-    causes =
-    let file = held-some told name in record {
+    causes within =
+    let file = held-some told name file_limit tally_before tally_now within (causes.failed refl) in
+    record {
       bytes = file.0;
       held = file.1;
       meets = inl refl;
       taken = λ bytes same decided. cc decided;
       few = λ _. causes.failed refl;
+      within = file.2;
       begun = λ unread. absurd (unread refl);
       causes = same-causes _ before now tally_before tally_now causes;
     }
-judged-unread told name kind judge Memory before now tally_before tally_now long unread begun causes
-    =
-    let file = held-some told name in record {
+judged-unread told name kind judge Memory before now tally_before tally_now long unread begun
+    causes within =
+    let file = held-some told name file_limit tally_before tally_now within (causes.refused refl) in
+    record {
       bytes = file.0;
       held = file.1;
       meets = inl refl;
       taken = λ bytes same decided. cc decided;
       few = λ _. causes.refused refl;
+      within = file.2;
       begun = λ unread. inr (begun refl);
       causes = same-causes _ before now tally_before tally_now causes;
     }
@@ -129,9 +152,10 @@ pub judged-stop : {T S : Type 0} (told : Option Files) (name : List ℕ) (kind :
     → IsUnread told name kind stop
     → (IsErrOf {T = S} (Err stop) Memory → tally_with tally_before 1 ≤ tally_now)
     → HasFileCauses {T = S} (Err stop) before now tally_before tally_now
+    → IsWithin told name tally_before tally_now
     → IsJudged told name judge result before now tally_before tally_now
 judged-stop told name kind judge stop result before now tally_before tally_now is long unread begun
-    causes =
+    causes within =
     at-error (λ r. IsJudged told name judge r before now tally_before tally_now) result stop is
     (judged-unread told name kind judge stop before now tally_before tally_now long unread begun
-    causes)
+    causes within)

@@ -4,8 +4,8 @@ use Rattle.std.proofs.Common.{◌≡◌, ℕ, ◌+◌, ◌≤◌, List, [], ◌�
 use Rattle.std.specs.Prelude.{Bool, IsErrAnd, IsErrOf, IsFalse, IsTrue, option_map}
 use Rattle.place_base.specs.declared.fault.FileKind.{FileKind}
 use Rattle.place_base.specs.declared.fault.FileKind.TheVariants as file
-use Rattle.place_edges.specs.Shelf.{Files, GaveMore, file_limit}
-use Rattle.run_frame.specs.Files.{AreHeld, AreRead, AreTaken, AreTakenUpTo, HasBegun, HasCauses, IsHeld, IsJudged, IsTaken, Reads}
+use Rattle.place_edges.specs.Shelf.{Files, GaveMore, file_limit, byte_count}
+use Rattle.run_frame.specs.Files.{AreHeld, AreRead, AreTaken, AreTakenUpTo, HasBegun, HasCauses, IsHeld, IsJudged, IsTaken, Reads, next_length}
 use Rattle.run_frame.specs.Meetings.{Meets}
 use Rattle.run_frame.specs.Says.{and_then, opened, read_from}
 use Rattle.run_frame.specs.Stops.{is_free, is_free_stop, too_long}
@@ -47,36 +47,49 @@ up-to-ok judge next given held table before between now same meets taken rest =
       between = rest.between;
       taken = (between, taken said.0 said.1 tt, rest.taken);
       more = rest.more;
+      next = rest.next;
     })))
 
 -- of the first file so many bytes may be taken
 none-taken : (files : List (List ℕ)) (before now : ℕ) → now ≤ before + file_limit
-    → AreTakenUpTo files before now
-none-taken files before now few = record {
+    → now ≤ before + next_length files → AreTakenUpTo files before now
+none-taken files before now few within = record {
   front = [];
   behind = files;
   all = refl;
   between = before;
   taken = refl;
   more = few;
+  next = within;
 }
 
 -- files that end in a stop: all are taken where it decides, and else so many bytes of the first
 up-to-stop : (files : List (List ℕ)) (stop : FileStop) (before now : ℕ)
     → (IsFalse (is_free stop) → AreTaken files before now)
-    → ((IsFalse (is_free stop) → ⊥) → now ≤ before + file_limit) → AreTakenUpTo files before now
-up-to-stop files (Fault found) before now taken few = record {
+    → ((IsFalse (is_free stop) → ⊥) → now ≤ before + file_limit) → now ≤ before + next_length files
+    → AreTakenUpTo files before now
+up-to-stop files (Fault found) before now taken few within = record {
   front = files;
   behind = [];
   all = append-nil files;
   between = now;
   taken = taken refl;
   more = omega arith;
+  next = omega arith;
 }
-up-to-stop files ReadFault before now taken few =
-    none-taken files before now (few (λ decided. cc decided))
-up-to-stop files Memory before now taken few =
-    none-taken files before now (few (λ decided. cc decided))
+up-to-stop files ReadFault before now taken few within =
+    none-taken files before now (few (λ decided. cc decided)) within
+up-to-stop files Memory before now taken few within =
+    none-taken files before now (few (λ decided. cc decided)) within
+
+-- of the first file at most its bytes are taken
+next-read : {T : Type 0} (judge : List ℕ → Result T FileStop) (next : T → List (List ℕ))
+    (given held : Option (List ℕ)) (before now : ℕ) → given ≡ held → now ≤ before + byte_count held
+    → now ≤ before + next_length (read_from given judge next)
+next-read judge next None held before now same within =
+    subst (λ v. now ≤ before + byte_count v) (sym same) within
+next-read judge next (Some bytes) held before now same within =
+    subst (λ v. now ≤ before + byte_count v) (sym same) within
 
 -- no file is taken behind one that has a stop
 pub taken-stop : {T : Type 0} (judge : List ℕ → Result T FileStop) (next : T → List (List ℕ))
@@ -235,7 +248,7 @@ module _ {W : Type 0} (told : Option Files) (names : FileKind → List ℕ) wher
     held = are-held told names;
     meets = meets (held_files told names);
     taken = λ _. refl;
-    once = none-taken [] tally tally (omega arith);
+    once = none-taken [] tally tally (omega arith) (omega arith);
     begun = λ _. tt;
     causes = record {
       faults = omega arith;
@@ -267,7 +280,9 @@ module _ {W : Type 0} (told : Option Files) (names : FileKind → List ℕ) wher
         meets = opened-stop judge (λ table. next table all) (all kind) one.bytes stop same
             one.meets;
         taken = taken;
-        once = up-to-stop _ stop tally_before tally_now taken one.few;
+        once = up-to-stop _ stop tally_before tally_now taken one.few
+            (next-read judge (λ table. files table all) (all kind) one.bytes tally_before tally_now
+            same one.within);
         begun = λ unread. subst (λ v. HasBegun v tally_before tally_now) (sym same)
             (one.begun (λ e. let is : stop ≡ ReadFault = cc e in
             unread (ap (λ v. Err (File v)) is)));

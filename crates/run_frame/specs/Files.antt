@@ -2,7 +2,7 @@
 use Rattle.std.specs.Prelude.{◌≡◌, ◌≤◌, ◌<◌, ◌⊎◌, ℕ, ◌+◌, List, [], ◌∷◌, ◌++◌, length, Option, Some, None, Result, IsErrOf, IfSome, option_map, ⊤}
 use Rattle.place_base.specs.declared.fault.FileKind.{FileKind}
 use Rattle.place_edges.specs.Causes.{Rose}
-use Rattle.place_edges.specs.Shelf.{Files, GaveMore, HasMore, file_limit, piece_size, tally_with}
+use Rattle.place_edges.specs.Shelf.{Files, GaveMore, HasMore, file_limit, byte_count, piece_size, tally_with}
 use Rattle.run_frame.specs.Meetings.{IsDecided, Meets}
 use Rattle.run_frame.specs.Stops.{is_free, is_free_stop, too_long}
 use Rattle.run_frame.specs.declared.stop.FileStop.{FileStop}
@@ -44,12 +44,13 @@ pub record HasFileCauses {T : Type 0} (result : Result T FileStop)
 abbrev pub IsHeld : Option Files → List ℕ → Option (List ℕ) → Type 0
 IsHeld told name held = IfSome told (λ files. files name ≡ held)
 
--- the tally rose by the bytes of a file; or, where it has more than 2^30, by more than that and at
--- most one piece beyond it
+-- the tally rose by the bytes of a file; or, where it has more than 2^30, by more than that, by at
+-- most one piece beyond it, and by no more than the file has
 pub record IsTaken (bytes : List ℕ) (before now : ℕ) : Type 0 where
   pub short : length bytes ≤ file_limit → now ≡ tally_with before (length bytes)
   pub long : file_limit < length bytes → GaveMore before now file_limit
   pub once : file_limit < length bytes → now ≤ before + file_limit + piece_size
+  pub within : now ≤ before + length bytes
 
 -- the same of files that were read one after the other
 abbrev pub AreTaken : List (List ℕ) → ℕ → ℕ → Type 0
@@ -57,7 +58,13 @@ AreTaken [] before now = now ≡ before
 AreTaken (bytes ∷ files) before now =
     (between : ℕ) × IsTaken bytes before between × AreTaken files between now
 
--- Of these files some in front were each read once, and beside them at most 2^30 bytes were taken.
+-- how many bytes the next of these files has, none where there is none
+abbrev pub next_length : List (List ℕ) → ℕ
+next_length [] = 0
+next_length (bytes ∷ files) = length bytes
+
+-- Of these files some in front were each read once, and beside them no more bytes were taken than
+-- the next one has, and at most 2^30.
 pub record AreTakenUpTo (files : List (List ℕ)) (before now : ℕ) : Type 0 where
   pub front : List (List ℕ)
   pub behind : List (List ℕ)
@@ -65,6 +72,7 @@ pub record AreTakenUpTo (files : List (List ℕ)) (before now : ℕ) : Type 0 wh
   pub between : ℕ
   pub taken : AreTaken front before between
   pub more : now ≤ between + file_limit
+  pub next : now ≤ between + next_length behind
 
 -- the reading of a file has begun: a byte was taken of it, or it has none
 abbrev pub HasBegun : Option (List ℕ) → ℕ → ℕ → Type 0
@@ -72,7 +80,7 @@ HasBegun bytes before now = (bytes ≡ Some []) ⊎ (tally_with before 1 ≤ now
 
 -- What reading and judging one file came to: there are bytes, those held where that is told, by
 -- which it meets what the file says, and they were taken once; where a read fault or want of memory
--- stands in place of that, at most 2^30 were.
+-- stands in place of that, no more were taken than the file has, and at most 2^30.
 pub record IsJudged {T : Type 0} (told : Option Files) (name : List ℕ)
     (judge : List ℕ → Result T FileStop) (result : Result T FileStop)
     (before now tally_before tally_now : ℕ) : Type 0 where
@@ -82,6 +90,7 @@ pub record IsJudged {T : Type 0} (told : Option Files) (name : List ℕ)
   pub taken : (file : List ℕ) → bytes ≡ Some file → IsDecided is_free result
       → IsTaken file tally_before tally_now
   pub few : (IsDecided is_free result → ⊥) → tally_now ≤ tally_before + file_limit
+  pub within : tally_now ≤ tally_before + byte_count bytes
   pub begun : (IsErrOf result ReadFault → ⊥) → HasBegun bytes tally_before tally_now
   pub causes : HasCauses (λ stop. stop) result before now tally_before tally_now
 
@@ -109,8 +118,8 @@ FirstHasBegun (Some kind) reads before now = HasBegun (reads kind) before now
 -- What reading files came to in a run: there are bytes for each kind of file, those held under the
 -- files' names where that is told, such that the result meets what is said over them. Each file up
 -- to the one that decides was read once; where a read fault or want of memory stands in place of
--- that, some in front were, and beside them at most 2^30 bytes were taken. Memory is refused only
--- once the reading of the first file has begun.
+-- that, some in front were, and beside them no more bytes were taken than the next one has, and at
+-- most 2^30. Memory is refused only once the reading of the first file has begun.
 pub record AreRead {T W : Type 0} (told : Option Files) (names : FileKind → List ℕ)
     (first : Option FileKind) (said : Reads → Option (Result T (Stop W)))
     (files : Reads → List (List ℕ)) (result : Result T (Stop W))

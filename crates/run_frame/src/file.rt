@@ -1,6 +1,6 @@
 // A named file, read whole.
 ghost use Rattle.std.specs.Prelude.{◌≡◌, ◌+◌, ◌≤◌, IfOk, IsErrOf, IsTrue, MatchResult, vec_len};
-ghost use Rattle.place_edges.specs.Shelf.{HasBytes, file_limit, tally_with};
+ghost use Rattle.place_edges.specs.Shelf.{HasBytes, IsWithin, file_limit, tally_with};
 ghost use Rattle.run_frame.specs.Files.{HasFileCauses, IsUnread};
 ghost use Rattle.run_frame.specs.Stops.{too_long as too_long_in};
 
@@ -26,6 +26,9 @@ pub fn read_file<H: Shelf>(
     ensures few { IfOk result (λ bytes. vec_len bytes ≤ file_limit) }
     ensures given { IfOk result (λ bytes.
         H.tally shelf.new ≡ tally_with (H.tally shelf.old) (vec_len bytes)) }
+
+    // Whatever is answered, no more was taken than the file has.
+    ensures within { IsWithin (H.files shelf.old) name.now (H.tally shelf.old) (H.tally shelf.new) }
 
     // Each stop has its cause in the counts, and in no case were more bytes taken than one piece
     // beyond 2^30, nor more than 2^30 where a read failed or memory was refused; memory is refused

@@ -13,6 +13,7 @@ returns-in_err-bytes-clause-judged g c =
     judged-stop _ _ file.Programmes _ _ _ _ _ _ _ c.from_residual.ensures.1
     (λ bytes many. judged-long file.Programmes _ _ bytes many) c.in_err-bytes.ensures.told
     c.in_err-bytes.ensures.memory c.in_err-bytes.ensures.causes
+    c.in_err-bytes.ensures.within
 
 pub returns-clause-judged : goal.returns-clause-judged
 unfolding programmes_said
