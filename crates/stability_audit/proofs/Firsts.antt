@@ -1,10 +1,9 @@
 -- The first candidate at whom a test answers true, from the answers of all.
-use Rattle.std.proofs.Common.{◌≡◌, ℕ, zero, suc, ◌+◌, ◌-◌, ◌^◌, ◌<◌, Bool, true, false, List, [], ◌∷◌, length, Option, Some, None, refl, sym, ap, ◌∙◌, subst, arith, get_or, min}
+use Rattle.std.proofs.Common.{◌≡◌, ℕ, zero, suc, ◌+◌, ◌-◌, ◌^◌, ◌<◌, Bool, true, false, List, [], ◌∷◌, length, Option, Some, None, refl, sym, ap, ◌∙◌, subst, arith, get_or, min, zero-add}
 use Rattle.std.specs.Prelude.{◌↔◌, IsTrue}
 use Rattle.std.specs.List.{AllZip, range_with_len}
 use Rattle.std.specs.Option.{option_map}
 use Rattle.std.proofs.lemmas.Bool.{false≢true}
-use Rattle.std.proofs.lemmas.Option.{none-some}
 use Rattle.std.proofs.lemmas.List.FromFn.{length-range_with_len, get_or-range_with_len}
 use Rattle.rayon.specs.Lists.{first_true}
 
@@ -14,62 +13,44 @@ pub record IsFirstAt (P : ℕ → Type 0) (xs : List ℕ) (k : ℕ) : Type 0 whe
   pub holds : P (get_or xs k 0)
   pub before : (j : ℕ) → j < k → P (get_or xs j 0) → ⊥
 
+-- the first place at which P holds, or none where it holds nowhere
+abbrev IsFoundAt : (ℕ → Type 0) → List ℕ → Option ℕ → Type 0
+IsFoundAt P xs (Some k) = IsFirstAt P xs k
+IsFoundAt P xs None = (j : ℕ) → j < length xs → P (get_or xs j 0) → ⊥
+
+-- where P does not hold of x it holds at no place before one that has moved up behind x
+not-before : (P : ℕ → Type 0) (x : ℕ) (xs : List ℕ) (k : ℕ) → (P x → ⊥)
+    → ((j : ℕ) → j < k → P (get_or xs j 0) → ⊥)
+    → (j : ℕ) → j < suc k → P (get_or (x ∷ xs) j 0) → ⊥
+not-before P x xs k not_x before zero l h = not_x h
+not-before P x xs k not_x before (suc j) l h = before j (omega arith) h
+
 -- an entry before all that were looked at
-later : (P : ℕ → Type 0) (x : ℕ) (xs : List ℕ) (k : ℕ) → (P x → ⊥) → IsFirstAt P xs k
-    → IsFirstAt P (x ∷ xs) (suc k)
-later P x xs k not_x f =
-    let within = f.within in
-    record {
-      within = omega arith;
-      holds = f.holds;
-      before = λ j. go j;
-    }
-  where
-    go : (j : ℕ) → j < suc k → P (get_or (x ∷ xs) j 0) → ⊥
-    go zero l h = not_x h
-    go (suc j) l h = f.before j (omega arith) h
-
-next-some : (P : ℕ → Type 0) (x : ℕ) (xs : List ℕ) (o : Option ℕ) (k : ℕ) → (P x → ⊥)
-    → length xs + 1 < 2 ^ 64 → ((j : ℕ) → o ≡ Some j → IsFirstAt P xs j)
-    → option_map (λ j. min (j + 1) (2 ^ 64 - 1)) o ≡ Some k → IsFirstAt P (x ∷ xs) k
-next-some P x xs None k not_x small f e = absurd (none-some k e)
-next-some P x xs (Some j) k not_x small f e =
-    let first = f j refl in
+found-later : (P : ℕ → Type 0) (x : ℕ) (xs : List ℕ) (o : Option ℕ) → (P x → ⊥)
+    → length xs + 1 < 2 ^ 64 → IsFoundAt P xs o
+    → IsFoundAt P (x ∷ xs) (option_map (λ j. min (j + 1) (2 ^ 64 - 1)) o)
+found-later P x xs None not_x small none = not-before P x xs (length xs) not_x none
+found-later P x xs (Some k) not_x small first =
     let within = first.within in
-    let value : min (j + 1) (2 ^ 64 - 1) ≡ k = cc in
-    let same : suc j ≡ k = omega arith in
-    subst (λ (n : ℕ). IsFirstAt P (x ∷ xs) n) same (later P x xs j not_x first)
-
--- the first answer that is true is where P holds first
-pub first_true-some : (P : ℕ → Type 0) (xs : List ℕ) (bs : List Bool)
-    → AllZip (λ x b. IsTrue b ↔ P x) xs bs → length xs < 2 ^ 64 → (k : ℕ)
-    → first_true bs ≡ Some k → IsFirstAt P xs k
-first_true-some P [] [] h small k e = absurd (none-some k e)
-first_true-some P [] (b ∷ bs) h small k e = absurd h
-first_true-some P (x ∷ xs) [] h small k e = absurd h
-first_true-some P (x ∷ xs) (true ∷ bs) h small k e =
-    let same : 0 ≡ k = cc in
+    let same : suc k ≡ min (k + 1) (2 ^ 64 - 1) = omega arith in
     subst (λ (n : ℕ). IsFirstAt P (x ∷ xs) n) same
-    (record { within = omega arith; holds = h.0.0 refl; before = λ j l. absurd (omega arith) })
-first_true-some P (x ∷ xs) (false ∷ bs) h small k e =
-    next-some P x xs (first_true bs) k (λ px. false≢true (h.0.1 px)) (omega arith)
-    (λ j ej. first_true-some P xs bs h.1 (omega arith) j ej) e
+    (record {
+      within = omega arith;
+      holds = first.holds;
+      before = not-before P x xs k not_x first.before;
+    })
 
-next-none : (o : Option ℕ) → option_map (λ j. min (j + 1) (2 ^ 64 - 1)) o ≡ None → o ≡ None
-next-none None e = refl
-next-none (Some j) e = absurd (none-some (min (j + 1) (2 ^ 64 - 1)) (sym e))
-
--- and where none is true P holds nowhere
-pub first_true-none : (P : ℕ → Type 0) (xs : List ℕ) (bs : List Bool)
-    → AllZip (λ x b. IsTrue b ↔ P x) xs bs → first_true bs ≡ None → (j : ℕ) → j < length xs
-    → P (get_or xs j 0) → ⊥
-first_true-none P [] [] h e j l p = absurd (omega arith)
-first_true-none P [] (b ∷ bs) h e j l p = absurd h
-first_true-none P (x ∷ xs) [] h e j l p = absurd h
-first_true-none P (x ∷ xs) (true ∷ bs) h e j l p = none-some 0 (sym e)
-first_true-none P (x ∷ xs) (false ∷ bs) h e zero l p = false≢true (h.0.1 p)
-first_true-none P (x ∷ xs) (false ∷ bs) h e (suc j) l p =
-    first_true-none P xs bs h.1 (next-none (first_true bs) e) j (omega arith) p
+-- the first answer that is true is where P holds first, and where none is true it holds nowhere
+found-at : (P : ℕ → Type 0) (xs : List ℕ) (bs : List Bool)
+    → AllZip (λ x b. IsTrue b ↔ P x) xs bs → length xs < 2 ^ 64 → IsFoundAt P xs (first_true bs)
+found-at P [] [] h small = λ j l. absurd (omega arith)
+found-at P [] (b ∷ bs) h small = absurd h
+found-at P (x ∷ xs) [] h small = absurd h
+found-at P (x ∷ xs) (true ∷ bs) h small =
+    record { within = omega arith; holds = h.0.0 refl; before = λ j l. absurd (omega arith) }
+found-at P (x ∷ xs) (false ∷ bs) h small =
+    found-later P x xs (first_true bs) (λ px. false≢true (h.0.1 px)) (omega arith)
+    (found-at P xs bs h.1 (omega arith))
 
 -- k is the first number below n at which P holds
 pub record IsFirstBelow (P : ℕ → Type 0) (n k : ℕ) : Type 0 where
@@ -77,49 +58,48 @@ pub record IsFirstBelow (P : ℕ → Type 0) (n k : ℕ) : Type 0 where
   pub holds : P k
   pub before : (j : ℕ) → j < k → P j → ⊥
 
--- the numbers below n that a range gives
-pub record IsRange (start end n : ℕ) (xs : List ℕ) : Type 0 where
-  pub from_zero : start ≡ 0
-  pub to_end : end ≡ n
-  pub items : xs ≡ range_with_len start (end - start)
-  pub small : n < 2 ^ 64
+-- the first number below n at which P holds, or none where it holds of no such number
+abbrev pub IsFound : (ℕ → Type 0) → ℕ → Option ℕ → Type 0
+IsFound P n (Some k) = IsFirstBelow P n k
+IsFound P n None = (j : ℕ) → j < n → P j → ⊥
 
-range-length : (start end n : ℕ) (xs : List ℕ) → IsRange start end n xs → length xs ≡ n
-range-length start end n xs r =
-    let from_zero = r.from_zero in
-    let to_end = r.to_end in
-    let size = length-range_with_len start (end - start) in
-    ap (λ (ys : List ℕ). length ys) r.items ∙ size ∙ omega arith
-
-range-at : (start end n : ℕ) (xs : List ℕ) → IsRange start end n xs → (j : ℕ) → j < n
-    → get_or xs j 0 ≡ j
-range-at start end n xs r j l =
-    let from_zero = r.from_zero in
-    let to_end = r.to_end in
-    ap (λ (ys : List ℕ). get_or ys j 0) r.items
-    ∙ get_or-range_with_len start (end - start) j 0 (omega arith) ∙ omega arith
-
--- what a search that asks at each number below n found
-pub search-some : (P : ℕ → Type 0) (start end n : ℕ) (xs : List ℕ) (bs : List Bool)
-    → IsRange start end n xs → AllZip (λ x b. IsTrue b ↔ P x) xs bs → (k : ℕ)
-    → first_true bs ≡ Some k → IsFirstBelow P n k
-search-some P start end n xs bs r h k e =
-    let size = range-length start end n xs r in
-    let small = r.small in
-    let first = first_true-some P xs bs h (omega arith) k e in
+-- in the row of the numbers below n a place is its number
+found-below : (P : ℕ → Type 0) (n : ℕ) (o : Option ℕ) → IsFoundAt P (range_with_len 0 n) o
+    → IsFound P n o
+found-below P n None none = λ j l p.
+    let size = length-range_with_len 0 n in
+    none j (omega arith) (subst P (sym (get_or-range_with_len 0 n j 0 l ∙ zero-add j)) p)
+found-below P n (Some k) first =
+    let size = length-range_with_len 0 n in
     let within = first.within in
+    let at : (j : ℕ) → j < n → get_or (range_with_len 0 n) j 0 ≡ j
+    = λ j l. get_or-range_with_len 0 n j 0 l ∙ zero-add j in
     record {
       within = omega arith;
-      holds = subst P (range-at start end n xs r k (omega arith)) first.holds;
-      before = λ j l p. first.before j l
-          (subst P (sym (range-at start end n xs r j (omega arith))) p);
+      holds = subst P (at k (omega arith)) first.holds;
+      before = λ j l p. first.before j l (subst P (sym (at j (omega arith))) p);
     }
 
--- where it found none P holds of no number below n
-pub search-none : (P : ℕ → Type 0) (start end n : ℕ) (xs : List ℕ) (bs : List Bool)
-    → IsRange start end n xs → AllZip (λ x b. IsTrue b ↔ P x) xs bs → first_true bs ≡ None
-    → (j : ℕ) → j < n → P j → ⊥
-search-none P start end n xs bs r h e j l p =
-    let size = range-length start end n xs r in
-    first_true-none P xs bs h e j (omega arith)
-    (subst P (sym (range-at start end n xs r j l)) p)
+-- an item of the numbers from 0 to n is below n
+pub item-below : (start end n k d : ℕ) → start ≡ 0 → end ≡ n
+    → k < length (range_with_len start (end - start))
+    → get_or (range_with_len start (end - start)) k d < n
+item-below start end n k d from_zero to_end l =
+    let size = length-range_with_len start (end - start) in
+    let at = get_or-range_with_len start (end - start) k d (omega arith) in
+    omega arith
+
+-- what a search that asks at each number from 0 to n found
+pub searched : (P : ℕ → Type 0) (start end n : ℕ) (found : Option ℕ) → start ≡ 0 → end ≡ n
+    → n < 2 ^ 64
+    → ((xs : List ℕ) × (bs : List Bool) × (xs ≡ range_with_len start (end - start))
+    × AllZip (λ x b. IsTrue b ↔ P x) xs bs × (found ≡ first_true bs))
+    → IsFound P n found
+searched P start end n found from_zero to_end small (xs, bs, items, asked, is) =
+    let count : end - start ≡ n = omega arith in
+    let row = items ∙ ap (λ s. range_with_len s (end - start)) from_zero
+    ∙ ap (range_with_len 0) count in
+    let size = length-range_with_len 0 n in
+    subst (IsFound P n) (sym is) (found-below P n (first_true bs)
+    (found-at P (range_with_len 0 n) bs
+    (subst (λ ys. AllZip (λ x b. IsTrue b ↔ P x) ys bs) row asked) (omega arith)))

@@ -1,9 +1,9 @@
-use Rattle.std.proofs.Common.{◌≡◌, ℕ, ◌<◌, length, ap, ◌∙◌, subst, arith, ⊎_elim}
+use Rattle.std.proofs.Common.{◌≡◌, ℕ, ◌<◌, ap, ◌∙◌, subst, arith, ⊎_elim}
 use Rattle.std.proofs.lemmas.Bool.{cases_lt}
 use Rattle.market.specs.Problems.{quota_of}
 use Rattle.market.specs.declared.programme.Prog.{Prog}
-use Rattle.market.proofs.Tallies.{count_none}
 use Rattle.stability_audit.specs.Verdicts.{IsOverQuota}
+use Rattle.stability_audit.proofs.FirstSaid.{over-within}
 use Rattle.stability_audit.proofs.auditing.first_over_quota.Goals as goal
 
 pub returns-then-quota-held : goal.returns-then-quota-held
@@ -34,12 +34,5 @@ loop-programme-preserved c q l over =
 
 pub returns : goal.returns
 returns c q over =
-    let m = c.args.market.now in
-    let held = c.args.placement.now in
-    ⊎_elim
-    (λ less. c.loop-programme.invariant q (omega arith) over)
-    (λ past.
-    let none = count_none q held (λ i holds.
-    let is = c.requires.programmes i q holds in absurd (omega arith)) in
-    absurd (omega arith))
-    (cases_lt q (length m.programmes))
+    let within = over-within c.args.market.now c.args.placement.now q c.requires.programmes over in
+    c.loop-programme.invariant q (omega arith) over

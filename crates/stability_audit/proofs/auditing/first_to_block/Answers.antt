@@ -1,72 +1,50 @@
-use Rattle.std.proofs.Common.{◌-◌, length, sym, ◌∙◌, arith, ⊎_elim}
-use Rattle.std.proofs.lemmas.Bool.{cases_lt}
-use Rattle.std.proofs.lemmas.List.FromFn.{length-range_with_len, get_or-range_with_len}
+use Rattle.std.proofs.Common.{length, ◌∙◌, subst, arith}
 use Rattle.stability_audit.specs.Entries.{BlocksWithSome}
 use Rattle.stability_audit.proofs.Listed.{blocking-candidate}
-use Rattle.stability_audit.proofs.Firsts.{search-some, search-none}
+use Rattle.stability_audit.proofs.Firsts.{IsFound, item-below, searched}
+use Rattle.stability_audit.proofs.auditing.first_to_block.Given as given
 use Rattle.stability_audit.proofs.auditing.first_to_block.Goals as goal
+use Rattle.stability_audit.proofs.auditing.first_to_block.Goals.{After-position_first-found}
 
 pub position_first-found-requires-clause-items : goal.position_first-found-requires-clause-items
-position_first-found-requires-clause-items g c κs within k d l =
-    let from_zero = c.into_par_iter.ensures.0 in
-    let to_end = c.into_par_iter.ensures.1 in
-    let count = c.candidate_count.ensures.count in
-    let size = length-range_with_len c.into_par_iter.result.start
-    (c.into_par_iter.result.end - c.into_par_iter.result.start) in
-    let at = get_or-range_with_len c.into_par_iter.result.start
-    (c.into_par_iter.result.end - c.into_par_iter.result.start) k d (omega arith) in
-    (c.requires.candidates, (c.requires.bases, (c.requires.acceptable _, omega arith)))
+position_first-found-requires-clause-items g c κs within k d l = (
+  c.requires.candidates,
+  (
+    c.requires.bases,
+    (
+      c.requires.acceptable _,
+      item-below _ _ _ k d c.into_par_iter.ensures.0
+          (c.into_par_iter.ensures.1 ∙ c.candidate_count.ensures.count) l,
+    ),
+  ),
+)
+
+-- what the search has found
+found : (g : given.Over) (c : After-position_first-found g)
+    → IsFound (BlocksWithSome c.args.market.now c.args.placement.now)
+    (length c.args.market.now.lists) c.position_first-found.result
+found g c =
+    let few = c.candidate_count.ensures.valid.candidates in
+    searched (BlocksWithSome c.args.market.now c.args.placement.now) _ _ _ _
+    c.into_par_iter.ensures.0 (c.into_par_iter.ensures.1 ∙ c.candidate_count.ensures.count)
+    (omega arith) c.position_first-found.ensures
 
 pub overflow_cast-result : goal.overflow_cast-result
 overflow_cast-result g c =
-    let e = c.position_first-found.ensures in
-    let count = c.candidate_count.ensures.count in
-    let few = c.candidate_count.ensures.valid.candidates in
-    let first = search-some (BlocksWithSome c.args.market.now c.args.placement.now)
-    c.into_par_iter.result.start c.into_par_iter.result.end (length c.args.market.now.lists)
-    e.0 e.1 (record {
-      from_zero = c.into_par_iter.ensures.0;
-      to_end = c.into_par_iter.ensures.1 ∙ count;
-      items = e.2;
-      small = omega arith;
-    })
-    e.3 c.in-Some.candidate (sym e.4 ∙ c.in-Some.is) in
+    let first = subst (IsFound _ _) c.in-Some.is
+    (found g (goal.at.overflow_cast-result g c).After-position_first-found) in
     let within = first.within in
+    let few = c.candidate_count.ensures.valid.candidates in
     omega arith
 
 pub returns-in-Some : goal.returns-in-Some
 returns-in-Some g c =
-    let m = c.args.market.now in
-    let held = c.args.placement.now in
-    let e = c.position_first-found.ensures in
-    let count = c.candidate_count.ensures.count in
-    let few = c.candidate_count.ensures.valid.candidates in
-    let first = search-some (BlocksWithSome m held) c.into_par_iter.result.start
-    c.into_par_iter.result.end (length m.lists) e.0 e.1
-    (record {
-      from_zero = c.into_par_iter.ensures.0;
-      to_end = c.into_par_iter.ensures.1 ∙ count;
-      items = e.2;
-      small = omega arith;
-    }) e.3 c.in-Some.candidate (sym e.4 ∙ c.in-Some.is) in
+    let first = subst (IsFound _ _) c.in-Some.is
+    (found g (goal.at.returns-in-Some g c).After-position_first-found) in
     record { candidate = first.within; blocks = first.holds; first = first.before }
 
 pub returns-in-None : goal.returns-in-None
-returns-in-None g c j =
-    let m = c.args.market.now in
-    let held = c.args.placement.now in
-    let e = c.position_first-found.ensures in
-    let count = c.candidate_count.ensures.count in
-    let few = c.candidate_count.ensures.valid.candidates in
-    λ blocks. ⊎_elim
-    (λ within. search-none (BlocksWithSome m held) c.into_par_iter.result.start
-    c.into_par_iter.result.end (length m.lists) e.0 e.1
-    (record {
-      from_zero = c.into_par_iter.ensures.0;
-      to_end = c.into_par_iter.ensures.1 ∙ count;
-      items = e.2;
-      small = omega arith;
-    }) e.3 (sym e.4 ∙ c.in-None.is) j within blocks)
-    (λ past.
-    let within = blocking-candidate m held j blocks in absurd (omega arith))
-    (cases_lt j (length m.lists))
+returns-in-None g c =
+    let none = subst (IsFound _ _) c.in-None.is
+    (found g (goal.at.returns-in-None g c).After-position_first-found) in
+    λ j blocks. none j (blocking-candidate c.args.market.now c.args.placement.now j blocks) blocks
