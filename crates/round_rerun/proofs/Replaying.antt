@@ -14,7 +14,7 @@ use Rattle.market.proofs.Counts.{sum_same}
 use Rattle.market.proofs.Plain.{IsRoundsUpto, IsRoundsUpto-none, IsRoundsUpto-more, rounds-le, rounds-last, rounds-fall, sum_next}
 use Rattle.market.proofs.Reruns.{first-le}
 use Rattle.market.proofs.Replays.{round-cuts, round-count, round-best_programmes, round-changed, run-none, run-kept, empty_table-count}
-use Rattle.round_rerun.specs.Runs.{first_turn_of, run_turns}
+use Rattle.round_rerun.specs.Runs.{first_turn_of, run_turns, HasRisenWithin}
 
 -- the rounds so far: their cuts, the table, the turns that the next one runs, and those run
 pub record IsReplayUpto (m : Problem) (r : ℕ) (cuts : List ℕ) (total : ℕ) (table : List (List
@@ -148,7 +148,7 @@ sum_fewer f k (suc n) l =
     (cases_lt k (suc n))
 
 -- the turns run so far, and those of this round, are no more than the placement has
-pub replay-short : (m : Problem) (r : ℕ) (cuts : List ℕ) (total : ℕ) (table : List (List (Option
+replay-short : (m : Problem) (r : ℕ) (cuts : List ℕ) (total : ℕ) (table : List (List (Option
     ℕ))) (firsts : List (Option ℕ)) (done : ℕ) → IsReplayUpto m r cuts total table firsts done
     → done + run_turns m firsts ≤ placement_turns m
 unfolding placement_turns mechanism_rounds
@@ -157,6 +157,16 @@ replay-short m r cuts total table firsts done u =
     let past = rounds-le m r total cuts u.rounds in
     let fewer = sum_fewer (round_turns m) (r + 1) (cutting_rounds m + 1) (omega arith) in
     omega arith
+
+-- so a counter that has risen by the turns run so far, and within this round by no more than it has,
+-- has risen by no more than the placement has
+pub replay-risen : (m : Problem) (r : ℕ) (cuts : List ℕ) (total : ℕ) (table : List (List (Option
+    ℕ))) (firsts : List (Option ℕ)) (done start before after : ℕ)
+    → IsReplayUpto m r cuts total table firsts done → before ≡ start + done
+    → HasRisenWithin before after (run_turns m firsts)
+    → HasRisenWithin start after (placement_turns m)
+replay-risen m r cuts total table firsts done start before after u steps (least, most) =
+    let short = replay-short m r cuts total table firsts done u in (omega arith, omega arith)
 
 -- the next round starts with fewer entries
 pub replay-fall : (m : Problem) → IsValid m → (cuts next : List ℕ) (count : ℕ) (more : List (List

@@ -3,7 +3,7 @@ use Rattle.market.proofs.Plain.{rounds_small, total_small}
 use Rattle.market.proofs.Replays.{round-within, round-count, round-table}
 use Rattle.market.specs.Reruns.{placement_turns}
 use Rattle.round_rerun.specs.Runs.{HasRisenWithin}
-use Rattle.round_rerun.proofs.Replaying.{replay-none, replay-within, replay-more, replay-fall, replay-short, replay-last, err_too}
+use Rattle.round_rerun.proofs.Replaying.{replay-none, replay-within, replay-more, replay-fall, replay-risen, replay-last, err_too}
 use Rattle.round_rerun.proofs.placing.place_rounds.Goals as goal
 
 pub rounds-init : goal.rounds-init
@@ -24,12 +24,14 @@ cut_lists-touched-requires-clause-within g c = round-within c.args.market.now c.
     c.run_round.new.tentative c.in_ok-done.ensures.round
 
 pub overflow_add-result : goal.overflow_add-result
-overflow_add-result g c = let h = rounds_small c.args.market.now c.in_ok-cuts.ensures.valid
-    c.rounds.rounds c.rounds.total c.rounds.cuts c.rounds.invariant.replay.rounds in omega arith
+overflow_add-result g c =
+    let h = rounds_small _ c.in_ok-cuts.ensures.valid _ _ _ c.rounds.invariant.replay.rounds in
+    omega arith
 
 pub overflow_add-rounds : goal.overflow_add-rounds
-overflow_add-rounds g c = let h = rounds_small c.args.market.now c.in_ok-cuts.ensures.valid
-    c.rounds.rounds c.rounds.total c.rounds.cuts c.rounds.invariant.replay.rounds in omega arith
+overflow_add-rounds g c =
+    let h = rounds_small _ c.in_ok-cuts.ensures.valid _ _ _ c.rounds.invariant.replay.rounds in
+    omega arith
 
 pub overflow_add-total : goal.overflow_add-total
 overflow_add-total g c =
@@ -40,41 +42,22 @@ overflow_add-total g c =
     c.in_ok-done.ensures.round) in
     omega arith
 
-pub returns-then-count-eq0-clause-placement : goal.returns-then-count-eq0-clause-placement
-returns-then-count-eq0-clause-placement g c =
-    (replay-last c.args.market.now c.in_ok-cuts.ensures.valid c.rounds.rounds c.rounds.cuts
-    c.rounds.total c.several-count.result c.rounds.tentative c.run_round.new.tentative
-    c.rounds.touched.first c.rounds.done c.in_ok-done.field-0 c.from_vec.result
-    c.rounds.invariant.replay c.in_ok-done.ensures.round c.in_ok-done.ensures.count
-    (c.several-count.ensures ∙ c.cut_lists-touched.ensures.several) c.if-count-eq0.true
-    (c.from_vec.ensures ∙ c.in_ok-held.ensures)).placement
-
-pub returns-then-count-eq0-clause-rounds : goal.returns-then-count-eq0-clause-rounds
-returns-then-count-eq0-clause-rounds g c =
-    (replay-last c.args.market.now c.in_ok-cuts.ensures.valid c.rounds.rounds c.rounds.cuts
-    c.rounds.total c.several-count.result c.rounds.tentative c.run_round.new.tentative
-    c.rounds.touched.first c.rounds.done c.in_ok-done.field-0 c.from_vec.result
-    c.rounds.invariant.replay c.in_ok-done.ensures.round c.in_ok-done.ensures.count
-    (c.several-count.ensures ∙ c.cut_lists-touched.ensures.several) c.if-count-eq0.true
-    (c.from_vec.ensures ∙ c.in_ok-held.ensures)).rounds'
-
-pub returns-then-count-eq0-clause-cuts : goal.returns-then-count-eq0-clause-cuts
-returns-then-count-eq0-clause-cuts g c =
-    (replay-last c.args.market.now c.in_ok-cuts.ensures.valid c.rounds.rounds c.rounds.cuts
-    c.rounds.total c.several-count.result c.rounds.tentative c.run_round.new.tentative
-    c.rounds.touched.first c.rounds.done c.in_ok-done.field-0 c.from_vec.result
-    c.rounds.invariant.replay c.in_ok-done.ensures.round c.in_ok-done.ensures.count
-    (c.several-count.ensures ∙ c.cut_lists-touched.ensures.several) c.if-count-eq0.true
-    (c.from_vec.ensures ∙ c.in_ok-held.ensures)).cuts'
-
-pub returns-then-count-eq0-clause-reruns : goal.returns-then-count-eq0-clause-reruns
-returns-then-count-eq0-clause-reruns g c =
-    (replay-last c.args.market.now c.in_ok-cuts.ensures.valid c.rounds.rounds c.rounds.cuts
-    c.rounds.total c.several-count.result c.rounds.tentative c.run_round.new.tentative
-    c.rounds.touched.first c.rounds.done c.in_ok-done.field-0 c.from_vec.result
-    c.rounds.invariant.replay c.in_ok-done.ensures.round c.in_ok-done.ensures.count
-    (c.several-count.ensures ∙ c.cut_lists-touched.ensures.several) c.if-count-eq0.true
-    (c.from_vec.ensures ∙ c.in_ok-held.ensures)).turns'
+pub returns-then-count-eq0 : goal.returns-then-count-eq0
+returns-then-count-eq0 g c =
+    let last = replay-last c.args.market.now c.in_ok-cuts.ensures.valid c.rounds.rounds
+    c.rounds.cuts c.rounds.total c.several-count.result c.rounds.tentative
+    c.run_round.new.tentative c.rounds.touched.first c.rounds.done c.in_ok-done.field-0
+    c.from_vec.result c.rounds.invariant.replay c.in_ok-done.ensures.round
+    c.in_ok-done.ensures.count (c.several-count.ensures ∙ c.cut_lists-touched.ensures.several)
+    c.if-count-eq0.true (c.from_vec.ensures ∙ c.in_ok-held.ensures) in
+    record {
+      placement = last.placement;
+      rounds = last.rounds';
+      cuts = last.cuts';
+      reruns = last.turns';
+      turns = omega (arith, c.rounds.invariant.steps, c.in_ok-done.ensures.turns);
+      refused = tt;
+    }
 
 pub rounds-smaller : goal.rounds-smaller
 rounds-smaller g c = replay-fall c.args.market.now c.in_ok-cuts.ensures.valid c.rounds.cuts
@@ -96,25 +79,15 @@ rounds-preserved g c = record {
 
 pub returns-in_err-done-clause-refused : goal.returns-in_err-done-clause-refused
 returns-in_err-done-clause-refused g c =
-    let short = replay-short c.args.market.now c.rounds.rounds c.rounds.cuts c.rounds.total
-    c.rounds.tentative c.rounds.touched.first c.rounds.done c.rounds.invariant.replay in
-    let steps = c.rounds.invariant.steps in
-    let least = c.in_err-done.ensures.refused.0 in
-    let most = c.in_err-done.ensures.refused.1 in
-    let risen : HasRisenWithin c.args.turns.now c.run_round.new.turns
-    (placement_turns c.args.market.now) = (omega arith, omega arith) in
-    err_too _ _ risen
+    err_too _ _ (replay-risen _ _ _ _ _ _ _ _ _ _ c.rounds.invariant.replay
+    c.rounds.invariant.steps c.in_err-done.ensures.refused)
 
 pub returns-in_err-held-clause-refused : goal.returns-in_err-held-clause-refused
 returns-in_err-held-clause-refused g c =
-    let short = replay-short c.args.market.now c.rounds.rounds c.rounds.cuts c.rounds.total
-    c.rounds.tentative c.rounds.touched.first c.rounds.done c.rounds.invariant.replay in
-    let steps = c.rounds.invariant.steps in
     let turns = c.in_ok-done.ensures.turns in
     let count = c.in_ok-done.ensures.count in
-    let risen : HasRisenWithin c.args.turns.now c.run_round.new.turns
-    (placement_turns c.args.market.now) = (omega arith, omega arith) in
-    err_too _ _ risen
+    err_too _ _ (replay-risen _ _ _ _ _ _ _ _ _ _ c.rounds.invariant.replay
+    c.rounds.invariant.steps (omega arith, omega arith))
 
 pub overflow_add-done : goal.overflow_add-done
 overflow_add-done g c =
@@ -142,7 +115,3 @@ returns-in_err-cuts-clause-refused g c =
 pub returns-in_err-tentative-clause-refused : goal.returns-in_err-tentative-clause-refused
 returns-in_err-tentative-clause-refused g c =
     err_too _ _ (stands_still c.args.turns.now (placement_turns c.args.market.now))
-
-pub returns-then-count-eq0-clause-turns : goal.returns-then-count-eq0-clause-turns
-returns-then-count-eq0-clause-turns g c =
-    omega (arith, c.rounds.invariant.steps, c.in_ok-done.ensures.turns)

@@ -1,4 +1,4 @@
-use Rattle.std.proofs.Common.{◌≡◌, ℕ, ◌+◌, ◌∙◌, ap, sym, subst, length, List, arith, rules, set, replicate, Vec, Global}
+use Rattle.std.proofs.Common.{◌≡◌, ℕ, ◌+◌, ◌<◌, ◌∙◌, ap, sym, subst, length, List, arith, rules, set, replicate, Vec, Global}
 use Rattle.std.specs.Prelude.{slice_index}
 use Rattle.std.proofs.lemmas.List.{get_or_read}
 use Rattle.market.specs.LocalNumbers.{programmes_of}
@@ -7,7 +7,7 @@ use Rattle.market.specs.Reruns.{IsKeptFill}
 use Rattle.market.proofs.Dicts.{local_lt}
 use Rattle.market.proofs.Replays.{IsKeptFill-none, IsKeptFill-take, IsKeptFill-pass, kept-le}
 use Rattle.round_rerun.proofs.rerun.kept_fill.Goals as goal
-use Rattle.round_rerun.proofs.rerun.kept_fill.Goals.{in-Some, in_default}
+use Rattle.round_rerun.proofs.rerun.kept_fill.Goals.{After-local-number, in-Some, in_default}
 
 pub loop-turn-init : goal.loop-turn-init
 loop-turn-init c =
@@ -25,8 +25,9 @@ local-number-requires c =
     (sym c.order-order.ensures.order) ∙ sym c.choice.ensures ∙ c.in-Some.is in
     (c.requires.programmes c.loop-turn.turn c.in-Some.programme c.loop-turn-test.true at).0
 
-pub index_mut-requires : goal.index_mut-requires
-index_mut-requires c =
+-- the number of the programme that the turn chose is that of an entry
+number-within : (c : After-local-number) → c.local-number.result < length c.loop-turn.fill.items
+number-within c =
     let m = c.args.market.now in
     let table = c.args.tentative.now in
     let at = ap (λ (xs : List ℕ). held_in_table table c.args.kind (slice_index xs c.loop-turn.turn))
@@ -37,17 +38,17 @@ index_mut-requires c =
     let e = c.local-number.ensures in
     omega arith
 
+pub index_mut-requires : goal.index_mut-requires
+index_mut-requires c =
+    let within = number-within (goal.at.index_mut-requires c).After-local-number in omega arith
+
 pub overflow_add-index_mut : goal.overflow_add-index_mut
 overflow_add-index_mut c =
     let m = c.args.market.now in
     let table = c.args.tentative.now in
-    let at = ap (λ (xs : List ℕ). held_in_table table c.args.kind (slice_index xs c.loop-turn.turn))
-    (sym c.order-order.ensures.order) ∙ sym c.choice.ensures ∙ c.in-Some.is in
-    let p = c.requires.programmes c.loop-turn.turn c.in-Some.programme c.loop-turn-test.true at in
-    let l = local_lt m c.args.kind c.in-Some.programme p.0 p.1 in
-    let n = c.loop-turn.invariant.programmes in
-    let e = c.local-number.ensures in
     let number = c.local-number.result in
+    let within = number-within (goal.at.overflow_add-index_mut c).After-local-number in
+    let n = c.loop-turn.invariant.programmes in
     let x = c.loop-turn.invariant.each number (omega arith) in
     let b = kept-le m (held_in_table table) c.args.kind c.loop-turn.turn (slice_index (programmes_of
     m c.args.kind) number) in
