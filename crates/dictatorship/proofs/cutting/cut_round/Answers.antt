@@ -68,19 +68,14 @@ loop-candidate-preserved c =
           (sym c.has_several.ensures ∙ w.if-has_several.false) inv))
     ]
 
-pub returns-clause-cuts : goal.returns-clause-cuts
-returns-clause-cuts c =
+pub returns : goal.returns
+returns c =
     let m = c.args.market.now in
     let n = c.candidate_count-candidate-end.ensures.count in
-    (IsCutUpto-all m (held_in_table c.args.table.now) c.args.cuts.now c.loop-candidate.cuts
-    c.loop-candidate.candidate c.loop-candidate.count (omega arith) c.loop-candidate.invariant).0
-    ∙ round-cuts m c.candidate_count-candidate-end.ensures.valid c.args.cuts.now c.args.table.now
-    c.requires.round
-
-pub returns-clause-count : goal.returns-clause-count
-returns-clause-count c =
-    let m = c.args.market.now in
-    let n = c.candidate_count-candidate-end.ensures.count in
-    (IsCutUpto-all m (held_in_table c.args.table.now) c.args.cuts.now c.loop-candidate.cuts
-    c.loop-candidate.candidate c.loop-candidate.count (omega arith) c.loop-candidate.invariant).1
-    ∙ round-count m c.args.cuts.now c.args.table.now c.requires.round
+    let all = IsCutUpto-all m (held_in_table c.args.table.now) c.args.cuts.now c.loop-candidate.cuts
+    c.loop-candidate.candidate c.loop-candidate.count (omega arith) c.loop-candidate.invariant in
+    record {
+      cuts = all.0 ∙ round-cuts m c.candidate_count-candidate-end.ensures.valid c.args.cuts.now
+          c.args.table.now c.requires.round;
+      count = all.1 ∙ round-count m c.args.cuts.now c.args.table.now c.requires.round;
+    }

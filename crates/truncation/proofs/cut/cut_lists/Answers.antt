@@ -114,24 +114,18 @@ loop-candidate-preserved c =
           }
     ]
 
-pub returns-clause-cuts : goal.returns-clause-cuts
-returns-clause-cuts c =
+pub returns : goal.returns
+returns c =
     let n = c.candidate_count-candidate-end.ensures.count in
-    (IsCutUpto-all c.args.market.now (held_in_table c.args.tentative.now) c.args.cuts.now
+    let all = IsCutUpto-all c.args.market.now (held_in_table c.args.tentative.now) c.args.cuts.now
     c.loop-candidate.cuts c.loop-candidate.candidate c.loop-candidate.touched.several (omega arith)
-    c.loop-candidate.invariant.cut).0
-
-pub returns-clause-several : goal.returns-clause-several
-returns-clause-several c =
-    let n = c.candidate_count-candidate-end.ensures.count in
-    (IsCutUpto-all c.args.market.now (held_in_table c.args.tentative.now) c.args.cuts.now
-    c.loop-candidate.cuts c.loop-candidate.candidate c.loop-candidate.touched.several (omega arith)
-    c.loop-candidate.invariant.cut).1
-
-pub returns-clause-first : goal.returns-clause-first
-returns-clause-first c =
-    let n = c.candidate_count-candidate-end.ensures.count in
-    λ t l. IsFirstUpto-all c.args.market.now c.candidate_count-candidate-end.ensures.valid
-    (held_in_table c.args.tentative.now) c.args.cuts.now t c.loop-candidate.candidate
-    (slice_index_or c.loop-candidate.touched.first t None) l (omega arith)
-    (c.loop-candidate.invariant.first t l)
+    c.loop-candidate.invariant.cut in
+    record {
+      cuts = all.0;
+      several = all.1;
+      first = λ t l. IsFirstUpto-all c.args.market.now
+          c.candidate_count-candidate-end.ensures.valid (held_in_table c.args.tentative.now)
+          c.args.cuts.now t c.loop-candidate.candidate
+          (slice_index_or c.loop-candidate.touched.first t None) l (omega arith)
+          (c.loop-candidate.invariant.first t l);
+    }
