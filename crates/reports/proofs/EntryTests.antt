@@ -1,28 +1,19 @@
 -- Which reason an entry has, by three tests.
-use Rattle.std.proofs.Common.{◌≡◌, ℕ, Bool, true, false, List, Option, ap, ◌∙◌}
+use Rattle.std.proofs.Common.{◌≡◌, ℕ, true, false, List, Option, refl}
 use Rattle.std.specs.Prelude.{if◌then◌else◌}
 use Rattle.market.specs.Counting.{is_programme}
 use Rattle.market.specs.Problems.{Problem, admits, list_of}
 use Rattle.market.specs.BaseRanks.{base_rank}
 use Rattle.market.specs.Stability.{held_by}
 use Rattle.reports.specs.Reasons.{entry_at, reason_of, stands_before}
-use Rattle.reports.specs.declared.reasons.Reason.{Reason}
 use Rattle.reports.specs.declared.reasons.Reason.TheVariants.{Placed, Below, NoRank, Full}
-
--- the reason by the outcomes of the three tests
-abbrev by_tests : Bool → Bool → Bool → Option ℕ → Reason
-by_tests is_held is_below is_ranked base =
-    if is_held then Placed
-    else (if is_below then Below else (if is_ranked then Full base else NoRank))
 
 -- an entry that is held
 pub reason-placed : (m : Problem) (held : List (Option ℕ)) (i place : ℕ)
     → is_programme (entry_at m i place) (held_by held i) ≡ true
     → reason_of m held i place ≡ Placed
 unfolding reason_of
-reason-placed m held i place h =
-    ap (λ (b : Bool). by_tests b (stands_before (list_of m i) (held_by held i) place)
-    (admits m (entry_at m i place) i) (base_rank m held (entry_at m i place))) h
+reason-placed m held i place h = rw h refl
 
 -- an entry below the one held
 pub reason-below : (m : Problem) (held : List (Option ℕ)) (i place : ℕ)
@@ -30,11 +21,7 @@ pub reason-below : (m : Problem) (held : List (Option ℕ)) (i place : ℕ)
     → stands_before (list_of m i) (held_by held i) place ≡ true
     → reason_of m held i place ≡ Below
 unfolding reason_of
-reason-below m held i place h b =
-    ap (λ (x : Bool). by_tests x (stands_before (list_of m i) (held_by held i) place)
-    (admits m (entry_at m i place) i) (base_rank m held (entry_at m i place))) h
-    ∙ ap (λ (x : Bool). by_tests false x
-    (admits m (entry_at m i place) i) (base_rank m held (entry_at m i place))) b
+reason-below m held i place h b = rw h (rw b refl)
 
 -- an entry above it, by whether the candidate has a rank in its type
 pub reason-above : (m : Problem) (held : List (Option ℕ)) (i place : ℕ)
@@ -44,11 +31,7 @@ pub reason-above : (m : Problem) (held : List (Option ℕ)) (i place : ℕ)
     ≡ (if admits m (entry_at m i place) i then Full (base_rank m held (entry_at m i place)) else
     NoRank)
 unfolding reason_of
-reason-above m held i place h b =
-    ap (λ (x : Bool). by_tests x (stands_before (list_of m i) (held_by held i) place)
-    (admits m (entry_at m i place) i) (base_rank m held (entry_at m i place))) h
-    ∙ ap (λ (x : Bool). by_tests false x
-    (admits m (entry_at m i place) i) (base_rank m held (entry_at m i place))) b
+reason-above m held i place h b = rw h (rw b refl)
 
 -- what is so where the reason is that the programme is full
 pub record IsFullEntry (m : Problem) (held : List (Option ℕ)) (i place : ℕ) : Type 0 where
