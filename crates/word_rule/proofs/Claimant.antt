@@ -9,7 +9,7 @@ use Rattle.market.specs.Dictatorships.{Dictatorship}
 use Rattle.interleaving_core.specs.declared.parts.Cell.TheVariants.{Posted}
 use Rattle.interleaving_core.specs.declared.parts.Claiming.{Claiming}
 use Rattle.interleaving_core.specs.Flags.{flag_group, is_raised_in}
-use Rattle.interleaving_core.specs.Core.{View, Core, turn_count, entry, quota_of, seats_of}
+use Rattle.interleaving_core.specs.Core.{View, Core, turn_count, entry, quota_of}
 use Rattle.interleaving_core.specs.Events.{Claims, ReadsFlags, Reads, Posts, IsAllowed, after_claim, after_flags, after_read, after_post, after}
 use Rattle.interleaving_core.specs.Sound.{bit, done_bit, AreSoundOwnTurns}
 use Rattle.interleaving_core.proofs.Places.{at_snoc}
@@ -175,14 +175,9 @@ module _ (key : RoundKey) where
       let turns = ap (λ (z : Dictatorship). turn_count z) round in
       let inside : p < programme_count d =
       h.valid.list_entries k j (omega arith) may.1 in
-      let seen : found ≡ seats_of (table_core key s) p =
-      ap (λ (z : ℕ). get_or s.words z 0) is
-      ∙ sym (reads_seats d s.words (core_views s.views) p inside) in
-      let leads : core_of d s.words (set (core_views s.views) (place s.views id) y.core)
-      ≡ after d (table_core key s) (place s.views id) x.core (Reads k j) =
-      ap (λ (v : View). core_of d s.words (set (core_views s.views) (place s.views id) v))
-      (by ∙ ap seen_view seen) in
-      let step = load_step key s h id i me y (Reads k j) live same may leads refl (λ f. f) in
+      let seen = sym (reads_seats d s.words (core_views s.views) i p is inside) in
+      let step = load_step key s h id i me y (Reads k j) live same may (by ∙ ap seen_view seen) refl
+      refl (λ f. f) in
       (y, keeps, tt, step.kept, record { before = step.before; seat = refl; range = step.range })
 
   -- a look at the word that has the flag of the next entry
@@ -203,10 +198,6 @@ module _ (key : RoundKey) where
       let same = flags_same x x.core.claim found alone in
       let seen : found ≡ get_or (table_core key s).flags group 0 =
       sym (reads_flags d s.words (core_views s.views) i group is) in
-      let leads : core_of d s.words (set (core_views s.views) (place s.views id) y.core)
-      ≡ after d (table_core key s) (place s.views id) x.core (ReadsFlags k j) =
-      ap (λ (v : View). core_of d s.words (set (core_views s.views) (place s.views id) v))
-      (by ∙ ap seen_view seen) in
       let flags : y.flags ≡ x.flags ++ (group, found) ∷ [] =
       (λ z. (flags_by record x { dict = round z } (may.0 z) found).flags) in
       let reads : HasReadFull d (seats_in key s.words) x → HasReadFull d (seats_in key s.words) y =
@@ -218,8 +209,8 @@ module _ (key : RoundKey) where
       let inside = raised_inside d (table_core key s) h.sound p up in
       (inside, raised_full d (table_core key s) h.sound p inside up))
       old flags in
-      let step = load_step key s h id i me y (ReadsFlags k j) live same may leads
-      (flags_released x x.core.claim found) reads in
+      let step = load_step key s h id i me y (ReadsFlags k j) live same may
+      (by ∙ ap seen_view seen) refl (flags_released x x.core.claim found) reads in
       (y, keeps, tt, step.kept, record { before = step.before; seat = refl; range = step.range })
 
   -- a post of the place found to the turn's cell

@@ -198,11 +198,8 @@ module _ (key : RoundKey) where
       let y = with_core x v in
       let same = same_with x v (ap (λ (u : View). u.done) by) alone in
       let seen = reads_cell d s.words (core_views s.views) i k is may.1 in
-      let leads : core_of d s.words (set (core_views s.views) (place s.views id) v)
-      ≡ after d (table_core key s) (place s.views id) x.core (Looks k) =
-      ap (λ (u : View). core_of d s.words (set (core_views s.views) (place s.views id) u))
-      (by ∙ ap seen_view (sym seen)) in
-      let step = load_step key s h id i me y (Looks k) live same may leads refl (λ f. f) in
+      let step = load_step key s h id i me y (Looks k) live same may (by ∙ ap seen_view (sym seen))
+      refl refl (λ f. f) in
       let mine = h.each id x live in
       let count = ((seat_fits key s h id x live).hold _ may.0).committed in (
         y,
@@ -239,14 +236,9 @@ module _ (key : RoundKey) where
       let same = same_with x v (ap (λ (u : View). u.done) by) alone in
       let turn = ((seat_fits key s h id x live).hold _ may.0).phase.0.0 in
       let inside : p < programme_count d = h.valid.list_entries k j turn may.1 in
-      let seen : found ≡ seats_of (table_core key s) p =
-      ap (λ (z : ℕ). get_or s.words z 0) is
-      ∙ sym (reads_seats d s.words (core_views s.views) p inside) in
-      let leads : core_of d s.words (set (core_views s.views) (place s.views id) v)
-      ≡ after d (table_core key s) (place s.views id) x.core (Weighs k j) =
-      ap (λ (u : View). core_of d s.words (set (core_views s.views) (place s.views id) u))
-      (by ∙ ap seen_view seen) in
-      let step = load_step key s h id i me y (Weighs k j) live same may leads refl (λ f. f) in
+      let seen = sym (reads_seats d s.words (core_views s.views) i p is inside) in
+      let step = load_step key s h id i me y (Weighs k j) live same may (by ∙ ap seen_view seen)
+      refl refl (λ f. f) in
       (y, keeps, tt, step.kept, record { before = step.before; seat = refl; range = step.range })
 
   -- a seat taken of the entry at the holder's place
@@ -269,9 +261,7 @@ module _ (key : RoundKey) where
       let fit = seat_fits key s h id x live in
       let phase = (fit.hold _ may).phase in
       let inside : p < programme_count d = h.valid.list_entries k j phase.0.0 phase.1 in
-      let seen : found ≡ seats_of (table_core key s) p =
-      ap (λ (z : ℕ). get_or s.words z 0) is
-      ∙ sym (reads_seats d s.words (core_views s.views) p inside) in
+      let seen = sym (reads_seats d s.words (core_views s.views) i p is inside) in
       let now = seats_now d (table_core key s) h.sound (place s.views id) x.core
       (at_place s.views id x live) _ may (λ q. refl) p inside in
       let most = seats_taken-le-quota d p (h.valid.filled p inside) k in

@@ -306,15 +306,20 @@ module _ (key : RoundKey) where
       event_step s h id me (with_core me.0 v) (set s.words i n) a live same may
       (length-set s.words i n) is (omega arith) (omega arith) (λ f. f)
 
-  -- so is a load
+  -- so is a load, after which the seat's view is the one after the event
   pub load_step : (s : Table) (h : IsSoundTable key s) (id i : ℕ) (me : SeatMe) (y : SeatKnows)
       (a : Action) → IsLive s.views id me.0 → IsSameSeat me.0 y → IsAllowed d me.0.core a
-      → core_of d s.words (set (core_views s.views) (place s.views id) y.core)
+      → y.core ≡ view_after d (table_core key s) me.0.core a
+      → core_of d s.words
+      (set (core_views s.views) (place s.views id) (view_after d (table_core key s) me.0.core a))
       ≡ after d (table_core key s) (place s.views id) me.0.core a
       → y.released ≡ me.0.released
       → (HasReadFull d (seats_in s.words) me.0 → HasReadFull d (seats_in s.words) y)
       → IsStep s id me y (set s.words i (get_or s.words i 0)) a
-  load_step s h id i me y a live same may is told reads =
+  load_step s h id i me y a live same may shown is told reads =
       let behind = (h.each id me.0 live).behind in
+      let leads = ap
+      (λ (v : View). core_of d s.words (set (core_views s.views) (place s.views id) v)) shown ∙ is
+      in
       subst (λ (l : List ℕ). IsStep s id me y l a) (sym (set-get_or s.words i 0))
-      (event_step s h id me y s.words a live same may refl is (omega arith) (omega arith) reads)
+      (event_step s h id me y s.words a live same may refl leads (omega arith) (omega arith) reads)
