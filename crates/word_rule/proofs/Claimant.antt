@@ -134,7 +134,8 @@ module _ (key : RoundKey) where
       let up : next ≡ n + 1 = mod-eq_of_lt (let l : n + 1 < 2 ^ 64 = omega arith in l) in
       let at_place = place s.views id in
       let views = set (core_views s.views) at_place y.core in
-      let is : core_of d (set s.words 0 next) views ≡ after d (table_core key s) at_place x.core Claims =
+      let is : core_of d (set s.words 0 next) views
+      ≡ after d (table_core key s) at_place x.core Claims =
       writes_claim d s.words views next (omega arith)
       ∙ (λ k. record (table_core key s) {
         claim_number = up k;
@@ -236,6 +237,6 @@ module _ (key : RoundKey) where
         cells = set (table_core key s).cells k (Posted j);
         views = set (core_views s.views) at_place (after_post x.core z);
       }) half in
-      let step = write_step key s h id me y.core i word (Posts k j looked met) (λ e. omega arith) live
-      same may leads in
+      let step = write_step key s h id me y.core i word (Posts k j looked met) (λ e. omega arith)
+      live same may leads in
       (y, keeps, tt, step.kept, record { before = step.before; seat = refl; range = step.range })

@@ -277,8 +277,8 @@ module _ (key : RoundKey) where
         seats = set (table_core key s).seats p (count z);
         views = set (core_views s.views) (place s.views id) ((by ∙ ap seen_view seen) z);
       }) in
-      let step = write_step key s h id me v i next (Seats k j) (λ e. omega arith) live same may leads
-      in (
+      let step = write_step key s h id me v i next (Seats k j) (λ e. omega arith) live same may
+      leads in (
         y,
         keeps,
         tt,
@@ -315,8 +315,8 @@ module _ (key : RoundKey) where
         flags = set (table_core key s).flags group (raised z);
         views = set (core_views s.views) (place s.views id) (by z);
       }) in
-      let step = write_step key s h id me v i word (Raises k j) (λ e. omega arith) live same may leads
-      in
+      let step = write_step key s h id me v i word (Raises k j) (λ e. omega arith) live same may
+      leads in
       (y, keeps, tt, step.kept, record { before = step.before; seat = refl; range = step.range })
 
   -- a commit of the holder's turn at its place
@@ -340,8 +340,8 @@ module _ (key : RoundKey) where
         cells = set (table_core key s).cells k (Committed j);
         views = set (core_views s.views) (place s.views id) u;
       }) by in
-      let step = write_step key s h id me v i word (Seals k j phase) (λ e. omega arith) live same may
-      leads in
+      let step = write_step key s h id me v i word (Seals k j phase) (λ e. omega arith) live same
+      may leads in
       (y, keeps, tt, step.kept, record { before = step.before; seat = refl; range = step.range })
 
   -- a release with the number of committed turns
