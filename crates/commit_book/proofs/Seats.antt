@@ -1,12 +1,14 @@
 -- Lists of seats that may draw: one taken from the end, or put there.
-use Rattle.std.proofs.Common.{◌≡◌, ℕ, ◌+◌, List, [], ◌∷◌, ◌++◌, ap, arith}
-use Rattle.interleaving_core.specs.Core.{View}
-use Rattle.word_rule.specs.Rounds.{knows, shares_of, AreNew}
+use Rattle.std.proofs.Common.{◌≡◌, ℕ, ◌+◌, ◌<◌, ◌≤◌, Bool, List, [], ◌∷◌, ◌++◌, length, Some, sym, ap, subst, ◌∙◌, arith}
+use Rattle.market.specs.Dictatorships.{Dictatorship, list_at}
+use Rattle.interleaving_core.specs.declared.parts.Claiming.{Claiming}
+use Rattle.interleaving_core.specs.Core.{View, turn_count, claim_at}
+use Rattle.word_rule.specs.Rounds.{knows, dict_of, shares_of, IsSeatOf, AreNew}
 use Rattle.word_rule.specs.declared.seat.SharedRound.{SharedRound}
 use Rattle.word_rule.specs.declared.seat.WorkSeat.{WorkSeat}
 use Rattle.interleaving_core.proofs.Places.{each_last, each_snoc}
 use Rattle.word_rule.proofs.Seats.{shares_last}
-use Rattle.commit_book.specs.Seats.{IsWorking, AreWorking}
+use Rattle.commit_book.specs.Seats.{IsWorking, AreWorking, IsClaimOf}
 
 -- the last of these seats, and the others
 pub ready_last : (round : SharedRound) (l xs : List WorkSeat) (m : WorkSeat) → l ≡ xs ++ m ∷ []
@@ -36,3 +38,32 @@ shares_moved from rest to moved me new all taken put same sum =
     let before = shares_last from rest me taken in
     let after = shares_last to moved new put in
     omega arith
+
+-- the claim that a seat of the round shows, within the turns and lists of the round
+pub record ClaimWithin (me : WorkSeat) (d : Dictatorship) (x : Claiming) : Type 0 where
+  pub claim : (knows me).core.claim ≡ Some x
+  pub turn : x.turn < turn_count d
+  pub passed : x.passed ≤ length (list_at d x.turn)
+  pub same : length (list_at d x.turn) ≡ length (list_at (knows me).dict x.turn)
+
+-- it lies within them
+pub claim_within : (round : SharedRound) (me : WorkSeat) (d : Dictatorship) (x : Claiming)
+    → IsSeatOf round me × (d ≡ dict_of round) → me.claim ≡ Some x → ClaimWithin me d x
+claim_within round me d x seat is =
+    let same : (knows me).dict ≡ d = seat.0.dict ∙ sym seat.1 in
+    let claim = sym me.claim_is ∙ is in
+    record {
+      claim = claim;
+      turn = subst (λ (z : Dictatorship). x.turn < turn_count z) same
+          (me.in_range.claimed _ _ _ _ claim);
+      passed = subst (λ (z : Dictatorship). x.passed ≤ length (list_at z x.turn)) same
+          (me.in_range.passed _ _ _ _ claim);
+      same = ap (λ (z : Dictatorship). length (list_at z x.turn)) (sym same);
+    }
+
+-- a claim by what it says of flags and of an entry met
+pub claim_is : (me : WorkSeat) (x : Claiming) (left : ℕ) (looked met : Bool) → IsClaimOf me x left
+    → x.looked ≡ looked → x.met ≡ met
+    → (knows me).core.claim ≡ claim_at x.turn x.passed looked met
+claim_is me x left looked met is found entry =
+    is.claim ∙ (λ k. claim_at x.turn x.passed (found k) (entry k))

@@ -2,7 +2,7 @@
 
 ghost use Rattle.std.specs.Prelude.{◌≡◌, length, None, true, false};
 ghost use Rattle.word_rule.specs.Rounds.{knows, key_of, dict_of, IsSeatOf, IsNew, AreNew, IsOver};
-ghost use Rattle.commit_book.specs.Seats.{HasStepped, IsWorking};
+ghost use Rattle.commit_book.specs.Seats.{HasStepped, IsWorking, IsClaimOf};
 
 use crate::{commit_prefix, look, release, seal, seat, take, weigh};
 use claim_words::{claim, post, read_entry};
@@ -12,7 +12,9 @@ use market::examples::two_turns;
 use std::alloc::{AllocError, Global};
 use std::process::Abort;
 use std::test::Fail;
-use word_rule::{PhaseCopy, SharedRound, Words, WorkSeat, close_round, join_all, open_round};
+use word_rule::{
+    ClaimCopy, PhaseCopy, SharedRound, Words, WorkSeat, close_round, join_all, open_round,
+};
 
 // A round of many turns, posted in falling order.
 mod falling_posts;
@@ -55,23 +57,29 @@ fn ends(rt: &impl Abort, round: &SharedRound, me: &mut WorkSeat)
     }
 }
 
+// The seat's claim, and how many entries of its turn's list are left that it has not passed.
+fn claimed(rt: &impl Abort, round: &SharedRound, dict: &Dict, me: &WorkSeat) -> (ClaimCopy, usize)
+    requires seat { IsSeatOf round.now me.now × (dict.now ≡ dict_of round.now) }
+    ensures claim { IsClaimOf me.now result.0 result.1 }
+{
+    let Some(claim) = me.claim else {
+        panic!(rt; "no claim")
+    };
+    let places = dict.list(claim.turn).len();
+    (claim, places - claim.passed as usize)
+}
+
 // The seat looks at the flags of the next entries of its turn's list, and answers whether it came
 // to one that is lowered.
 fn looks_at_flags(rt: &impl Abort, round: &SharedRound, dict: &Dict, me: &mut WorkSeat) -> bool
     requires seat { IsSeatOf round.now me.old × (dict.now ≡ dict_of round.now) }
     ensures step { HasStepped round.now me.old me.new (knows me.old).core.owes }
 {
-    let Some(claim) = me.claim else {
-        panic!(rt; "no claim")
-    };
-    if claim.looked {
-        panic!(rt; "a lowered flag was found")
+    let (claim, left) = claimed(rt, round, dict, me);
+    if claim.looked || claim.met {
+        panic!(rt; "a lowered flag was found, or an entry is met")
     }
-    if claim.met {
-        panic!(rt; "an entry is met")
-    }
-    let places = dict.list(claim.turn).len();
-    if claim.passed as usize >= places {
+    if left == 0 {
         panic!(rt; "the whole list is passed")
     }
     let _ = read_flags(round, dict, me);
@@ -83,17 +91,11 @@ fn reads(rt: &impl Abort, round: &SharedRound, dict: &Dict, me: &mut WorkSeat) -
     requires seat { IsSeatOf round.now me.old × (dict.now ≡ dict_of round.now) }
     ensures step { HasStepped round.now me.old me.new (knows me.old).core.owes }
 {
-    let Some(claim) = me.claim else {
-        panic!(rt; "no claim")
-    };
-    if !claim.looked {
-        panic!(rt; "no lowered flag was found")
+    let (claim, left) = claimed(rt, round, dict, me);
+    if !claim.looked || claim.met {
+        panic!(rt; "no lowered flag was found, or an entry is met")
     }
-    if claim.met {
-        panic!(rt; "an entry is met")
-    }
-    let places = dict.list(claim.turn).len();
-    if claim.passed as usize >= places {
+    if left == 0 {
         panic!(rt; "the whole list is passed")
     }
     read_entry(round, dict, me)
@@ -104,11 +106,8 @@ fn posts(rt: &impl Abort, round: &SharedRound, dict: &Dict, me: &mut WorkSeat) -
     requires seat { IsSeatOf round.now me.old × (dict.now ≡ dict_of round.now) }
     ensures step { HasStepped round.now me.old me.new true }
 {
-    let Some(claim) = me.claim else {
-        panic!(rt; "no claim")
-    };
-    let places = dict.list(claim.turn).len();
-    if !claim.met && (claim.passed as usize) < places {
+    let (claim, left) = claimed(rt, round, dict, me);
+    if !claim.met && left > 0 {
         panic!(rt; "no entry is met, and some are left")
     }
     post(round, dict, me)

@@ -13,7 +13,7 @@ use Rattle.interleaving_core.specs.declared.parts.Cell.TheVariants.{Empty, Poste
 use Rattle.interleaving_core.specs.declared.parts.Claiming.{Claiming}
 use Rattle.interleaving_core.specs.declared.parts.Holding.{Holding}
 use Rattle.interleaving_core.specs.Flags.{flag_group, flag_bit, is_raised_in}
-use Rattle.interleaving_core.specs.Core.{View, Core, turn_count, entry, quota_of, seats_of, is_open, cell_at, is_committed, is_raised, claim_at}
+use Rattle.interleaving_core.specs.Core.{View, Core, turn_count, entry, quota_of, seats_of, is_open, cell_at, is_committed, is_raised}
 use Rattle.interleaving_core.specs.Events.{Claims, ReadsFlags, Reads, Posts, IsAllowed, after_claim_if, with_claim, claim_past_flags, after_read, after_post, after}
 use Rattle.interleaving_core.specs.Sound.{bit, turn_bit, done_bit, claim_bit, empty_bit, IsFullBefore, IsCellFrom, AreSoundOwnTurns, IsSoundClaim, DoesOneThing, IsSound}
 use Rattle.interleaving_core.proofs.Places.{sum_set, term_le, sum_zero}

@@ -1,9 +1,8 @@
 -- Words of flags, bit by bit: what is raised at the opening and once a flag is raised, and what a
 -- look at a word passes.
-use Rattle.std.proofs.Common.{◌≡◌, ◌≢◌, ℕ, zero, suc, ◌+◌, ◌-◌, ◌*◌, ◌^◌, ◌<◌, ◌≤◌, Bool, true, false, not, ◌&&◌, List, length, map, take, drop, get_or, set, nat_lt, nat_le, eqb, eq-eqb, sym, refl, ap, subst, ◌∙◌, arith, length-set, get_or-set_same, get_or-set_other}
+use Rattle.std.proofs.Common.{◌≡◌, ◌≢◌, ℕ, zero, suc, ◌+◌, ◌-◌, ◌*◌, ◌^◌, ◌<◌, ◌≤◌, Bool, true, false, not, ◌&&◌, List, length, drop, get_or, set, nat_lt, nat_le, eqb, eq-eqb, sym, refl, ap, subst, ◌∙◌, arith, get_or-set_same, get_or-set_other}
 use Rattle.std.specs.List.{position_or_len, range_with_len}
 use Rattle.std.specs.Int.{bit_at}
-use Rattle.std.specs.Int.RustNames.{bit_or}
 use Rattle.std.proofs.lemmas.Bool.{lt-ltb, le-ltb, eqb-true, not-false, and_parts}
 use Rattle.std.proofs.lemmas.Nat.Bits.{bit_at_or, bit_at-lt, bit_at-zero, bit_at-pow_same, bit_at-pow_other}
 use Rattle.std.proofs.lemmas.List.{length-map, get_or-drop, get_or_past, length-drop, length-take}
@@ -13,6 +12,7 @@ use Rattle.std.proofs.lemmas.List.Folds.{length-prefix_len}
 use mathlib.Core.Logic.{dite}
 use native.Mathlib.Decide.{ℕ_discrete}
 use Rattle.market.specs.Dictatorships.{Dictatorship, list_at}
+use Rattle.interleaving_core.specs.declared.parts.Claiming.{Claiming}
 use Rattle.interleaving_core.specs.declared.limits.TheConstants.{FLAGS_PER_WORD}
 use Rattle.interleaving_core.specs.Flags.{flag_word_count, flag_group, flag_bit, is_raised_in, with_flag, begins_full, begins_full_at, with_bit_if, word_of, first_flag_word, first_flags}
 use Rattle.interleaving_core.specs.Core.{entry}
@@ -231,6 +231,22 @@ past_flags_is d k j word i from within raised lowered =
     ∙ ap not (lowered (omega arith)))) in
     omega arith
 
+-- the claim of a look that passes up to i
+claim_after : (d : Dictatorship) (k j word i : ℕ) (inside : Bool) → place_past_flags d k j word ≡ i
+    → nat_lt i (length (list_at d k)) ≡ inside
+    → record {
+      turn = k;
+      passed = i;
+      looked = inside && eqb (flag_group (entry d k i)) (flag_group (entry d k j));
+      met = false;
+    } ≡ claim_past_flags d k j word
+claim_after d k j word i inside is test =
+    let looked = λ (b : Bool). b && eqb (flag_group (entry d k i)) (flag_group (entry d k j)) in
+    let claim : ℕ → Bool → Claiming =
+    λ n b. record { turn = k; passed = n; looked = b; met = false } in
+    ap (λ (b : Bool). claim i (looked b)) (sym test)
+    ∙ ap (λ (n : ℕ). claim n (shares_flag_word d k j n)) (sym is)
+
 -- the claim of a look that comes to a flag which is elsewhere, or lowered
 pub stopped_at : (d : Dictatorship) (k j word i : ℕ) → j ≤ i → i < length (list_at d k)
     → ((n : ℕ) → j ≤ n → n < i
@@ -243,22 +259,9 @@ pub stopped_at : (d : Dictatorship) (k j word i : ℕ) → j ≤ i → i < lengt
       met = false;
     } ≡ claim_past_flags d k j word
 stopped_at d k j word i from inside raised lowered =
-    let is = past_flags_is d k j word i from (omega arith) raised (λ _. lowered) in
-    let here = lt-ltb i (length (list_at d k)) inside in
-    (λ z. record {
-      turn = k;
-      passed = i;
-      looked = sym here z && eqb (flag_group (entry d k i)) (flag_group (entry d k j));
-      met = false;
-    })
-    ∙ ap
-    (λ (n : ℕ). record {
-      turn = k;
-      passed = n;
-      looked = shares_flag_word d k j n;
-      met = false;
-    })
-    (sym is)
+    claim_after d k j word i true
+    (past_flags_is d k j word i from (omega arith) raised (λ _. lowered))
+    (lt-ltb i (length (list_at d k)) inside)
 
 -- the claim of a look that passes the whole list
 pub passed_all : (d : Dictatorship) (k j word i : ℕ) → j ≤ i → i ≡ length (list_at d k)
@@ -266,19 +269,6 @@ pub passed_all : (d : Dictatorship) (k j word i : ℕ) → j ≤ i → i ≡ len
     → is_raised_among (flag_group (entry d k j)) word (entry d k n) ≡ true)
     → record { turn = k; passed = i; looked = false; met = false } ≡ claim_past_flags d k j word
 passed_all d k j word i from end raised =
-    let is = past_flags_is d k j word i from (omega arith) raised (λ l. absurd (omega arith)) in
-    let past = le-ltb i (length (list_at d k)) (omega arith) in
-    (λ z. record {
-      turn = k;
-      passed = i;
-      looked = sym past z && eqb (flag_group (entry d k i)) (flag_group (entry d k j));
-      met = false;
-    })
-    ∙ ap
-    (λ (n : ℕ). record {
-      turn = k;
-      passed = n;
-      looked = shares_flag_word d k j n;
-      met = false;
-    })
-    (sym is)
+    claim_after d k j word i false
+    (past_flags_is d k j word i from (omega arith) raised (λ l. absurd (omega arith)))
+    (le-ltb i (length (list_at d k)) (omega arith))

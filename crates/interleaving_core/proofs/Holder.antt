@@ -1,6 +1,6 @@
 -- Who holds the mark is alone: so the seat counts are those of the committed turns, and of the seat
 -- that the holder has just taken.
-use Rattle.std.proofs.Common.{◌≡◌, ℕ, suc, ◌<◌, ◌≤◌, ◌≢◌, Bool, true, false, length, set, Option, Some, None, sym, refl, ap, subst, ◌∙◌, arith}
+use Rattle.std.proofs.Common.{◌≡◌, ℕ, suc, ◌<◌, ◌≤◌, ◌≢◌, Bool, true, false, length, set, eqb, Option, Some, None, sym, refl, ap, subst, ◌∙◌, arith}
 use Rattle.std.specs.Prelude.{slice_get}
 use Rattle.std.specs.List.{sum_by}
 use Rattle.market.specs.Dictatorships.{Dictatorship, IsValidDictatorship, list_at, choice}
@@ -73,6 +73,20 @@ seats_now d c s i v at h is none p l =
     let same = ap (λ (k : ℕ). seats_after d k p) ((s.views i v at).hold h is).committed in
     omega arith
 
+-- where it took a seat at its turn's choice, they are those after the turn
+seats_next : (d : Dictatorship) (c : Core) (s : IsSound d c) (i : ℕ) (v : View)
+    → slice_get c.views i ≡ Some v → (h : Holding) → v.hold ≡ Some h → (k : ℕ)
+    → ((p : ℕ) → phase_seat_bit d p h.committed h.phase ≡ bit (eqb (entry d h.committed k) p))
+    → k < length (list_at d h.committed) → choice d h.committed ≡ k → (p : ℕ)
+    → p < length d.quota → seats_of c p ≡ seats_after d (suc h.committed) p
+seats_next d c s i v at h is k took inside chosen p l =
+    let n = s.seats.counts p l in
+    let one = seated_is d c s i v at h is p in
+    let taken = took p in
+    let next = takes_seat d h.committed k p chosen inside in
+    let same = ap (λ (m : ℕ). seats_after d m p) ((s.views i v at).hold h is).committed in
+    omega arith
+
 -- a turn that may be committed: it is posted, the place is its choice, and the seats are those
 -- after it
 pub record IsDecided (d : Dictatorship) (c : Core) (h j : ℕ) : Type 0 where
@@ -86,30 +100,16 @@ pub decided : (d : Dictatorship) (c : Core) (i : ℕ) (v : View) (h j : ℕ) (ph
     → v.hold ≡ hold_at h phase
     → CanSeal (length (list_at d h)) j phase → IsSoundPhase d c h phase → IsDecided d c h j
 decided d c i v h j (Seated k filled) valid s at hold is fits =
-    let mine : Holding = record { committed = h; phase = Seated k filled } in
     record {
       posted = subst (IsPostedUpTo d c h) is.0 fits.0;
       place = fits.2 ∙ is.0;
-      seats = λ p l.
-          let n = s.seats.counts p l in
-          let one = seated_is d c s i v at mine hold p in
-          let next = takes_seat d h k p fits.2 fits.1 in
-          let same = ap (λ (m : ℕ). seats_after d m p)
-          ((s.views i v at).hold mine hold).committed in
-          omega arith;
+      seats = seats_next d c s i v at _ hold k (λ p. refl) fits.1 fits.2;
     }
 decided d c i v h j (Raised k) valid s at hold is fits =
-    let mine : Holding = record { committed = h; phase = Raised k } in
     record {
       posted = subst (IsPostedUpTo d c h) is fits.0;
       place = fits.2 ∙ is;
-      seats = λ p l.
-          let n = s.seats.counts p l in
-          let one = seated_is d c s i v at mine hold p in
-          let next = takes_seat d h k p fits.2 fits.1 in
-          let same = ap (λ (m : ℕ). seats_after d m p)
-          ((s.views i v at).hold mine hold).committed in
-          omega arith;
+      seats = seats_next d c s i v at _ hold k (λ p. refl) fits.1 fits.2;
     }
 decided d c i v h j (Scan k) valid s at hold is fits =
     let mine : Holding = record { committed = h; phase = Scan k } in

@@ -2,7 +2,7 @@
 -- against counts that nobody else raises, so the place where it finds a seat is the turn's choice.
 use Rattle.std.proofs.Common.{◌≡◌, ℕ, suc, ◌+◌, ◌<◌, ◌≤◌, ◌≢◌, Bool, true, false, length, set, Option, Some, None, nat_le, eqb, eq-eqb, ne_eqb, sym, refl, ap, subst, ◌∙◌, arith, length-set, get_or-set_same, get_or-set_other}
 use Rattle.std.specs.Prelude.{slice_get}
-use Rattle.std.proofs.lemmas.Bool.{ltb-true, ltb-false, leb-true, le-leb, lt-leb}
+use Rattle.std.proofs.lemmas.Bool.{ltb-true, ltb-false, leb-true, lt-leb}
 use mathlib.Core.Logic.{dite}
 use native.Mathlib.Decide.{ℕ_discrete}
 use Rattle.market.specs.Dictatorships.{Dictatorship, IsValidDictatorship, list_at, choice}
@@ -11,13 +11,13 @@ use Rattle.interleaving_core.specs.declared.parts.Cell.TheVariants.{Empty, Poste
 use Rattle.interleaving_core.specs.declared.parts.Phase.{Phase}
 use Rattle.interleaving_core.specs.declared.parts.Phase.TheVariants.{Idle, Halted, Scan, Ready, Seated, Raised}
 use Rattle.interleaving_core.specs.declared.parts.Holding.{Holding}
-use Rattle.interleaving_core.specs.Flags.{flag_group, flag_word_count}
+use Rattle.interleaving_core.specs.Flags.{flag_group}
 use Rattle.interleaving_core.specs.Core.{View, Core, turn_count, entry, quota_of, seats_of, is_open, cell_at, is_committed, is_raised, hold_at}
 use Rattle.interleaving_core.specs.Events.{Takes, Looks, Weighs, Seats, Raises, Seals, Releases, CanSeal, CanRelease, IsAllowed, with_hold, after_take, phase_after_look, phase_after_weigh, is_last_seat, after}
 use Rattle.interleaving_core.specs.Sound.{bit, some_bit, hold_bit, done_bit, claim_bit, empty_bit, phase_seat_bit, holder_seat_bit, seat_bit, phase_late_bit, holder_late_bit, late_bit, IsSoundPhase, IsCellFrom, IsSoundHolding, IsSoundView, IsSoundMark, IsSound}
 use Rattle.interleaving_core.proofs.Places.{sum_set, term_le}
 use Rattle.interleaving_core.proofs.Choices.{choice_is, choice_open}
-use Rattle.interleaving_core.proofs.Flags.{flags_with, raised_now, raised_as_before, bit_as_before}
+use Rattle.interleaving_core.proofs.Flags.{raised_now, raised_as_before, bit_as_before}
 use Rattle.interleaving_core.proofs.Views.{Grows, holding_at, holder_fits, mark_stays, seats_stay, flags_stay, claims_stay, views_fit, calm_grows, mark_step, view_step}
 use Rattle.interleaving_core.proofs.Holder.{lone, held_is, seated_is, seats_now, decided}
 

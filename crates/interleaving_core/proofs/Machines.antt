@@ -278,13 +278,16 @@ flag_word_within s p k l =
     let count = sound.flags.each_group in
     omega arith
 
--- such a word as it was read
-pub flag_word_is : (s : Inside) (p n : ℕ) → IsKept s → p < length s.dict.quota
-    → n ≡ get_or s.flags.items (flag_group p) n → n ≡ get_or s.flags.items (flag_group p) 0
-flag_word_is s p n k l at =
-    let inside = flag_word_within s p k l in
-    let got = slice_get_read s.flags.items (length s.flags.items) (flag_group p) n refl inside at in
+-- such a word as it was read, of the programme q
+pub flag_word_is : (s : Inside) (p q g n : ℕ) → IsKept s → p < length s.dict.quota
+    → g ≡ flag_group p → p ≡ q → n ≡ get_or s.flags.items g n
+    → n ≡ get_or s.flags.items (flag_group q) 0
+flag_word_is s p q g n k l its is at =
+    let here = at ∙ ap (λ (z : ℕ). get_or s.flags.items z n) its in
+    let got = slice_get_read s.flags.items (length s.flags.items) (flag_group p) n refl
+    (flag_word_within s p k l) here in
     sym (get_or_from_slice_get s.flags.items (flag_group p) n 0 got)
+    ∙ ap (λ (z : ℕ). get_or s.flags.items (flag_group z) 0) is
 
 -- a programme has its word of flags
 pub flag_there : (s : Inside) (p g : ℕ) → IsKept s → p < length s.dict.quota → g ≡ flag_group p

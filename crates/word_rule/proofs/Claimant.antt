@@ -1,8 +1,7 @@
 -- A claimant's atomic steps keep the rule: a draw, a reading and a post are each their event.
-use Rattle.std.proofs.Common.{◌≡◌, ℕ, zero, suc, ◌+◌, ◌*◌, ◌/◌, ◌%◌, ◌^◌, ◌<◌, ◌≤◌, Bool, true, false, List, [], ◌∷◌, ◌++◌, length, set, get_or, nat_lt, Option, Some, None, IsSome, sym, refl, ap, ⊎_elim, subst, ◌∙◌, arith, length-set, get_or-set_other}
+use Rattle.std.proofs.Common.{◌≡◌, ℕ, zero, suc, ◌+◌, ◌*◌, ◌/◌, ◌%◌, ◌^◌, ◌<◌, ◌≤◌, Bool, true, false, List, [], ◌∷◌, ◌++◌, length, set, get_or, nat_lt, Option, Some, None, IsSome, sym, refl, ap, ⊎_elim, subst, ◌∙◌, arith}
 use Rattle.std.specs.Prelude.{slice_get}
 use Rattle.std.specs.List.{sum_by}
-use Rattle.std.proofs.lemmas.List.{set-get_or}
 use Rattle.std.proofs.lemmas.List.Sums.{sum_by-cons}
 use Rattle.std.proofs.Math.Nat.{mod-eq_of_lt}
 use Rattle.atomic_table.specs.Table.{keeps, Allows}
@@ -10,7 +9,7 @@ use Rattle.market.specs.Dictatorships.{Dictatorship}
 use Rattle.interleaving_core.specs.declared.parts.Cell.TheVariants.{Posted}
 use Rattle.interleaving_core.specs.declared.parts.Claiming.{Claiming}
 use Rattle.interleaving_core.specs.Flags.{flag_group, is_raised_in}
-use Rattle.interleaving_core.specs.Core.{View, Core, turn_count, entry, quota_of, seats_of}
+use Rattle.interleaving_core.specs.Core.{View, Core, turn_count, entry, quota_of}
 use Rattle.interleaving_core.specs.Events.{Claims, ReadsFlags, Reads, Posts, IsAllowed, after_claim, after_flags, after_read, after_post, after}
 use Rattle.interleaving_core.specs.Sound.{bit, done_bit, AreSoundOwnTurns}
 use Rattle.interleaving_core.proofs.Places.{at_snoc}
@@ -22,7 +21,7 @@ use Rattle.word_rule.specs.Claimant.{flags_by, read_by, AreEarlier, TellsClaim, 
 use Rattle.word_rule.specs.declared.rule.RoundKey.{RoundKey}
 use Rattle.word_rule.proofs.CoreViews.{live_there, place, weight, sum_views, shared_sum}
 use Rattle.word_rule.proofs.Layouts.{shows_posted, reads_seats, reads_flags, writes_claim, writes_cell}
-use Rattle.word_rule.proofs.Keeps.{IsSameSeat, same_seat, may_make, live_after, seat_in_range, seat_fits, seats_in, event_keeps}
+use Rattle.word_rule.proofs.Keeps.{IsSameSeat, same_seat, same_with, seat_in_range, seat_fits, seats_in, write_step, load_step}
 
 -- no seat gives more done views than its share
 few_ends : (n : ℕ) (v : View) → sum_by done_bit (shared_views n v) ≤ n
@@ -76,7 +75,7 @@ earlier d c v none f =
 -- a look at flags leaves the seat what it was but for its claim and what it has read
 flags_same : (x : SeatKnows) (o : Option Claiming) (found : ℕ)
     → (1 < x.share → x.core.done ≡ true) → IsSameSeat x (flags_by x o found)
-flags_same x None found alone = same_seat x x.core (λ more. (alone more, alone more))
+flags_same x None found alone = same_with x x.core refl alone
 flags_same x (Some c) found alone =
     record {
       number = refl;
@@ -133,31 +132,26 @@ module _ (key : RoundKey) where
       let wide = h.wide in
       let next = (n + 1) % 2 ^ 64 in
       let up : next ≡ n + 1 = mod-eq_of_lt (let l : n + 1 < 2 ^ 64 = omega arith in l) in
-      let mark : get_or (set s.words 0 next) 1 0 ≡ get_or s.words 1 0 =
-      get_or-set_other s.words 0 1 next 0 (λ e. omega arith) in
       let at_place = place s.views id in
       let views = set (core_views s.views) at_place y.core in
-      let words = set s.words 0 next in
-      let is : core_of d words views ≡ after d (table_core key s) at_place x.core Claims =
+      let is : core_of d (set s.words 0 next) views
+      ≡ after d (table_core key s) at_place x.core Claims =
       writes_claim d s.words views next (omega arith)
       ∙ (λ k. record (table_core key s) {
         claim_number = up k;
         views = set (core_views s.views) at_place (after_claim (b.dict k) x.core n);
       }) in
       let fit = seat_fits key s h id x live in
-      let told = b.behind in
-      let kept =
-      event_keeps key s h id x y words Claims live same may (length-set s.words 0 next) is
-      (omega arith) (omega arith) (λ f. f) in
-      let range = seat_in_range key _ kept id y (live_after key s id x y live same) in (
+      let step = write_step key s h id me y.core 0 next Claims (λ e. omega arith) live same may is
+      in (
         y,
         keeps,
         tt,
-        kept,
+        step.kept,
         record {
-          before = record { action = Claims; is = refl; allowed = may };
+          before = step.before;
           seat = refl;
-          range = range;
+          range = step.range;
           earlier = earlier d (table_core key s) x.core may.0 fit.own;
         },
       )
@@ -177,38 +171,15 @@ module _ (key : RoundKey) where
       (λ z. read_by (round z) x.core (may.0 z) found) in
       let done : y.core.done ≡ x.core.done =
       ap (λ (v : View). v.done) by ∙ read_done (nat_lt found (quota_of d p)) x.core k j in
-      let same = same_seat x y.core (λ more. (alone more, done ∙ alone more)) in
+      let same = same_with x y.core done alone in
       let drawn = (seat_in_range key s h id x live).claimed k j true false may.0 in
       let turns = ap (λ (z : Dictatorship). turn_count z) round in
       let inside : p < programme_count d =
       h.valid.list_entries k j (omega arith) may.1 in
-      let seen : found ≡ seats_of (table_core key s) p =
-      ap (λ (z : ℕ). get_or s.words z 0) is
-      ∙ sym (reads_seats d s.words (core_views s.views) p inside) in
-      let at_place = place s.views id in
-      let views_with : View → List View = λ v. set (core_views s.views) at_place v in
-      let words = set s.words i found in
-      let as_was : words ≡ s.words = set-get_or s.words i 0 in
-      let leads : core_of d words (views_with y.core)
-      ≡ after d (table_core key s) at_place x.core (Reads k j) =
-      ap (λ (l : List ℕ). core_of d l (views_with y.core)) as_was
-      ∙ ap (λ (v : View). core_of d s.words (views_with v)) (by ∙ ap seen_view seen) in
-      let mark : get_or words 1 0 ≡ get_or s.words 1 0 = ap (λ (l : List ℕ). get_or l 1 0) as_was in
-      let told = (h.each id x live).behind in
-      let kept =
-      event_keeps key s h id x y words (Reads k j) live same may (length-set s.words i found) leads
-      (omega arith) (omega arith) (λ f. f) in
-      let range = seat_in_range key _ kept id y (live_after key s id x y live same) in (
-        y,
-        keeps,
-        tt,
-        kept,
-        record {
-          before = may_make key _ me (Reads k j) (h.each id x live) may;
-          seat = refl;
-          range = range;
-        },
-      )
+      let seen = sym (reads_seats d s.words (core_views s.views) i p is inside) in
+      let step = load_step key s h id i me y (Reads k j) live same may (by ∙ ap seen_view seen) refl
+      refl (λ f. f) in
+      (y, keeps, tt, step.kept, record { before = step.before; seat = refl; range = step.range })
 
   -- a look at the word that has the flag of the next entry
   pub flags_allowed : (slots id : ℕ) (me : SeatMe) (i k j : ℕ) → 0 < me.0.share
@@ -228,44 +199,20 @@ module _ (key : RoundKey) where
       let same = flags_same x x.core.claim found alone in
       let seen : found ≡ get_or (table_core key s).flags group 0 =
       sym (reads_flags d s.words (core_views s.views) i group is) in
-      let at_place = place s.views id in
-      let views_with : View → List View = λ v. set (core_views s.views) at_place v in
-      let words = set s.words i found in
-      let as_was : words ≡ s.words = set-get_or s.words i 0 in
-      let leads : core_of d words (views_with y.core)
-      ≡ after d (table_core key s) at_place x.core (ReadsFlags k j) =
-      ap (λ (l : List ℕ). core_of d l (views_with y.core)) as_was
-      ∙ ap (λ (v : View). core_of d s.words (views_with v)) (by ∙ ap seen_view seen) in
-      let mark : get_or words 1 0 ≡ get_or s.words 1 0 = ap (λ (l : List ℕ). get_or l 1 0) as_was in
-      let told = (h.each id x live).behind in
-      let released = flags_released x x.core.claim found in
       let flags : y.flags ≡ x.flags ++ (group, found) ∷ [] =
       (λ z. (flags_by record x { dict = round z } (may.0 z) found).flags) in
-      let reads : HasReadFull d (seats_in key words) x → HasReadFull d (seats_in key words) y =
+      let reads : HasReadFull d (seats_in key s.words) x → HasReadFull d (seats_in key s.words) y =
       λ old.
-      read_one_more d (seats_in key words) x y.flags (group, found)
+      read_one_more d (seats_in key s.words) x y.flags (group, found)
       (λ p its raised.
       let up = subst (λ (w : ℕ). is_raised_in w p ≡ true)
       (seen ∙ ap (λ (g : ℕ). get_or (table_core key s).flags g 0) (sym its)) raised in
       let inside = raised_inside d (table_core key s) h.sound p up in
-      let full = raised_full d (table_core key s) h.sound p inside up in
-      let here = ap (λ (ws : List ℕ). get_or (seats_in key ws) p 0) as_was in
-      (inside, omega arith))
+      (inside, raised_full d (table_core key s) h.sound p inside up))
       old flags in
-      let kept =
-      event_keeps key s h id x y words (ReadsFlags k j) live same may (length-set s.words i found)
-      leads (omega arith) (omega arith) reads in
-      let range = seat_in_range key _ kept id y (live_after key s id x y live same) in (
-        y,
-        keeps,
-        tt,
-        kept,
-        record {
-          before = may_make key _ me (ReadsFlags k j) (h.each id x live) may;
-          seat = refl;
-          range = range;
-        },
-      )
+      let step = load_step key s h id i me y (ReadsFlags k j) live same may
+      (by ∙ ap seen_view seen) refl (flags_released x x.core.claim found) reads in
+      (y, keeps, tt, step.kept, record { before = step.before; seat = refl; range = step.range })
 
   -- a post of the place found to the turn's cell
   pub post_allowed : (slots id : ℕ) (me : SeatMe) (i k j word : ℕ) (looked met : Bool)
@@ -277,34 +224,19 @@ module _ (key : RoundKey) where
       let x = me.0 in
       let live = live_there s.views id x at some in
       let y = with_core x (after_post x.core (word / 2)) in
-      let same = same_seat x y.core (λ more. (alone more, alone more)) in
+      let same = same_with x y.core refl alone in
       let half : word / 2 ≡ j = omega arith in
       let fit = seat_fits key s h id x live in
       let shown : cell_of word ≡ Posted j = ap cell_of shows ∙ shows_posted j in
       let at_place = place s.views id in
       let views = set (core_views s.views) at_place y.core in
-      let words = set s.words i word in
-      let leads : core_of d words views
+      let leads : core_of d (set s.words i word) views
       ≡ after d (table_core key s) at_place x.core (Posts k j looked met) =
       writes_cell d s.words views i k word (Posted j) is (fit.claim _ may.0).turn shown
       ∙ ap (λ (z : ℕ). record (table_core key s) {
         cells = set (table_core key s).cells k (Posted j);
         views = set (core_views s.views) at_place (after_post x.core z);
       }) half in
-      let mark : get_or (set s.words i word) 1 0 ≡ get_or s.words 1 0 =
-      get_or-set_other s.words i 1 word 0 (λ e. omega arith) in
-      let told = (h.each id x live).behind in
-      let kept =
-      event_keeps key s h id x y words (Posts k j looked met) live same may
-      (length-set s.words i word) leads (omega arith) (omega arith) (λ f. f) in
-      let range = seat_in_range key _ kept id y (live_after key s id x y live same) in (
-        y,
-        keeps,
-        tt,
-        kept,
-        record {
-          before = may_make key _ me (Posts k j looked met) (h.each id x live) may;
-          seat = refl;
-          range = range;
-        },
-      )
+      let step = write_step key s h id me y.core i word (Posts k j looked met) (λ e. omega arith)
+      live same may leads in
+      (y, keeps, tt, step.kept, record { before = step.before; seat = refl; range = step.range })

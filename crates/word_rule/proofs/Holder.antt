@@ -1,9 +1,8 @@
 -- The holder's atomic steps keep the rule: a try on the mark, a look, a weighing, a seat taken, a
 -- commit and a release are each their event. A seat with every share has no other beside it, so it
 -- finds the mark free; and once it is done it finds each turn that is not committed posted.
-use Rattle.std.proofs.Common.{◌≡◌, ℕ, ◌+◌, ◌*◌, ◌/◌, ◌%◌, ◌^◌, ◌<◌, ◌≤◌, ◌⊎◌, Bool, true, false, List, length, set, get_or, bit_or, nat_lt, nat_le, eqb, ne_eqb, Some, None, IsSome, sym, refl, ap, inl, inr, ⊎_elim, subst, ◌∙◌, arith, length-set, get_or-set_same, get_or-set_other}
+use Rattle.std.proofs.Common.{◌≡◌, ℕ, ◌+◌, ◌*◌, ◌/◌, ◌%◌, ◌^◌, ◌<◌, ◌≤◌, ◌⊎◌, Bool, true, false, List, set, get_or, bit_or, nat_lt, nat_le, eqb, ne_eqb, Some, None, IsSome, sym, refl, ap, inl, inr, ⊎_elim, subst, ◌∙◌, arith, length-set, get_or-set_same}
 use Rattle.std.specs.Prelude.{slice_get}
-use Rattle.std.proofs.lemmas.List.{set-get_or}
 use Rattle.std.proofs.Math.Nat.{mod-eq_of_lt}
 use mathlib.Core.Logic.{dite}
 use native.Mathlib.Decide.{ℕ_discrete}
@@ -15,7 +14,7 @@ use Rattle.interleaving_core.specs.declared.parts.Phase.{Phase}
 use Rattle.interleaving_core.specs.declared.parts.Phase.TheVariants.{Idle, Seated, Raised}
 use Rattle.interleaving_core.specs.Flags.{flag_group, flag_bit, with_flag}
 use Rattle.interleaving_core.specs.Core.{View, turn_count, entry, quota_of, seats_of, cell_at, is_committed, hold_at}
-use Rattle.interleaving_core.specs.Events.{Action, Takes, Looks, Weighs, Seats, Raises, Seals, Releases, IsAllowed, with_hold, after_take, phase_after_look, phase_after_weigh, after}
+use Rattle.interleaving_core.specs.Events.{Takes, Looks, Weighs, Seats, Raises, Seals, Releases, IsAllowed, with_hold, after_take, phase_after_look, phase_after_weigh, after}
 use Rattle.interleaving_core.specs.Sound.{bit, some_bit, empty_bit, turn_bit, hold_bit, claim_bit}
 use Rattle.market.proofs.Turns.{seats_taken-le-quota}
 use Rattle.interleaving_core.proofs.Places.{sum_zero, terms_le}
@@ -27,7 +26,7 @@ use Rattle.word_rule.specs.Holder.{posted_place, tried, TellsTake, look_by, Tell
 use Rattle.word_rule.specs.declared.rule.RoundKey.{RoundKey}
 use Rattle.word_rule.proofs.CoreViews.{live_there, place, at_place, whose}
 use Rattle.word_rule.proofs.Layouts.{shows_committed, or_one, reads_seats, reads_cell, writes_mark, writes_seats, writes_cell, reads_flags, writes_flags}
-use Rattle.word_rule.proofs.Keeps.{IsSameSeat, same_seat, may_make, live_after, seat_in_range, seat_fits, seats_in, table_after, event_keeps}
+use Rattle.word_rule.proofs.Keeps.{IsSameSeat, same_with, seat_fits, seats_in, event_step, write_step, load_step}
 
 tried_core : (x : SeatKnows) (b : Bool) (n : ℕ) → (tried x b n).core ≡ after_take x.core b n
 tried_core x true n = refl
@@ -59,11 +58,6 @@ released_same : (x : SeatKnows) (n : ℕ) → (1 < x.share → x.core.done ≡ t
     → IsSameSeat x (released_with x n)
 released_same x n a =
     record { number = refl; share = refl; dict = refl; workers = refl; alone = done_too x a }
-
--- a seat with another view that is done as before
-same_with : (x : SeatKnows) (v : View) → v.done ≡ x.core.done → (1 < x.share → x.core.done ≡ true)
-    → IsSameSeat x (with_core x v)
-same_with x v done alone = same_seat x v (λ more. (alone more, done ∙ alone more))
 
 bit_zero : (b : Bool) → bit b ≡ 0 → b ≡ false
 bit_zero true e = absurd (omega arith)
@@ -142,32 +136,6 @@ module _ (key : RoundKey) where
       is_posted (cell_at (table_core key s) k)
       (sym (h.sound.claims.claimed k inside (omega arith)) ∙ none) (h.sound.cells.above k left)
 
-  -- a step that leaves the mark's word keeps the rule where it is an event of the core
-  mark_stays : (s : Table) (h : IsSoundTable key s) (id : ℕ) (x y : SeatKnows) (words : List ℕ)
-      (a : Action)
-      → IsLive s.views id x → IsSameSeat x y → IsAllowed d x.core a → length words ≡ length s.words
-      → core_of d words (set (core_views s.views) (place s.views id) y.core) ≡ after d
-      (table_core key s) (place s.views id) x.core a
-      → get_or words 1 0 / 2 ≡ get_or s.words 1 0 / 2 → y.released ≡ x.released
-      → (HasReadFull d (seats_in key words) x → HasReadFull d (seats_in key words) y)
-      → IsSoundTable key (table_after key s id y words)
-  mark_stays s h id x y words a live same may long leads mark told reads =
-      let behind = (h.each id x live).behind in
-      event_keeps key s h id x y words a live same may long leads (omega arith) (omega arith) reads
-
-  -- so does a load
-  load_keeps : (s : Table) (h : IsSoundTable key s) (id i : ℕ) (x : SeatKnows) (v : View)
-      (a : Action)
-      → IsLive s.views id x → IsSameSeat x (with_core x v) → IsAllowed d x.core a
-      → core_of d s.words (set (core_views s.views) (place s.views id) v) ≡ after d
-      (table_core key s) (place s.views id) x.core a
-      → IsSoundTable key (table_after key s id (with_core x v) (set s.words i (get_or s.words i 0)))
-  load_keeps s h id i x v a live same may leads =
-      let as_was : set s.words i (get_or s.words i 0) ≡ s.words = set-get_or s.words i 0 in
-      subst (λ (l : List ℕ). IsSoundTable key (table_after key s id (with_core x v) l)) (sym as_was)
-      (mark_stays s h id x (with_core x v) s.words a live same may refl leads refl refl
-      (λ f. f))
-
   -- a try on the mark
   pub take_allowed : (slots id : ℕ) (me : SeatMe) → 0 < me.0.share
       → (1 < me.0.share → me.0.core.done ≡ true) → IsAllowed d me.0.core Takes
@@ -193,23 +161,23 @@ module _ (key : RoundKey) where
       }) in
       let number : get_or (set s.words 1 word) 1 0 / 2 ≡ found / 2 =
       ap (λ (z : ℕ). z / 2) (get_or-set_same s.words 1 word 0 (omega arith)) ∙ one.0 in
-      let kept = mark_stays s h id x y (set s.words 1 word) Takes live same may
-      (length-set s.words 1 word) leads number
-      (tried_released x b (found / 2)) (tried_reads d (seats_in key (set s.words 1 word)) x b
-      (found / 2)) in
       let mine = h.each id x live in
+      let told = mine.behind in
+      let released = tried_released x b (found / 2) in
+      let step = event_step key s h id me y (set s.words 1 word) Takes live same may
+      (length-set s.words 1 word) leads (omega arith) (omega arith)
+      (tried_reads d (seats_in key (set s.words 1 word)) x b (found / 2)) in
       let dict = ap (λ (z : Dictatorship). turn_count z) mine.dict in
       let behind = h.sound.mark.behind in
-      let within = h.sound.mark.within in
-      let range = seat_in_range key _ kept id y (live_after key s id x y live same) in (
+      let within = h.sound.mark.within in (
         y,
         keeps,
         tt,
-        kept,
+        step.kept,
         record {
-          before = may_make key _ me Takes (h.each id x live) may;
+          before = step.before;
           seat = refl;
-          range = range;
+          range = step.range;
           within = omega arith;
           free = λ every. free_with_all s h id x live (every ∙ mine.workers) may.1;
         },
@@ -230,22 +198,18 @@ module _ (key : RoundKey) where
       let y = with_core x v in
       let same = same_with x v (ap (λ (u : View). u.done) by) alone in
       let seen = reads_cell d s.words (core_views s.views) i k is may.1 in
-      let leads : core_of d s.words (set (core_views s.views) (place s.views id) v)
-      ≡ after d (table_core key s) (place s.views id) x.core (Looks k) =
-      ap (λ (u : View). core_of d s.words (set (core_views s.views) (place s.views id) u))
-      (by ∙ ap seen_view (sym seen)) in
-      let kept = load_keeps s h id i x v (Looks k) live same may leads in
+      let step = load_step key s h id i me y (Looks k) live same may (by ∙ ap seen_view (sym seen))
+      refl refl (λ f. f) in
       let mine = h.each id x live in
-      let count = ((seat_fits key s h id x live).hold _ may.0).committed in
-      let range = seat_in_range key _ kept id y (live_after key s id x y live same) in (
+      let count = ((seat_fits key s h id x live).hold _ may.0).committed in (
         y,
         keeps,
         tt,
-        kept,
+        step.kept,
         record {
-          before = may_make key _ me (Looks k) (h.each id x live) may;
+          before = step.before;
           seat = refl;
-          range = range;
+          range = step.range;
           uncommitted = ap is_committed (sym seen) ∙ h.sound.cells.above k (omega arith);
           posted = λ every done.
               subst (λ (c : Cell). IsSome (posted_place c)) seen
@@ -268,30 +232,14 @@ module _ (key : RoundKey) where
       (hold_at k (phase_after_weigh (nat_lt n (quota_of d p)) j)) in
       let mine = h.each id x live in
       let by : v ≡ seen_view found = (λ z. weigh_by (mine.dict z) x.core (may.0 z) found) in
+      let y = with_core x v in
       let same = same_with x v (ap (λ (u : View). u.done) by) alone in
-      let fit = seat_fits key s h id x live in
-      let turn = (fit.hold _ may.0).phase.0.0 in
+      let turn = ((seat_fits key s h id x live).hold _ may.0).phase.0.0 in
       let inside : p < programme_count d = h.valid.list_entries k j turn may.1 in
-      let seen : found ≡ seats_of (table_core key s) p =
-      ap (λ (z : ℕ). get_or s.words z 0) is
-      ∙ sym (reads_seats d s.words (core_views s.views) p inside) in
-      let leads : core_of d s.words (set (core_views s.views) (place s.views id) v)
-      ≡ after d (table_core key s) (place s.views id) x.core (Weighs k j) =
-      ap (λ (u : View). core_of d s.words (set (core_views s.views) (place s.views id) u))
-      (by ∙ ap seen_view seen) in
-      let kept = load_keeps s h id i x v (Weighs k j) live same may leads in
-      let range = seat_in_range key _ kept id (with_core x v)
-      (live_after key s id x (with_core x v) live same) in (
-        with_core x v,
-        keeps,
-        tt,
-        kept,
-        record {
-          before = may_make key _ me (Weighs k j) (h.each id x live) may;
-          seat = refl;
-          range = range;
-        },
-      )
+      let seen = sym (reads_seats d s.words (core_views s.views) i p is inside) in
+      let step = load_step key s h id i me y (Weighs k j) live same may (by ∙ ap seen_view seen)
+      refl refl (λ f. f) in
+      (y, keeps, tt, step.kept, record { before = step.before; seat = refl; range = step.range })
 
   -- a seat taken of the entry at the holder's place
   pub seat_allowed : (slots id : ℕ) (me : SeatMe) (i k j : ℕ) → 0 < me.0.share
@@ -313,9 +261,7 @@ module _ (key : RoundKey) where
       let fit = seat_fits key s h id x live in
       let phase = (fit.hold _ may).phase in
       let inside : p < programme_count d = h.valid.list_entries k j phase.0.0 phase.1 in
-      let seen : found ≡ seats_of (table_core key s) p =
-      ap (λ (z : ℕ). get_or s.words z 0) is
-      ∙ sym (reads_seats d s.words (core_views s.views) p inside) in
+      let seen = sym (reads_seats d s.words (core_views s.views) i p is inside) in
       let now = seats_now d (table_core key s) h.sound (place s.views id) x.core
       (at_place s.views id x live) _ may (λ q. refl) p inside in
       let most = seats_taken-le-quota d p (h.valid.filled p inside) k in
@@ -331,22 +277,13 @@ module _ (key : RoundKey) where
         seats = set (table_core key s).seats p (count z);
         views = set (core_views s.views) (place s.views id) ((by ∙ ap seen_view seen) z);
       }) in
-      let mark : get_or (set s.words i next) 1 0 ≡ get_or s.words 1 0 =
-      get_or-set_other s.words i 1 next 0 (λ e. omega arith) in
-      let kept = mark_stays s h id x y (set s.words i next) (Seats k j) live same may
-      (length-set s.words i next) leads
-      (ap (λ (z : ℕ). z / 2) mark) refl (λ f. f) in
-      let range = seat_in_range key _ kept id y (live_after key s id x y live same) in (
+      let step = write_step key s h id me v i next (Seats k j) (λ e. omega arith) live same may
+      leads in (
         y,
         keeps,
         tt,
-        kept,
-        record {
-          before = may_make key _ me (Seats k j) (h.each id x live) may;
-          seat = refl;
-          range = range;
-          small = omega arith;
-        },
+        step.kept,
+        record { before = step.before; seat = refl; range = step.range; small = omega arith },
       )
 
   -- the flag raised of the programme that the holder has just filled
@@ -378,22 +315,9 @@ module _ (key : RoundKey) where
         flags = set (table_core key s).flags group (raised z);
         views = set (core_views s.views) (place s.views id) (by z);
       }) in
-      let mark : get_or (set s.words i word) 1 0 ≡ get_or s.words 1 0 =
-      get_or-set_other s.words i 1 word 0 (λ e. omega arith) in
-      let kept = mark_stays s h id x y (set s.words i word) (Raises k j) live same may
-      (length-set s.words i word) leads
-      (ap (λ (z : ℕ). z / 2) mark) refl (λ f. f) in
-      let range = seat_in_range key _ kept id y (live_after key s id x y live same) in (
-        y,
-        keeps,
-        tt,
-        kept,
-        record {
-          before = may_make key _ me (Raises k j) (h.each id x live) may;
-          seat = refl;
-          range = range;
-        },
-      )
+      let step = write_step key s h id me v i word (Raises k j) (λ e. omega arith) live same may
+      leads in
+      (y, keeps, tt, step.kept, record { before = step.before; seat = refl; range = step.range })
 
   -- a commit of the holder's turn at its place
   pub seal_allowed : (slots id : ℕ) (me : SeatMe) (i k j word : ℕ) (phase : Phase) → 0 < me.0.share
@@ -416,22 +340,9 @@ module _ (key : RoundKey) where
         cells = set (table_core key s).cells k (Committed j);
         views = set (core_views s.views) (place s.views id) u;
       }) by in
-      let mark : get_or (set s.words i word) 1 0 ≡ get_or s.words 1 0 =
-      get_or-set_other s.words i 1 word 0 (λ e. omega arith) in
-      let kept = mark_stays s h id x y (set s.words i word) (Seals k j phase) live same may
-      (length-set s.words i word) leads
-      (ap (λ (z : ℕ). z / 2) mark) refl (λ f. f) in
-      let range = seat_in_range key _ kept id y (live_after key s id x y live same) in (
-        y,
-        keeps,
-        tt,
-        kept,
-        record {
-          before = may_make key _ me (Seals k j phase) (h.each id x live) may;
-          seat = refl;
-          range = range;
-        },
-      )
+      let step = write_step key s h id me v i word (Seals k j phase) (λ e. omega arith) live same
+      may leads in
+      (y, keeps, tt, step.kept, record { before = step.before; seat = refl; range = step.range })
 
   -- a release with the number of committed turns
   pub release_allowed : (slots id : ℕ) (me : SeatMe) (k word : ℕ) (phase : Phase) → 0 < me.0.share
@@ -459,17 +370,6 @@ module _ (key : RoundKey) where
       (omega arith) in
       let count = ((seat_fits key s h id x live).hold _ may.0).committed in
       let behind = h.sound.mark.behind in
-      let kept = event_keeps key s h id x y (set s.words 1 word) (Releases k phase) live same may
-      (length-set s.words 1 word) leads
-      (omega arith) (omega arith) (λ f. f) in
-      let range = seat_in_range key _ kept id y (live_after key s id x y live same) in (
-        y,
-        keeps,
-        tt,
-        kept,
-        record {
-          before = may_make key _ me (Releases k phase) (h.each id x live) may;
-          seat = refl;
-          range = range;
-        },
-      )
+      let step = event_step key s h id me y (set s.words 1 word) (Releases k phase) live same may
+      (length-set s.words 1 word) leads (omega arith) (omega arith) (λ f. f) in
+      (y, keeps, tt, step.kept, record { before = step.before; seat = refl; range = step.range })

@@ -2,8 +2,9 @@
 -- its words and views are a sound core state. The event is allowed by what the seat's own view
 -- says, so the state after it is sound; and the table after the step shows that state, since the
 -- step changes one word and one view, as the event does.
-use Rattle.std.proofs.Common.{◌≡◌, ℕ, zero, suc, ◌+◌, ◌/◌, ◌<◌, ◌≤◌, ◌≢◌, true, List, [], ◌∷◌, length, set, get_or, Some, sym, refl, ap, inr, ⊎_elim, subst, ◌∙◌, arith}
+use Rattle.std.proofs.Common.{◌≡◌, ℕ, zero, suc, ◌+◌, ◌/◌, ◌<◌, ◌≤◌, ◌≢◌, true, List, [], ◌∷◌, length, set, get_or, Some, sym, refl, ap, inr, ⊎_elim, subst, ◌∙◌, arith, length-set, get_or-set_other}
 use Rattle.std.specs.Prelude.{slice_get}
+use Rattle.std.proofs.lemmas.List.{set-get_or}
 use Rattle.atomic_table.specs.Table.{State}
 use Rattle.market.specs.Dictatorships.{Dictatorship}
 use Rattle.interleaving_core.specs.Core.{View, Core, entry, seats_of}
@@ -35,8 +36,13 @@ pub same_seat : (x : SeatKnows) (v : View) → (1 < x.share → (x.core.done ≡
 same_seat x v alone =
     record { number = refl; share = refl; dict = refl; workers = refl; alone = alone }
 
+-- so it does with a view that is done as before
+pub same_with : (x : SeatKnows) (v : View) → v.done ≡ x.core.done
+    → (1 < x.share → x.core.done ≡ true) → IsSameSeat x (with_core x v)
+same_with x v done alone = same_seat x v (λ more. (alone more, done ∙ alone more))
+
 -- a seat of the round may make an event that its view of the core allows
-pub may_make : (key : RoundKey) (number : ℕ) (m : SeatMe) (a : Action) → Belongs key number m.0
+may_make : (key : RoundKey) (number : ℕ) (m : SeatMe) (a : Action) → Belongs key number m.0
     → IsAllowed key.dict.value m.0.core a → MayMake m (event_of a)
 may_make key number m a mine may =
     record {
@@ -161,7 +167,7 @@ module _ (key : RoundKey) where
   table_after s id y words = record { words = words; homes = s.homes; views = set s.views id y }
 
   -- the changed seat is live
-  pub live_after : (s : Table) (id : ℕ) (x y : SeatKnows) → IsLive s.views id x → IsSameSeat x y
+  live_after : (s : Table) (id : ℕ) (x y : SeatKnows) → IsLive s.views id x → IsSameSeat x y
       → IsLive (set s.views id y) id y
   live_after s id x y at same =
       let share = same.share in
@@ -233,7 +239,7 @@ module _ (key : RoundKey) where
 
   -- the rule stays where the step is an event that the seat's view allows, and what the seat has
   -- read of flags is so
-  pub event_keeps : (s : Table) (h : IsSoundTable key s) (id : ℕ) (x y : SeatKnows)
+  event_keeps : (s : Table) (h : IsSoundTable key s) (id : ℕ) (x y : SeatKnows)
       (words : List ℕ) (a : Action) → IsLive s.views id x → IsSameSeat x y → IsAllowed d x.core a
       → length words ≡ length s.words
       → core_of d words (set (core_views s.views) (place s.views id) y.core)
@@ -260,3 +266,60 @@ module _ (key : RoundKey) where
       let before = undrawn_before d (table_core key s) (place s.views id) x.core a
       (subst HasNotDrawn shown nothing) in
       (before.0, ap (λ (c : Core). c.claim_number) is ∙ before.1))
+
+  -- a step of a seat is this event: the rule stays, the event could be made, and the seat's view
+  -- speaks of the round's turns and places
+  pub record IsStep (s : Table) (id : ℕ) (me : SeatMe) (y : SeatKnows) (words : List ℕ)
+      (a : Action) : Type 0 where
+    pub kept : IsSoundTable key (table_after s id y words)
+    pub before : MayMake me (event_of a)
+    pub range : IsInRange y.dict y.core
+
+  -- it is one where the seat's view allows it and the table then shows the state after it
+  pub event_step : (s : Table) (h : IsSoundTable key s) (id : ℕ) (me : SeatMe) (y : SeatKnows)
+      (words : List ℕ) (a : Action) → IsLive s.views id me.0 → IsSameSeat me.0 y
+      → IsAllowed d me.0.core a → length words ≡ length s.words
+      → core_of d words (set (core_views s.views) (place s.views id) y.core)
+      ≡ after d (table_core key s) (place s.views id) me.0.core a
+      → get_or s.words 1 0 / 2 ≤ get_or words 1 0 / 2 → y.released ≤ get_or words 1 0 / 2
+      → (HasReadFull d (seats_in words) me.0 → HasReadFull d (seats_in words) y)
+      → IsStep s id me y words a
+  event_step s h id me y words a live same may long is grows behind reads =
+      let kept = event_keeps s h id me.0 y words a live same may long is grows behind reads in
+      record {
+        kept = kept;
+        before = may_make key _ me a (h.each id me.0 live) may;
+        range = seat_in_range _ kept id y (live_after s id me.0 y live same);
+      }
+
+  -- so is a write to another word than the mark's, where the seat's view of the core alone changes
+  pub write_step : (s : Table) (h : IsSoundTable key s) (id : ℕ) (me : SeatMe) (v : View)
+      (i n : ℕ) (a : Action) → i ≢ 1 → IsLive s.views id me.0 → IsSameSeat me.0 (with_core me.0 v)
+      → IsAllowed d me.0.core a
+      → core_of d (set s.words i n) (set (core_views s.views) (place s.views id) v)
+      ≡ after d (table_core key s) (place s.views id) me.0.core a
+      → IsStep s id me (with_core me.0 v) (set s.words i n) a
+  write_step s h id me v i n a other live same may is =
+      let mark : get_or (set s.words i n) 1 0 ≡ get_or s.words 1 0 =
+      get_or-set_other s.words i 1 n 0 (λ e. omega arith) in
+      let behind = (h.each id me.0 live).behind in
+      event_step s h id me (with_core me.0 v) (set s.words i n) a live same may
+      (length-set s.words i n) is (omega arith) (omega arith) (λ f. f)
+
+  -- so is a load, after which the seat's view is the one after the event
+  pub load_step : (s : Table) (h : IsSoundTable key s) (id i : ℕ) (me : SeatMe) (y : SeatKnows)
+      (a : Action) → IsLive s.views id me.0 → IsSameSeat me.0 y → IsAllowed d me.0.core a
+      → y.core ≡ view_after d (table_core key s) me.0.core a
+      → core_of d s.words
+      (set (core_views s.views) (place s.views id) (view_after d (table_core key s) me.0.core a))
+      ≡ after d (table_core key s) (place s.views id) me.0.core a
+      → y.released ≡ me.0.released
+      → (HasReadFull d (seats_in s.words) me.0 → HasReadFull d (seats_in s.words) y)
+      → IsStep s id me y (set s.words i (get_or s.words i 0)) a
+  load_step s h id i me y a live same may shown is told reads =
+      let behind = (h.each id me.0 live).behind in
+      let leads = ap
+      (λ (v : View). core_of d s.words (set (core_views s.views) (place s.views id) v)) shown ∙ is
+      in
+      subst (λ (l : List ℕ). IsStep s id me y l a) (sym (set-get_or s.words i 0))
+      (event_step s h id me y s.words a live same may refl leads (omega arith) (omega arith) reads)

@@ -68,8 +68,10 @@ module _ (d : Dictatorship) (words : List ℕ) (views : List View) where
   old = core_of d words views
 
   -- a seat count is read from its word
-  pub reads_seats : (p : ℕ) → p < m → seats_of old p ≡ get_or words (2 + p) 0
-  reads_seats p h = get_or-take m (drop 2 words) p 0 h ∙ get_or-drop 2 words p 0
+  pub reads_seats : (i p : ℕ) → i ≡ 2 + p → p < m → seats_of old p ≡ get_or words i 0
+  reads_seats i p is h =
+      get_or-take m (drop 2 words) p 0 h
+      ∙ (get_or-drop 2 words p 0 ∙ ap (λ (z : ℕ). get_or words z 0) (sym is))
 
   -- a word of flags is read where it stands
   pub reads_flags : (i group : ℕ) → i ≡ 2 + m + t + group

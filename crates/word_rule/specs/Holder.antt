@@ -5,7 +5,7 @@ use Rattle.market.specs.Dictatorships.{Dictatorship}
 use Rattle.interleaving_core.specs.declared.parts.Cell.{Cell}
 use Rattle.interleaving_core.specs.declared.parts.Cell.TheVariants.{Posted}
 use Rattle.interleaving_core.specs.declared.parts.Phase.{Phase}
-use Rattle.interleaving_core.specs.declared.parts.Phase.TheVariants.{Idle, Halted, Scan, Ready, Seated, Raised}
+use Rattle.interleaving_core.specs.declared.parts.Phase.TheVariants.{Idle, Scan, Ready, Seated, Raised}
 use Rattle.interleaving_core.specs.declared.parts.Holding.{Holding}
 use Rattle.interleaving_core.specs.declared.events.CoreEvent.TheVariants.{Take, Look, Weigh, Seat, Raise, Seal, Release}
 use Rattle.interleaving_core.specs.Core.{View, turn_count, entry, quota_of, is_committed, hold_at}
@@ -62,11 +62,7 @@ pub record TellsLook (m : SeatMe) (found : ℕ) (n : SeatMe) : Type 0 where
 -- the phase after weighing turn c's next entry: it is full, or has a seat left, by the count found
 abbrev pub weigh_phase : Dictatorship → ℕ → Phase → ℕ → Phase
 weigh_phase d c (Scan j) found = phase_after_weigh (nat_lt found (quota_of d (entry d c j))) j
-weigh_phase d c Idle found = Idle
-weigh_phase d c Halted found = Halted
-weigh_phase d c (Ready j) found = Ready j
-weigh_phase d c (Seated j filled) found = Seated j filled
-weigh_phase d c (Raised j) found = Raised j
+weigh_phase d c phase found = phase
 
 -- the view after it
 abbrev pub weigh_by : Dictatorship → View → Option Holding → ℕ → View
@@ -84,11 +80,7 @@ pub record TellsWeigh (m : SeatMe) (found : ℕ) (n : SeatMe) : Type 0 where
 -- quota
 abbrev pub seat_phase : Dictatorship → ℕ → Phase → ℕ → Phase
 seat_phase d c (Ready j) found = Seated j (nat_le (quota_of d (entry d c j)) (found + 1))
-seat_phase d c Idle found = Idle
-seat_phase d c Halted found = Halted
-seat_phase d c (Scan j) found = Scan j
-seat_phase d c (Seated j filled) found = Seated j filled
-seat_phase d c (Raised j) found = Raised j
+seat_phase d c phase found = phase
 
 -- the view after it
 abbrev pub seat_by : Dictatorship → View → Option Holding → ℕ → View
@@ -106,12 +98,7 @@ pub record TellsSeat (m : SeatMe) (found : ℕ) (n : SeatMe) : Type 0 where
 -- the phase after the flag of the programme that was just filled is raised
 abbrev pub raise_phase : Phase → Phase
 raise_phase (Seated j true) = Raised j
-raise_phase (Seated j false) = Seated j false
-raise_phase Idle = Idle
-raise_phase Halted = Halted
-raise_phase (Scan j) = Scan j
-raise_phase (Ready j) = Ready j
-raise_phase (Raised j) = Raised j
+raise_phase phase = phase
 
 -- the view after it
 abbrev pub raise_by : View → Option Holding → View

@@ -1,44 +1,11 @@
-use Rattle.std.proofs.Common.{length, sym, ap, ◌∙◌, arith}
-use Rattle.market.specs.Dictatorships.{Dictatorship, list_at}
-use Rattle.interleaving_core.specs.Core.{turn_count, claim_at}
+use Rattle.std.proofs.Common.{arith}
+use Rattle.commit_book.proofs.Seats.{claim_is}
 use Rattle.commit_book.proofs.tests.looks_at_flags.Goals as goal
-
-pub list-places-requires : goal.list-places-requires
-list-places-requires g c =
-    let me = c.args.me.now in
-    let x = c.in-Some.claim in
-    let same = c.requires.seat.0.dict ∙ sym c.requires.seat.1 in
-    let claim = sym me.claim_is ∙ c.in-Some.is in
-    let turn = me.in_range.claimed x.turn x.passed x.looked x.met claim in
-    let turns = ap (λ (d : Dictatorship). turn_count d) same in
-    omega arith
-
-pub overflow_cast-claim : goal.overflow_cast-claim
-overflow_cast-claim g c =
-    let me = c.args.me.now in
-    let x = c.in-Some.claim in
-    let same = c.requires.seat.0.dict ∙ sym c.requires.seat.1 in
-    let claim = sym me.claim_is ∙ c.in-Some.is in
-    let passed = me.in_range.passed x.turn x.passed x.looked x.met claim in
-    let places = ap (λ (d : Dictatorship). length (list_at d x.turn)) same in
-    let list = ap length c.list-places.ensures in
-    let most = c.list-places.type_inv.0 in
-    omega arith
 
 pub read_flags-requires-clause-may : goal.read_flags-requires-clause-may
 read_flags-requires-clause-may g c =
-    let me = c.args.me.now in
-    let x = c.in-Some.claim in
-    let same = c.requires.seat.0.dict ∙ sym c.requires.seat.1 in
-    let places = ap (λ (d : Dictatorship). length (list_at d x.turn)) same in
-    let list = ap length c.list-places.ensures in
-    let left = c.if-claim-places.false in
-    record {
-      turn = x.turn;
-      place = x.passed;
-      allowed = (
-        sym me.claim_is ∙ (c.in-Some.is
-            ∙ (λ k. claim_at x.turn x.passed (c.if-claim.false k) (c.if-claim-2.false k))),
-        omega arith,
-      );
-    }
+    let x = c.claimed-left.result.0 in
+    let is = c.claimed-left.ensures.claim in
+    let claim = claim_is _ _ _ _ _ is c.if-claim.false c.if-claim-2.false in
+    let places = is.places in
+    record { turn = x.turn; place = x.passed; allowed = (claim, omega arith) }

@@ -1,4 +1,4 @@
-use Rattle.std.proofs.Common.{◌≡◌, ℕ, ◌+◌, ◌*◌, ◌^◌, Bool, true, false, sym, refl, ap, ◌∙◌, arith, bit_or}
+use Rattle.std.proofs.Common.{◌≡◌, ℕ, ◌+◌, ◌*◌, ◌^◌, true, false, ap, ◌∙◌, arith, bit_or}
 use Rattle.interleaving_core.specs.declared.limits.TheConstants.{FLAGS_PER_WORD}
 use Rattle.interleaving_core.specs.Flags.{flag_bit}
 use Rattle.interleaving_core.proofs.Flags.{word_begins, word_more}

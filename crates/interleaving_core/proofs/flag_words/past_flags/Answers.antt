@@ -1,4 +1,4 @@
-use Rattle.std.proofs.Common.{◌≡◌, ℕ, List, Bool, false, length, nat_eq, slice_index_or, sym, ap, ◌∙◌, arith}
+use Rattle.std.proofs.Common.{◌≡◌, ℕ, List, false, length, nat_eq, slice_index_or, sym, ap, ◌∙◌, arith}
 use Rattle.interleaving_core.specs.Flags.{flag_group}
 use Rattle.interleaving_core.specs.Events.{is_raised_among}
 use Rattle.interleaving_core.specs.Core.{entry}

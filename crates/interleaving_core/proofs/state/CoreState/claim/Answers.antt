@@ -1,5 +1,7 @@
-use Rattle.std.proofs.Common.{Some, false, refl, arith}
+use Rattle.std.proofs.Common.{false, refl, ap, arith}
+use Rattle.interleaving_core.specs.Core.{claim_at}
 use Rattle.interleaving_core.specs.Events.{Claims}
+use Rattle.interleaving_core.specs.Machines.{view_of}
 use Rattle.interleaving_core.proofs.Machines.{allowed, answers_refused, claims_small, has_room}
 use Rattle.interleaving_core.proofs.MachineEvents.{draws_turn, finds_no_turn}
 use Rattle.interleaving_core.proofs.state.CoreState.claim.Goals as goal
@@ -36,40 +38,20 @@ invariant_of-self-2 c =
     let x = allowed c.self.inside _ _ _ _ Claims c.self.invariant c.self.view_is c.requires
     c.index.ensures c.index_mut-me.ensures.value
     (c.in_ok-may_claim.ensures c.self.inside.dict) in
-    let me = c.index_mut-me.result.now in
+    let me = view_of c.index_mut-me.result.now in
     (draws_turn c.self.inside _ _ _ c.push_reserved.ensures.capacity x (omega arith)
-    (λ k. record {
-      claim = Some record {
-        turn = c.self.inside.claim_number;
-        passed = 0;
-        looked = false;
-        met = false;
-      };
-      own = c.push_reserved.ensures.items k;
-      done = me.done;
-      owes = me.owes;
-      hold = me.hold;
-    })).kept
+    (ap (λ own. record me { claim = claim_at c.self.inside.claim_number 0 false false; own = own })
+    c.push_reserved.ensures.items)).kept
 
 pub returns : goal.returns
 returns c =
     let x = allowed c.self.inside _ _ _ _ Claims c.self.invariant c.self.view_is c.requires
     c.index.ensures c.index_mut-me.ensures.value
     (c.in_ok-may_claim.ensures c.self.inside.dict) in
-    let me = c.index_mut-me.result.now in
+    let me = view_of c.index_mut-me.result.now in
     (draws_turn c.self.inside _ _ _ c.push_reserved.ensures.capacity x (omega arith)
-    (λ k. record {
-      claim = Some record {
-        turn = c.self.inside.claim_number;
-        passed = 0;
-        looked = false;
-        met = false;
-      };
-      own = c.push_reserved.ensures.items k;
-      done = me.done;
-      owes = me.owes;
-      hold = me.hold;
-    })).step _ c.self.view_is
+    (ap (λ own. record me { claim = claim_at c.self.inside.claim_number 0 false false; own = own })
+    c.push_reserved.ensures.items)).step _ c.self.view_is
 
 pub returns-in_err-may_claim : goal.returns-in_err-may_claim
 returns-in_err-may_claim c =

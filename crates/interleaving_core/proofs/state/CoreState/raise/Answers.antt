@@ -1,24 +1,16 @@
-use Rattle.std.proofs.Common.{ℕ, get_or, ◌∙◌, ap, refl, bit_or}
+use Rattle.std.proofs.Common.{ap, refl, bit_or}
 use Rattle.interleaving_core.specs.Events.{Raises}
 use Rattle.interleaving_core.proofs.Machines.{allowed, answers_refused, seated_within, flag_word_is}
 use Rattle.interleaving_core.proofs.MachineEvents.{raises_flag}
 use Rattle.interleaving_core.proofs.state.CoreState.raise.Goals as goal
 
-pub entry_at-programme-requires-clause-turn : goal.entry_at-programme-requires-clause-turn
-entry_at-programme-requires-clause-turn c =
+pub entry_at-programme-requires : goal.entry_at-programme-requires
+entry_at-programme-requires c =
     let x = allowed c.self.inside _ _ _ _
     (Raises c.in_ok-committed.committed c.in_ok-committed.place) c.self.invariant c.self.view_is
     c.requires c.index.ensures c.index.ensures (c.in_ok-committed.ensures c.self.inside.dict) in
-    (seated_within c.self.inside _ _ c.in_ok-committed.committed c.in_ok-committed.place
-    c.self.invariant x.there x.ok).0
-
-pub entry_at-programme-requires-clause-place : goal.entry_at-programme-requires-clause-place
-entry_at-programme-requires-clause-place c =
-    let x = allowed c.self.inside _ _ _ _
-    (Raises c.in_ok-committed.committed c.in_ok-committed.place) c.self.invariant c.self.view_is
-    c.requires c.index.ensures c.index.ensures (c.in_ok-committed.ensures c.self.inside.dict) in
-    (seated_within c.self.inside _ _ c.in_ok-committed.committed c.in_ok-committed.place
-    c.self.invariant x.there x.ok).1
+    let seated = seated_within c.self.inside _ _ _ _ c.self.invariant x.there x.ok in
+    record { valid = c.self.invariant.valid; turn = seated.0; place = seated.1 }
 
 pub invariant_of-self : goal.invariant_of-self
 invariant_of-self c =
@@ -26,11 +18,8 @@ invariant_of-self c =
     (Raises c.in_ok-committed.committed c.in_ok-committed.place) c.self.invariant c.self.view_is
     c.requires c.index.ensures c.index_mut-2.ensures.value
     (c.in_ok-committed.ensures c.self.inside.dict) in
-    let word = flag_word_is c.self.inside c.entry_at-programme.result c.index-2.result.now
-    c.self.invariant c.entry_at-programme.ensures.programme
-    (c.index-2.ensures
-    ∙ ap (λ (g : ℕ). get_or c.self.inside.flags.items g c.index-2.result.now)
-    c.flag_group-group.ensures) in
+    let word = flag_word_is c.self.inside _ _ _ _ c.self.invariant
+    c.entry_at-programme.ensures.programme c.flag_group-group.ensures refl c.index-2.ensures in
     (raises_flag c.self.inside _ _ _ refl _ _ _ _ _ _ x c.entry_at-programme.ensures.entry
     c.flag_group-group.ensures word
     (ap (λ n. bit_or c.index-2.result.now n) c.flag_mask.ensures) refl).kept
@@ -41,11 +30,8 @@ returns c =
     (Raises c.in_ok-committed.committed c.in_ok-committed.place) c.self.invariant c.self.view_is
     c.requires c.index.ensures c.index_mut-2.ensures.value
     (c.in_ok-committed.ensures c.self.inside.dict) in
-    let word = flag_word_is c.self.inside c.entry_at-programme.result c.index-2.result.now
-    c.self.invariant c.entry_at-programme.ensures.programme
-    (c.index-2.ensures
-    ∙ ap (λ (g : ℕ). get_or c.self.inside.flags.items g c.index-2.result.now)
-    c.flag_group-group.ensures) in
+    let word = flag_word_is c.self.inside _ _ _ _ c.self.invariant
+    c.entry_at-programme.ensures.programme c.flag_group-group.ensures refl c.index-2.ensures in
     (raises_flag c.self.inside _ _ _ refl _ _ _ _ _ _ x c.entry_at-programme.ensures.entry
     c.flag_group-group.ensures word
     (ap (λ n. bit_or c.index-2.result.now n) c.flag_mask.ensures) refl).step _ c.self.view_is

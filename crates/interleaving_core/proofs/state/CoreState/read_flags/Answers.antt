@@ -1,9 +1,8 @@
-use Rattle.std.proofs.Common.{ℕ, Some, get_or, refl, ap, ◌∙◌}
+use Rattle.std.proofs.Common.{Some, refl, ap}
 use Rattle.interleaving_core.specs.declared.parts.Claiming.{Claiming}
-use Rattle.interleaving_core.specs.Flags.{flag_group}
 use Rattle.interleaving_core.specs.Events.{ReadsFlags, with_claim}
 use Rattle.interleaving_core.specs.Machines.{view_of}
-use Rattle.interleaving_core.proofs.Machines.{allowed, answers_refused, flag_word_is, within, worker_there, flag_there}
+use Rattle.interleaving_core.proofs.Machines.{allowed, answers_refused, flag_word_is, within, flag_there}
 use Rattle.interleaving_core.proofs.MachineEvents.{reads_flags}
 use Rattle.interleaving_core.proofs.state.CoreState.read_flags.Goals as goal
 
@@ -12,12 +11,9 @@ invariant_of-self c =
     let x = allowed c.self.inside _ _ _ _
     (ReadsFlags c.in_ok-claim.claim.turn c.in_ok-claim.claim.passed) c.self.invariant c.self.view_is
     c.requires c.index.ensures c.index_mut.ensures.value c.in_ok-claim.ensures in
-    let flags = c.self.inside.flags.items in
-    let word = flag_word_is c.self.inside c.entry_at-programme.result c.index-word.result.now
-    c.self.invariant c.entry_at-programme.ensures.programme
-    (c.index-word.ensures
-    ∙ ap (λ (g : ℕ). get_or flags g c.index-word.result.now) c.flag_group.ensures)
-    ∙ ap (λ (p : ℕ). get_or flags (flag_group p) 0) c.entry_at-programme.ensures.entry in
+    let word = flag_word_is c.self.inside _ _ _ _ c.self.invariant
+    c.entry_at-programme.ensures.programme c.flag_group.ensures c.entry_at-programme.ensures.entry
+    c.index-word.ensures in
     (reads_flags c.self.inside _ _ _ refl _ _ _ x word
     (ap (λ (y : Claiming). with_claim (view_of c.index_mut.result.now) (Some y))
     c.past_flags-next.ensures)).kept
@@ -27,52 +23,27 @@ returns c =
     let x = allowed c.self.inside _ _ _ _
     (ReadsFlags c.in_ok-claim.claim.turn c.in_ok-claim.claim.passed) c.self.invariant c.self.view_is
     c.requires c.index.ensures c.index_mut.ensures.value c.in_ok-claim.ensures in
-    let flags = c.self.inside.flags.items in
-    let word = flag_word_is c.self.inside c.entry_at-programme.result c.index-word.result.now
-    c.self.invariant c.entry_at-programme.ensures.programme
-    (c.index-word.ensures
-    ∙ ap (λ (g : ℕ). get_or flags g c.index-word.result.now) c.flag_group.ensures)
-    ∙ ap (λ (p : ℕ). get_or flags (flag_group p) 0) c.entry_at-programme.ensures.entry in
+    let word = flag_word_is c.self.inside _ _ _ _ c.self.invariant
+    c.entry_at-programme.ensures.programme c.flag_group.ensures c.entry_at-programme.ensures.entry
+    c.index-word.ensures in
     (reads_flags c.self.inside _ _ _ refl _ _ _ x word
     (ap (λ (y : Claiming). with_claim (view_of c.index_mut.result.now) (Some y))
     c.past_flags-next.ensures)).step _ c.self.view_is
-
-pub index-requires : goal.index-requires
-index-requires c = worker_there c.self.inside _ _ c.self.view_is c.requires
-
-pub may_read_flags-requires : goal.may_read_flags-requires
-may_read_flags-requires c =
-    within c.self.inside _ _ _ c.self.invariant c.self.view_is c.requires c.index.ensures
-
-pub entry_at-programme-requires-clause-valid : goal.entry_at-programme-requires-clause-valid
-entry_at-programme-requires-clause-valid c = c.self.invariant.valid
 
 pub entry_at-programme-requires-clause-turn : goal.entry_at-programme-requires-clause-turn
 entry_at-programme-requires-clause-turn c =
     (within c.self.inside _ _ _ c.self.invariant c.self.view_is c.requires c.index.ensures).claimed
     _ c.in_ok-claim.ensures.0
 
-pub entry_at-programme-requires-clause-place : goal.entry_at-programme-requires-clause-place
-entry_at-programme-requires-clause-place c = c.in_ok-claim.ensures.1
-
 pub index-word-requires : goal.index-word-requires
 index-word-requires c =
     flag_there c.self.inside _ _ c.self.invariant c.entry_at-programme.ensures.programme
     c.flag_group.ensures
 
-pub past_flags-next-requires-clause-valid : goal.past_flags-next-requires-clause-valid
-past_flags-next-requires-clause-valid c = c.self.invariant.valid
-
 pub past_flags-next-requires-clause-turn : goal.past_flags-next-requires-clause-turn
 past_flags-next-requires-clause-turn c =
     (within c.self.inside _ _ _ c.self.invariant c.self.view_is c.requires c.index.ensures).claimed
     _ c.in_ok-claim.ensures.0
-
-pub past_flags-next-requires-clause-place : goal.past_flags-next-requires-clause-place
-past_flags-next-requires-clause-place c = c.in_ok-claim.ensures.1
-
-pub index_mut-requires : goal.index_mut-requires
-index_mut-requires c = worker_there c.self.inside _ _ c.self.view_is c.requires
 
 pub returns-in_err-claim : goal.returns-in_err-claim
 returns-in_err-claim c =

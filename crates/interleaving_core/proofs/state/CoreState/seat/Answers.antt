@@ -4,23 +4,13 @@ use Rattle.interleaving_core.proofs.Machines.{allowed, answers_refused, ready_wi
 use Rattle.interleaving_core.proofs.MachineEvents.{takes_seat}
 use Rattle.interleaving_core.proofs.state.CoreState.seat.Goals as goal
 
-pub entry_at-programme-requires-clause-turn : goal.entry_at-programme-requires-clause-turn
-entry_at-programme-requires-clause-turn c =
+pub entry_at-programme-requires : goal.entry_at-programme-requires
+entry_at-programme-requires c =
     let x = allowed c.self.inside _ _ _ _
     (Seats c.in_ok-committed.committed c.in_ok-committed.place) c.self.invariant c.self.view_is
     c.requires c.index.ensures c.index.ensures (c.in_ok-committed.ensures c.self.inside.dict) in
-    let ready = ready_within c.self.inside _ _ c.in_ok-committed.committed c.in_ok-committed.place
-    c.self.invariant x.there x.ok in
-    ready.0
-
-pub entry_at-programme-requires-clause-place : goal.entry_at-programme-requires-clause-place
-entry_at-programme-requires-clause-place c =
-    let x = allowed c.self.inside _ _ _ _
-    (Seats c.in_ok-committed.committed c.in_ok-committed.place) c.self.invariant c.self.view_is
-    c.requires c.index.ensures c.index.ensures (c.in_ok-committed.ensures c.self.inside.dict) in
-    let ready = ready_within c.self.inside _ _ c.in_ok-committed.committed c.in_ok-committed.place
-    c.self.invariant x.there x.ok in
-    ready.1
+    let ready = ready_within c.self.inside _ _ _ _ c.self.invariant x.there x.ok in
+    record { valid = c.self.invariant.valid; turn = ready.0; place = ready.1 }
 
 pub overflow_add-taken : goal.overflow_add-taken
 overflow_add-taken c =

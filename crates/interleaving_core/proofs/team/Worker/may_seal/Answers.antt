@@ -1,4 +1,4 @@
-use Rattle.std.proofs.Common.{Some, false, ap, refl, ◌∙◌}
+use Rattle.std.proofs.Common.{Some, ap, refl, ◌∙◌}
 use Rattle.interleaving_core.specs.declared.parts.Phase.TheVariants.{Scan, Seated, Raised}
 use Rattle.interleaving_core.proofs.team.Worker.may_seal.Goals as goal
 
