@@ -1,6 +1,6 @@
 -- The phase and the count that a seat's copies show are those that its condition speaks of. So
 -- what the condition says, and the ranges that every seat keeps, hold of the copies.
-use Rattle.std.proofs.Common.{◌≡◌, ℕ, ◌<◌, ◌≤◌, false, length, Some, sym, refl, subst, ap, ◌∙◌, arith}
+use Rattle.std.proofs.Common.{◌≡◌, ℕ, ◌<◌, ◌≤◌, length, Some, sym, refl, subst, ap, ◌∙◌, arith}
 use Rattle.market.specs.Dictatorships.{Dictatorship, IsValidDictatorship, list_at}
 use Rattle.interleaving_core.specs.declared.parts.Cell.{Cell}
 use Rattle.interleaving_core.specs.declared.parts.Cell.TheVariants.{Empty, Posted, Committed}
@@ -18,12 +18,6 @@ use Rattle.word_rule.specs.Rounds.{knows, dict_of, IsSeatOf}
 use Rattle.word_rule.specs.declared.seat.SharedRound.{SharedRound}
 use Rattle.word_rule.specs.declared.seat.WorkSeat.{WorkSeat}
 use Rattle.commit_book.specs.Holder.{MayLook, MayWeigh, MaySeat, MaySeal, MayRelease}
-
--- a cell that is neither posted nor committed is empty
-pub is_empty : (c : Cell) → is_committed c ≡ false → ((j : ℕ) → c ≡ Posted j → ⊥) → c ≡ Empty
-is_empty Empty left apart = refl
-is_empty (Posted j) left apart = absurd (apart j refl)
-is_empty (Committed j) left apart = absurd (cc (left))
 
 -- the word found is small, since the place found is one of the turn's list, or its length
 pub found_small : (d : Dictatorship) (m n : SeatMe) (found k : ℕ) → IsValidDictatorship d

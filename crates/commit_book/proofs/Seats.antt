@@ -2,8 +2,8 @@
 use Rattle.std.proofs.Common.{◌≡◌, ℕ, ◌+◌, ◌<◌, ◌≤◌, Bool, List, [], ◌∷◌, ◌++◌, length, Some, sym, ap, subst, ◌∙◌, arith}
 use Rattle.market.specs.Dictatorships.{Dictatorship, list_at}
 use Rattle.interleaving_core.specs.declared.parts.Claiming.{Claiming}
-use Rattle.interleaving_core.specs.Core.{View, turn_count, claim_at}
-use Rattle.word_rule.specs.Rounds.{knows, dict_of, shares_of, IsSeatOf, AreNew}
+use Rattle.interleaving_core.specs.Core.{turn_count, claim_at}
+use Rattle.word_rule.specs.Rounds.{knows, dict_of, shares_of, IsSeatOf}
 use Rattle.word_rule.specs.declared.seat.SharedRound.{SharedRound}
 use Rattle.word_rule.specs.declared.seat.WorkSeat.{WorkSeat}
 use Rattle.interleaving_core.proofs.Places.{each_last, each_snoc}
@@ -19,16 +19,6 @@ ready_last round = each_last (λ _ me. IsWorking round me)
 pub ready_snoc : (round : SharedRound) (l xs : List WorkSeat) (m : WorkSeat) → l ≡ xs ++ m ∷ []
     → AreWorking round xs → IsWorking round m → AreWorking round l
 ready_snoc round = each_snoc (λ _ me. IsWorking round me)
-
--- seats at the opening may draw
-pub ready_new : (round : SharedRound) (l : List WorkSeat) → AreNew round l → AreWorking round l
-ready_new round l new k me e =
-    let n = new k me e in
-    record {
-      of_round = n.of_round;
-      working = ap (λ (v : View). v.done) n.fresh;
-      paid = ap (λ (v : View). v.owes) n.fresh;
-    }
 
 -- one seat more has moved from one list to the other, with its share
 pub shares_moved : (from rest to moved : List WorkSeat) (me new : WorkSeat) (all : ℕ)

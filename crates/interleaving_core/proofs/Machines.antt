@@ -175,14 +175,6 @@ has_room s i w k at new =
     (λ j x there. (omega arith, (own.each j x there).1)) own.rise in
     omega arith
 
--- the worker that acts is one of the workers
-pub worker_there : (s : Inside) (now : Machine) (i : ℕ) → machine_of s ≡ now
-    → i < length now.core.views → i < vec_len s.workers
-worker_there s now i is l =
-    let here : i < length (map view_of s.workers.items) =
-    subst (λ (m : Machine). i < length m.core.views) (sym is) l in
-    omega (arith, length-map s.workers.items view_of)
-
 -- what a worker may look up
 pub within : (s : Inside) (now : Machine) (i : ℕ) (w : Worker) → IsKept s → machine_of s ≡ now
     → i < length now.core.views → w ≡ get_or s.workers.items i w → IsWithin s.dict (view_of w)
@@ -231,12 +223,6 @@ pub answers_refused : (s : Inside) (now : Machine) (i : ℕ) (w : Worker) (event
 answers_refused s now i w event (Ok told) err is l e refuses = absurd (cc err)
 answers_refused s now i w event (Err reason) err is l e refuses =
     (refl, refused s now i w event is l e refuses)
-
--- a claimed turn is one of the turns
-pub claim_within : (s : Inside) (i : ℕ) (w : Worker) (x : Claiming) → IsKept s
-    → slice_get s.workers.items i ≡ Some w
-    → w.claim ≡ Some x → x.turn < turn_count s.dict
-claim_within s i w x k at claim = ((view_fits s i w k at).claim x claim).turn
 
 -- a worker that claims a turn has it among its own
 pub has_own : (s : Inside) (i : ℕ) (w : Worker) (x : Claiming) → IsKept s
@@ -349,10 +335,6 @@ seats_small s p k l =
     let workers = k.few in
     let views = length-map s.workers.items view_of in
     omega arith
-
--- no worker, and one worker more
-pub team_none : (turns : ℕ) → IsTeam 0 turns []
-team_none turns = record { views = refl; room = λ i w at. absurd (cc (at)) }
 
 -- a team with one fresh worker more is one, where that worker has room for all turns
 pub team_more : (n turns : ℕ) (ws : List Worker) (w : Worker) → IsTeam n turns ws

@@ -73,14 +73,6 @@ pub replay-within : (m : Problem) (r : ℕ) (cuts : List ℕ) (total : ℕ) (tab
 replay-within m r cuts total table firsts done u t l = let e = u.first t l in let le = first_run-le
     m r t in omega arith
 
--- the turns before them are kept
-pub replay-kept : (m : Problem) (r : ℕ) (cuts : List ℕ) (total : ℕ) (table : List (List (Option
-    ℕ))) (firsts : List (Option ℕ)) (done : ℕ) → IsReplayUpto m r cuts total table firsts done
-    → (t : ℕ) → t < m.types → IsRunUpto m cuts t (first_turn_of m firsts t)
-    (slice_index_or table t [])
-replay-kept m r cuts total table firsts done u t l = subst (λ (k : ℕ). IsRunUpto m cuts t k
-    (slice_index_or table t [])) (sym (u.first t l)) (u.kept t l)
-
 -- the turns that a round runs are those of the definition
 turns-are : (m : Problem) (r : ℕ) (cuts : List ℕ) (total : ℕ) (table : List (List (Option ℕ)))
     (firsts : List (Option ℕ)) (done : ℕ) → IsReplayUpto m r cuts total table firsts done
