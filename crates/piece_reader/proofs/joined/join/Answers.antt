@@ -8,7 +8,7 @@ use Rattle.piece_reader.proofs.joined.join.Goals as goal
 pub take_part-requires : goal.take_part-requires
 take_part-requires g c =
     let rules = g.T.RowTable.rules c.args.beside.now in
-    let keeps = g.A.AheadRow.keeps c.args.beside.now in
+    let keeps = g.T.TakesAhead.keeps c.args.beside.now in
     let has = g.T.RowTable.has_rows c.args.beside.now in
     let all = data_rows c.args.bytes.now in
     let left = into_iter_items c.next.new.self in
@@ -21,7 +21,7 @@ take_part-requires g c =
 pub returns-in-Some-2 : goal.returns-in-Some-2
 returns-in-Some-2 g c =
     let rules = g.T.RowTable.rules c.args.beside.now in
-    let keeps = g.A.AheadRow.keeps c.args.beside.now in
+    let keeps = g.T.TakesAhead.keeps c.args.beside.now in
     let has = g.T.RowTable.has_rows c.args.beside.now in
     let bytes = c.args.bytes.now in
     let all = data_rows bytes in
@@ -38,7 +38,7 @@ returns-in-Some-2 g c =
 pub parts-init : goal.parts-init
 parts-init g c =
     let rules = g.T.RowTable.rules c.args.beside.now in
-    let keeps = g.A.AheadRow.keeps c.args.beside.now in
+    let keeps = g.T.TakesAhead.keeps c.args.beside.now in
     let has = g.T.RowTable.has_rows c.args.beside.now in
     subst (JoinsParts rules keeps has (data_rows c.args.bytes.now) c.args.table)
     (sym c.into_iter-left.ensures.rest)
@@ -48,7 +48,7 @@ parts-init g c =
 pub parts-preserved : goal.parts-preserved
 parts-preserved g c =
     let rules = g.T.RowTable.rules c.args.beside.now in
-    let keeps = g.A.AheadRow.keeps c.args.beside.now in
+    let keeps = g.T.TakesAhead.keeps c.args.beside.now in
     let has = g.T.RowTable.has_rows c.args.beside.now in
     let all = data_rows c.args.bytes.now in
     let left = into_iter_items c.next.new.self in
@@ -62,7 +62,7 @@ parts-preserved g c =
 pub returns : goal.returns
 returns g c =
     let rules = g.T.RowTable.rules c.args.beside.now in
-    let keeps = g.A.AheadRow.keeps c.args.beside.now in
+    let keeps = g.T.TakesAhead.keeps c.args.beside.now in
     let has = g.T.RowTable.has_rows c.args.beside.now in
     let bytes = c.args.bytes.now in
     let all = data_rows bytes in

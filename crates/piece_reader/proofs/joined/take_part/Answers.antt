@@ -8,7 +8,7 @@ use Rattle.piece_reader.proofs.joined.take_part.Goals as goal
 pub take_ahead-requires : goal.take_ahead-requires
 take_ahead-requires g c =
     let rules = g.T.RowTable.rules c.args.beside.now in
-    let keeps = g.A.AheadRow.keeps c.args.beside.now in
+    let keeps = g.T.TakesAhead.keeps c.args.beside.now in
     let has = g.T.RowTable.has_rows c.args.beside.now in
     let earlier = c.requires.0 in
     let more = c.requires.1 in
@@ -25,7 +25,7 @@ take_ahead-requires g c =
 pub returns-in-Some-2 : goal.returns-in-Some-2
 returns-in-Some-2 g c = λ earlier more here all.
     let rules = g.T.RowTable.rules c.args.beside.now in
-    let keeps = g.A.AheadRow.keeps c.args.beside.now in
+    let keeps = g.T.TakesAhead.keeps c.args.beside.now in
     let has = g.T.RowTable.has_rows c.args.beside.now in
     let kept = subst (AllZip keeps more) (sym c.into_iter-left.ensures.rest) all in
     let left = into_iter_items c.next.new.self in
@@ -41,7 +41,7 @@ returns-in-Some-2 g c = λ earlier more here all.
 pub rows-preserved : goal.rows-preserved
 rows-preserved g c = λ earlier more here kept.
     let rules = g.T.RowTable.rules c.args.beside.now in
-    let keeps = g.A.AheadRow.keeps c.args.beside.now in
+    let keeps = g.T.TakesAhead.keeps c.args.beside.now in
     let has = g.T.RowTable.has_rows c.args.beside.now in
     let left = into_iter_items c.next.new.self in
     let adds = subst (AddsTo rules keeps has earlier more c.rows.table) c.in-Some.ensures.items
@@ -54,7 +54,7 @@ rows-preserved g c = λ earlier more here kept.
 pub returns : goal.returns
 returns g c = λ earlier more here all.
     let rules = g.T.RowTable.rules c.args.beside.now in
-    let keeps = g.A.AheadRow.keeps c.args.beside.now in
+    let keeps = g.T.TakesAhead.keeps c.args.beside.now in
     let has = g.T.RowTable.has_rows c.args.beside.now in
     let kept = subst (AllZip keeps more) (sym c.into_iter-left.ensures.rest) all in
     let none : into_iter_items c.rows.left ≡ [] =
