@@ -8,7 +8,7 @@ use Rattle.record_files.specs.Keys.{line_of}
 use Rattle.record_files.specs.Rows.{Row}
 use Rattle.candidate_table.specs.Rows.{codes_in, list_fault, number_in}
 use Rattle.candidate_table.specs.Table.{Candidates, IsPreferenceList, indexes_of, table_of}
-use Rattle.candidate_table.specs.declared.ahead.Candidate.{Candidate}
+use Rattle.candidate_table.specs.declared.row.Candidate.{Candidate}
 use Rattle.candidate_table.specs.declared.row.Fields.{Fields}
 
 -- these are the fields of the row

@@ -10,8 +10,6 @@ mod row;
 mod fields;
 // The programmes of a preference list.
 mod lists;
-// Candidates read ahead of those before them.
-mod ahead;
 // The numbers of candidates.
 mod numbers;
 // The table, its reading and its look-ups.

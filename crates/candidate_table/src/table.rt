@@ -6,12 +6,12 @@ ghost use Rattle.candidate_table.specs.Rows.{candidates_fault};
 ghost use Rattle.candidate_table.specs.Growth.{with_candidate};
 ghost use Rattle.candidate_table.specs.Table.{IsPreferenceList, candidates_table, table_of};
 
-use crate::ahead::Candidate;
 use crate::fields::read_fields;
+use crate::lists::find_list;
 use crate::numbers::CandidateNumbers;
-use crate::row::Fields;
+use crate::row::{Candidate, Fields};
 use market::List;
-use piece_reader::{AheadRow, TakesAhead, read_table};
+use piece_reader::{TakesAhead, read_table};
 use place_base::limits::{LARGEST_FILE, MOST_CANDIDATES, MOST_PIECES};
 use place_base::{CandidateNo, FileFault, FileKind, Finder};
 use record_files::{FileForm, Header, RecordRow, RowTable, TableStop, duplicate_at};
@@ -125,8 +125,8 @@ impl<P: Finder> RowTable<P> for CandidateTable {
 
     ghost has_rows = { λ programmes rows table. HasRows (P.numbers programmes) rows table };
 
-    fn form(programmes: &P) -> FileForm {
-        Candidate::form(programmes)
+    fn form(_programmes: &P) -> FileForm {
+        FileForm::new(FileKind::Candidates, &[b"candidate,list"], MOST_CANDIDATES)
     }
 
     fn read_fields(
@@ -143,12 +143,29 @@ impl<P: Finder> RowTable<P> for CandidateTable {
         programmes: &P,
         fields: Fields,
     ) -> Result<Option<FileFault>, AllocError> {
-        let candidate = Candidate::keep(alloc, programmes, fields)?;
+        let candidate = CandidateTable::keep(alloc, programmes, fields)?;
         self.take_ahead(alloc, programmes, candidate)
     }
 }
 
 impl<P: Finder> TakesAhead<P, Candidate> for CandidateTable {
+    ghost use Rattle.candidate_table.specs.Growth.{IsCandidateOf};
+
+    ghost keeps = { λ programmes row candidate.
+        IsCandidateOf (P.numbers programmes) row candidate };
+
+    fn most_rows(_programmes: &P) -> u32 {
+        MOST_CANDIDATES
+    }
+
+    fn keep(alloc: Global, programmes: &P, fields: Fields) -> Result<Candidate, AllocError> {
+        Ok(Candidate {
+            line: fields.line,
+            number: fields.number,
+            list: find_list(alloc, fields.line, programmes, fields.codes.as_slice())?,
+        })
+    }
+
     fn take_ahead(
         &mut self,
         _alloc: Global,

@@ -5,7 +5,7 @@ use super::{CandidateNumbers, CandidateTable};
 use place_base::FaultKind::{
     self, Duplicate, FieldCount, Header, ListTooLong, NotNumber, OutOfRange, UnknownProgramme,
 };
-use place_base::{FileFault, FileKind, Finder};
+use place_base::{FileKind, Finder};
 use record_files::{TableStop, duplicate_at};
 use std::alloc::Global;
 use std::sync::atomic::Ordering::SeqCst;
@@ -116,42 +116,31 @@ const FILES: [(&str, u32, u8, FaultKind, u32); 16] = [
 
 #[test]
 fn the_first_fault_is_told(rt: HostRuntime) -> Result<(), Fail> {
-    tell_faults(&rt, rt.alloc(), &codes(&rt, rt.alloc())?, &FILES)
+    let codes = codes(&rt, rt.alloc())?;
+    for pieces in &[1, 2, 7, 64] {
+        tell_faults(&rt, rt.alloc(), *pieces, &codes, &FILES)?;
+    }
+    Ok(())
 }
 
-// Reads each file beside the codes.
+// Reads each file beside the codes in so many pieces, and fails where another fault is told.
 fn tell_faults<R: Threads + Sync>(
     rt: &R,
     alloc: Global,
+    pieces: u32,
     codes: &CandidateTable,
     files: &[(&str, u32, u8, FaultKind, u32)],
 ) -> Result<(), Fail> {
+    if pieces == 0 || pieces > 64 {
+        return Err(Fail::new("a number of pieces"));
+    }
     for (text, line, field, kind, earlier) in files {
         let mut wanted = duplicate_at(FileKind::Candidates, *line, *field, *earlier);
         wanted.kind = *kind;
         if text.len() > 1024 {
             return Err(Fail::new("a long text"));
         }
-        tell_fault(rt, alloc, codes, text.as_bytes(), wanted)?;
-    }
-    Ok(())
-}
-
-// Reads a file in different numbers of pieces, and fails where another fault is told.
-fn tell_fault<R: Threads + Sync>(
-    rt: &R,
-    alloc: Global,
-    codes: &CandidateTable,
-    bytes: &[u8],
-    wanted: FileFault,
-) -> Result<(), Fail>
-    requires { length bytes.now ≤ 1024 }
-{
-    for pieces in &[1, 2, 7, 64] {
-        if *pieces == 0 || *pieces > 64 {
-            return Err(Fail::new("a number of pieces"));
-        }
-        let read = CandidateTable::read(rt, alloc, bytes, *pieces, codes);
+        let read = CandidateTable::read(rt, alloc, text.as_bytes(), pieces, codes);
         if read.err() != Some(TableStop::Fault(wanted)) {
             return Err(Fail::new("another fault"));
         }

@@ -135,18 +135,18 @@ module _ {A T : Type 0} (rules : FileRules) (keeps : Row → A → Type 0) (has 
         by done (row ∷ after) behind kept none here = absurd kept
 
     -- the rows of the first parts are in the table, and these were kept of those of the others
-    pub record JoinsParts (all : List Row) (table : T) (left : List (AheadRows A)) : Type 0 where
+    pub record JoinsParts (all : List Row) (table : T) (left : List (AheadRows A T)) : Type 0 where
       pub done : List Row
       pub lists : List (List Row)
       pub behind : all ≡ done ++ flat_map (λ rows. rows) lists
-      pub kept : AllZip (λ rows (part : AheadRows A). AllZip keeps rows part.rows.items) lists left
+      pub kept : AllZip (λ rows (part : AheadRows A T). AllZip keeps rows part.rows.items) lists left
       pub none : meanings rules [] done ≡ None
       pub has_rows : has done table
 
     -- before the first of the parts the table has no row
     pub JoinsParts-begin : (all : List Row) (lists : List (List Row)) (table : T)
-        (left : List (AheadRows A)) → flat_map (λ rows. rows) lists ≡ all → has [] table
-        → AllZip (λ rows (part : AheadRows A). AllZip keeps rows part.rows.items) lists left
+        (left : List (AheadRows A T)) → flat_map (λ rows. rows) lists ≡ all → has [] table
+        → AllZip (λ rows (part : AheadRows A T). AllZip keeps rows part.rows.items) lists left
         → JoinsParts all table left
     JoinsParts-begin all lists table left whole here kept = record {
       done = [];
@@ -158,19 +158,19 @@ module _ {A T : Type 0} (rules : FileRules) (keeps : Row → A → Type 0) (has 
     }
 
     -- what adding the rows of a part comes to
-    abbrev pub TakesPart : T → AheadRows A → T → Option FileFault → Type 0
+    abbrev pub TakesPart : T → AheadRows A T → T → Option FileFault → Type 0
     TakesPart table part new found = (earlier : List Row) (more : List Row) → has earlier table
         → AllZip keeps more part.rows.items
         → IsRowTaken (meanings rules earlier more) ⊤ (has (earlier ++ more) new) found
 
-    module _ (all : List Row) (table new : T) (part : AheadRows A) (left : List (AheadRows A)) where
+    module _ (all : List Row) (table new : T) (part : AheadRows A T) (left : List (AheadRows A T)) where
       -- a part with which nothing is wrong is one more in the table
       pub JoinsParts-next : JoinsParts all table (part ∷ left) → TakesPart table part new None
           → JoinsParts all new left
       JoinsParts-next p takes = by p.lists p.behind p.kept
         where
           by : (lists : List (List Row)) → all ≡ p.done ++ flat_map (λ rows. rows) lists
-              → AllZip (λ rows (part : AheadRows A). AllZip keeps rows part.rows.items) lists
+              → AllZip (λ rows (part : AheadRows A T). AllZip keeps rows part.rows.items) lists
               (part ∷ left)
               → JoinsParts all new left
           by [] behind kept = absurd kept
@@ -191,7 +191,7 @@ module _ {A T : Type 0} (rules : FileRules) (keeps : Row → A → Type 0) (has 
       JoinsParts-stops f p takes = by p.lists p.behind p.kept
         where
           by : (lists : List (List Row)) → all ≡ p.done ++ flat_map (λ rows. rows) lists
-              → AllZip (λ rows (part : AheadRows A). AllZip keeps rows part.rows.items) lists
+              → AllZip (λ rows (part : AheadRows A T). AllZip keeps rows part.rows.items) lists
               (part ∷ left)
               → meanings rules [] all ≡ Some f
           by [] behind kept = absurd kept
@@ -212,7 +212,7 @@ module _ {A T : Type 0} (rules : FileRules) (keeps : Row → A → Type 0) (has 
       JoinsParts-below most few p = by p.lists p.behind p.kept
         where
           by : (lists : List (List Row)) → all ≡ p.done ++ flat_map (λ rows. rows) lists
-              → AllZip (λ rows (part : AheadRows A). AllZip keeps rows part.rows.items) lists
+              → AllZip (λ rows (part : AheadRows A T). AllZip keeps rows part.rows.items) lists
               (part ∷ left)
               → (more : List Row) × AllZip keeps more part.rows.items
               × (length p.done + length more ≤ most)
@@ -234,7 +234,7 @@ module _ {A T : Type 0} (rules : FileRules) (keeps : Row → A → Type 0) (has 
     JoinsParts-ends all table p = by p.lists p.behind p.kept
       where
         by : (lists : List (List Row)) → all ≡ p.done ++ flat_map (λ rows. rows) lists
-            → AllZip (λ rows (part : AheadRows A). AllZip keeps rows part.rows.items) lists []
+            → AllZip (λ rows (part : AheadRows A T). AllZip keeps rows part.rows.items) lists []
             → (meanings rules [] all ≡ None) × has all table
         by [] behind kept =
             let whole : p.done ≡ all = sym (append-nil p.done) ∙ sym behind in (

@@ -1,108 +1,100 @@
 // Rows that are kept until the rows before them are in the table.
-ghost use Rattle.std.specs.Prelude.{◌≡◌, List, length, Some, IfOk, MatchResult, None};
-ghost use Rattle.record_files.specs.FirstFaults.{FileRules};
-ghost use Rattle.record_files.specs.Form.{IsHeaderOf};
-ghost use Rattle.record_files.specs.Rows.{Row, fields_of};
+ghost use Rattle.std.specs.Prelude.{◌≡◌, ◌<◌, ◌++◌, ◌∷◌, [], List, length, IfOk};
+ghost use Rattle.record_files.specs.ReadTo.{IsRowTaken};
+ghost use Rattle.record_files.specs.Rows.{Row};
 
 use crate::part_table::PartTable;
 use place_base::FileFault;
 use record_files::{FileForm, Header, RecordRow, RowTable};
 use std::alloc::{AllocError, Global};
+use std::marker::PhantomData;
 
-/// What is kept of a row that is read ahead of the rows before it.
-pub trait AheadRow<B> {
-    ghost use Rattle.std.specs.Prelude.{List};
-    ghost use Rattle.record_files.specs.FirstFaults.{FileRules};
+/// A table whose rows can be read ahead of the rows before them: an `A` is kept of each.
+pub trait TakesAhead<B, A>: RowTable<B> {
     ghost use Rattle.record_files.specs.Rows.{Row};
 
-    /// What a row shows by itself.
-    type Fields;
-
-    /// What may be wrong with the file.
-    ghost rules: { B → FileRules };
-
-    /// These are the fields of the row.
-    ghost says: { Row → Self.Fields → Type 0 };
-
     /// This is kept of the row.
-    ghost keeps: { B → Row → Self → Type 0 };
-
-    /// The form of the file.
-    fn form(beside: &B) -> FileForm
-        ensures { result ≡ (rules beside.now).form };
+    ghost keeps: { B → Row → A → Type 0 };
 
     /// The most data rows that the whole file may have.
     fn most_rows(beside: &B) -> u32
-        ensures { result ≡ (rules beside.now).form.most_rows };
-
-    /// The fields of a row with as many as the header, or the first that is wrong by itself.
-    fn read_fields(
-        beside: &B,
-        header: Header,
-        row: &RecordRow<'_>,
-    ) -> Result<Self::Fields, FileFault>
-        requires header { IsHeaderOf (rules beside.now).form header }
-        requires fields { length (fields_of row.now) ≡ header.fields }
-        ensures { MatchResult result
-            (λ fields. ((rules beside.now).reading header.version row.now ≡ None)
-            × says row.now fields)
-            (λ fault. (rules beside.now).reading header.version row.now ≡ Some fault) };
+        ensures { result ≡ (Self.rules beside.now).form.most_rows };
 
     /// What is kept of a row with these fields.
-    fn keep(alloc: Global, beside: &B, fields: Self::Fields) -> Result<Self, AllocError>
-        ensures { IfOk result (λ kept. (row : Row) → says row fields → keeps beside.now row kept) };
+    fn keep(alloc: Global, beside: &B, fields: Self::Fields) -> Result<A, AllocError>
+        ensures { IfOk result (λ kept. (row : Row)
+            → Self.says row fields
+            → keeps beside.now row kept) };
+
+    /// Adds a row of which this was kept, or answers what is wrong with it beside the table.
+    fn take_ahead(
+        &mut self,
+        alloc: Global,
+        beside: &B,
+        row: A,
+    ) -> Result<Option<FileFault>, AllocError>
+        requires { (earlier : List Row) × Self.has_rows beside.now earlier self.old
+            × (length earlier < (Self.rules beside.now).form.most_rows) }
+        ensures { IfOk result (λ found. (earlier : List Row) (one : Row)
+            → Self.has_rows beside.now earlier self.old
+            → keeps beside.now one row
+            → IsRowTaken ((Self.rules beside.now).meaning earlier one)
+            (Self.has_rows beside.now earlier self.new)
+            (Self.has_rows beside.now (earlier ++ one ∷ []) self.new) found) };
 }
 
-/// What is kept of the rows of a part, in order.
+/// What is kept of the rows of a part for a table `T`, in order.
 #[derive(Drop)]
-pub struct AheadRows<A> {
+pub struct AheadRows<A, T> {
     /// One for each row.
     pub rows: Vec<A>,
+    table: PhantomData<T>,
 }
 
-impl<B, A: AheadRow<B> + Drop> RowTable<B> for AheadRows<A> {
+impl<B, A: Drop, T: TakesAhead<B, A>> RowTable<B> for AheadRows<A, T> {
     ghost use Rattle.std.specs.List.{AllZip};
     ghost use Rattle.piece_reader.specs.Joined.{by_themselves};
 
-    type Fields = A::Fields;
+    type Fields = T::Fields;
 
-    ghost rules = { λ beside. by_themselves (A.rules beside) };
+    ghost rules = { λ beside. by_themselves (T.rules beside) };
 
-    ghost says = { A.says };
+    ghost says = { T.says };
 
-    ghost has_rows = { λ beside rows table. AllZip (A.keeps beside) rows table.rows.items };
+    ghost has_rows = { λ beside rows table. AllZip (T.keeps beside) rows table.rows.items };
 
     fn form(beside: &B) -> FileForm {
-        A::form(beside)
+        T::form(beside)
     }
 
     fn read_fields(
         beside: &B,
         header: Header,
         row: &RecordRow<'_>,
-    ) -> Result<A::Fields, FileFault> {
-        A::read_fields(beside, header, row)
+    ) -> Result<T::Fields, FileFault> {
+        T::read_fields(beside, header, row)
     }
 
     fn take(
         &mut self,
         alloc: Global,
         beside: &B,
-        fields: A::Fields,
+        fields: T::Fields,
     ) -> Result<Option<FileFault>, AllocError> {
-        self.rows.push(A::keep(alloc, beside, fields)?)?;
+        self.rows.push(T::keep(alloc, beside, fields)?)?;
         Ok(None)
     }
 }
 
-impl<B, A: AheadRow<B> + Drop> PartTable<B> for AheadRows<A> {
-    fn empty(alloc: Global, _beside: &B) -> Result<AheadRows<A>, AllocError> {
+impl<B, A: Drop, T: TakesAhead<B, A>> PartTable<B> for AheadRows<A, T> {
+    fn empty(alloc: Global, _beside: &B) -> Result<AheadRows<A, T>, AllocError> {
         Ok(AheadRows {
             rows: Vec::new(alloc),
+            table: PhantomData,
         })
     }
 
     fn most_rows(beside: &B) -> u32 {
-        A::most_rows(beside)
+        T::most_rows(beside)
     }
 }

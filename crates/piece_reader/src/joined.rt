@@ -8,49 +8,31 @@ ghost use Rattle.piece_reader.specs.Ahead.{AreReadAhead};
 ghost use Rattle.piece_reader.specs.Joined.{by_themselves, meanings};
 
 use crate::ahead::read_parts;
-use crate::ahead_rows::{AheadRow, AheadRows};
+use crate::ahead_rows::{AheadRows, TakesAhead};
 use place_base::FileFault;
 use place_base::limits::{LARGEST_FILE, MOST_PIECES};
-use record_files::{RowTable, TableStop};
+use record_files::TableStop;
 use std::alloc::{AllocError, Global};
 use std::thread::Threads;
-
-/// A table to which rows are added that were read ahead of the rows before them.
-pub trait TakesAhead<B, A: AheadRow<B>>: RowTable<B> {
-    /// Adds a row of which this was kept, or answers what is wrong with it beside the table.
-    fn take_ahead(
-        &mut self,
-        alloc: Global,
-        beside: &B,
-        row: A,
-    ) -> Result<Option<FileFault>, AllocError>
-        requires { (earlier : List Row) × Self.has_rows beside.now earlier self.old
-            × (length earlier < (Self.rules beside.now).form.most_rows) }
-        ensures { IfOk result (λ found. (earlier : List Row) (one : Row)
-            → Self.has_rows beside.now earlier self.old
-            → A.keeps beside.now one row
-            → IsRowTaken ((Self.rules beside.now).meaning earlier one)
-            (Self.has_rows beside.now earlier self.new)
-            (Self.has_rows beside.now (earlier ++ one ∷ []) self.new) found) };
-}
 
 /// The table of a file that is read in so many parts side by side, or the file's first fault.
 ///
 /// Where a row is wrong by itself, the file is read again from its start, row by row.
-pub fn read_table<
-    R: Threads + Sync,
-    B: Sync,
-    A: AheadRow<B> + Send + Drop,
-    T: TakesAhead<B, A> + Drop,
->(rt: &R, alloc: Global, bytes: &[u8], pieces: u32, beside: &B, table: T) -> Result<T, TableStop>
+pub fn read_table<R: Threads + Sync, B: Sync, A: Send + Drop, T: TakesAhead<B, A> + Send + Drop>(
+    rt: &R,
+    alloc: Global,
+    bytes: &[u8],
+    pieces: u32,
+    beside: &B,
+    table: T,
+) -> Result<T, TableStop>
     requires size { length bytes.now ≤ LARGEST_FILE }
     requires pieces { (1 ≤ pieces) × (pieces ≤ MOST_PIECES) }
     requires empty { T.has_rows beside.now [] table }
-    requires rules { A.rules beside.now ≡ T.rules beside.now }
     ensures { IsFileRead (first_fault (T.rules beside.now) bytes.now)
         (T.has_rows beside.now (data_rows bytes.now)) result }
 {
-    match read_parts::<R, B, AheadRows<A>>(rt, alloc, bytes, pieces, beside)? {
+    match read_parts::<R, B, AheadRows<A, T>>(rt, alloc, bytes, pieces, beside)? {
         Some(parts) => join(alloc, bytes, parts, beside, table),
         None => record_files::read_table(alloc, bytes, beside, table),
     }
@@ -58,16 +40,16 @@ pub fn read_table<
 
 // The table of the rows of all parts, or the fault of the first that is wrong beside those before
 // it.
-fn join<B, A: AheadRow<B> + Drop, T: TakesAhead<B, A> + Drop>(
+fn join<B, A: Drop, T: TakesAhead<B, A> + Drop>(
     alloc: Global,
     bytes: &[u8],
-    parts: Vec<AheadRows<A>>,
+    parts: Vec<AheadRows<A, T>>,
     beside: &B,
     table: T,
 ) -> Result<T, TableStop>
     requires empty { T.has_rows beside.now [] table }
     requires parts { AreReadAhead (by_themselves (T.rules beside.now))
-        (λ rows part. AllZip (A.keeps beside.now) rows part.rows.items) bytes.now parts.items }
+        (λ rows part. AllZip (T.keeps beside.now) rows part.rows.items) bytes.now parts.items }
     ensures { IsFileRead (first_fault (T.rules beside.now) bytes.now)
         (T.has_rows beside.now (data_rows bytes.now)) result }
 {
@@ -82,18 +64,18 @@ fn join<B, A: AheadRow<B> + Drop, T: TakesAhead<B, A> + Drop>(
 }
 
 // Adds the rows of a part, or answers what is wrong with the first that is wrong beside the table.
-fn take_part<B, A: AheadRow<B> + Drop, T: TakesAhead<B, A>>(
+fn take_part<B, A: Drop, T: TakesAhead<B, A>>(
     alloc: Global,
     rows: Vec<A>,
     beside: &B,
     table: &mut T,
 ) -> Result<Option<FileFault>, AllocError>
     requires { (earlier : List Row) × (more : List Row) × T.has_rows beside.now earlier table.old
-        × AllZip (A.keeps beside.now) more rows.items
+        × AllZip (T.keeps beside.now) more rows.items
         × (length earlier + length more ≤ (T.rules beside.now).form.most_rows) }
     ensures { IfOk result (λ found. (earlier : List Row) (more : List Row)
         → T.has_rows beside.now earlier table.old
-        → AllZip (A.keeps beside.now) more rows.items
+        → AllZip (T.keeps beside.now) more rows.items
         → IsRowTaken (meanings (T.rules beside.now) earlier more) ⊤
         (T.has_rows beside.now (earlier ++ more) table.new) found) }
 {

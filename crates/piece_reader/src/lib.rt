@@ -16,9 +16,9 @@ mod ahead_rows;
 mod joined;
 
 pub use ahead::read_parts;
-pub use ahead_rows::{AheadRow, AheadRows};
+pub use ahead_rows::{AheadRows, TakesAhead};
 pub use header::from_header;
-pub use joined::{TakesAhead, read_table};
+pub use joined::read_table;
 pub use part_table::PartTable;
 pub use pieces::read_pieces;
 

@@ -1,7 +1,7 @@
 // Cuts at line ends, and files read over the parts.
 ghost use Rattle.std.specs.Prelude.{◌≤◌, length};
 
-use super::{AheadRow, TakesAhead, from_header, read_pieces, read_table};
+use super::{TakesAhead, from_header, read_pieces, read_table};
 use place_base::FaultKind::{self, Duplicate, FieldCount, TooManyRows};
 use place_base::{FileFault, FileKind};
 use record_files::{FileForm, Header, RecordRow, RowPart, RowTable, TableStop, duplicate_at};
@@ -87,41 +87,6 @@ struct Line(u32);
 #[derive(Drop)]
 struct RowCount(u32);
 
-impl AheadRow<()> for Line {
-    ghost use Rattle.std.specs.Prelude.{◌≡◌, ◌==◌, None, codes, length};
-    ghost use Rattle.place_base.specs.declared.fault.FileKind.TheVariants.{Programmes};
-    ghost use Rattle.record_files.specs.FirstFaults.{duplicate_at, fault_if};
-    ghost use Rattle.record_files.specs.Form.{one_header};
-
-    type Fields = Line;
-
-    ghost rules = { λ _. record {
-      form = one_header Programmes (codes "h") 3;
-      reading = λ version row. None;
-      meaning = λ earlier row. fault_if (row.0 == 9) (duplicate_at Programmes 9 1 (length earlier));
-    } };
-
-    ghost says = { λ row line. line.0 ≡ row.0 };
-
-    ghost keeps = { λ _ row line. line.0 ≡ row.0 };
-
-    fn form(_beside: &()) -> FileForm {
-        FileForm::new(FileKind::Programmes, &[b"h"], 3)
-    }
-
-    fn most_rows(_beside: &()) -> u32 {
-        3
-    }
-
-    fn read_fields(_beside: &(), _header: Header, row: &RecordRow<'_>) -> Result<Line, FileFault> {
-        Ok(Line(row.line()))
-    }
-
-    fn keep(_alloc: Global, _beside: &(), fields: Line) -> Result<Line, AllocError> {
-        Ok(fields)
-    }
-}
-
 impl RowTable<()> for RowCount {
     ghost use Rattle.std.specs.Prelude.{◌≡◌, ◌==◌, None, codes, length};
     ghost use Rattle.place_base.specs.declared.fault.FileKind.TheVariants.{Programmes};
@@ -140,8 +105,8 @@ impl RowTable<()> for RowCount {
 
     ghost has_rows = { λ _ rows table. table.0 ≡ length rows };
 
-    fn form(beside: &()) -> FileForm {
-        Line::form(beside)
+    fn form(_beside: &()) -> FileForm {
+        FileForm::new(FileKind::Programmes, &[b"h"], 3)
     }
 
     fn read_fields(_beside: &(), _header: Header, row: &RecordRow<'_>) -> Result<Line, FileFault> {
@@ -159,6 +124,18 @@ impl RowTable<()> for RowCount {
 }
 
 impl TakesAhead<(), Line> for RowCount {
+    ghost use Rattle.std.specs.Prelude.{◌≡◌};
+
+    ghost keeps = { λ _ row line. line.0 ≡ row.0 };
+
+    fn most_rows(_beside: &()) -> u32 {
+        3
+    }
+
+    fn keep(_alloc: Global, _beside: &(), fields: Line) -> Result<Line, AllocError> {
+        Ok(fields)
+    }
+
     fn take_ahead(
         &mut self,
         _alloc: Global,

@@ -6,8 +6,6 @@
 mod row;
 // What a row says by itself.
 mod fields;
-// Programmes read ahead of those before them.
-mod ahead;
 // The table, its reading and its look-ups.
 mod table;
 

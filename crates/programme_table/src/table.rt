@@ -9,7 +9,7 @@ use crate::fields::read_fields;
 use crate::row::{Fields, ProgrammeRow};
 use indexmap::{IndexMap, IndexSet};
 use market::Prog;
-use piece_reader::{AheadRow, TakesAhead, read_table};
+use piece_reader::{TakesAhead, read_table};
 use place_base::limits::{LARGEST_FILE, LARGEST_QUOTA, MOST_PIECES, MOST_PROGRAMMES, MOST_TYPES};
 use place_base::{FaultKind, FileFault, FileKind, Finder, TypeFinder, TypeName};
 use record_files::{FileForm, Header, RecordRow, RowTable, TableStop, duplicate_at, fault_at};
@@ -165,8 +165,12 @@ impl RowTable<()> for ProgrammeTable {
 
     ghost has_rows = { λ _ rows table. table ≡ table_of rows };
 
-    fn form(beside: &()) -> FileForm {
-        Fields::form(beside)
+    fn form(_beside: &()) -> FileForm {
+        FileForm::new(
+            FileKind::Programmes,
+            &[b"programme,type,quota"],
+            MOST_PROGRAMMES,
+        )
     }
 
     fn read_fields(
@@ -188,6 +192,18 @@ impl RowTable<()> for ProgrammeTable {
 }
 
 impl TakesAhead<(), Fields> for ProgrammeTable {
+    ghost use Rattle.programme_table.specs.Growth.{IsFieldsOf};
+
+    ghost keeps = { λ _. IsFieldsOf };
+
+    fn most_rows(_beside: &()) -> u32 {
+        MOST_PROGRAMMES
+    }
+
+    fn keep(_alloc: Global, _beside: &(), fields: Fields) -> Result<Fields, AllocError> {
+        Ok(fields)
+    }
+
     fn take_ahead(
         &mut self,
         _alloc: Global,

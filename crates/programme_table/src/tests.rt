@@ -5,7 +5,7 @@ use super::ProgrammeTable;
 use place_base::FaultKind::{
     self, BadTypeName, Duplicate, FieldCount, Header, NotNumber, OutOfRange,
 };
-use place_base::{FileFault, FileKind, Finder, TypeFinder, TypeName};
+use place_base::{FileKind, Finder, TypeFinder, TypeName};
 use record_files::{TableStop, duplicate_at};
 use std::alloc::Global;
 use std::test::Fail;
@@ -121,40 +121,29 @@ const FILES: [(&str, u32, u8, FaultKind, u32); 12] = [
 
 #[test]
 fn the_first_fault_is_told(rt: HostRuntime) -> Result<(), Fail> {
-    tell_faults(&rt, rt.alloc(), &FILES)
+    for pieces in &[1, 2, 7, 64] {
+        tell_faults(&rt, rt.alloc(), *pieces, &FILES)?;
+    }
+    Ok(())
 }
 
-// Reads each file.
+// Reads each file in so many pieces, and fails where another fault is told.
 fn tell_faults<R: Threads + Sync>(
     rt: &R,
     alloc: Global,
+    pieces: u32,
     files: &[(&str, u32, u8, FaultKind, u32)],
 ) -> Result<(), Fail> {
+    if pieces == 0 || pieces > 64 {
+        return Err(Fail::new("a number of pieces"));
+    }
     for (text, line, field, kind, earlier) in files {
         let mut wanted = duplicate_at(FileKind::Programmes, *line, *field, *earlier);
         wanted.kind = *kind;
         if text.len() > 1024 {
             return Err(Fail::new("a long text"));
         }
-        tell_fault(rt, alloc, text.as_bytes(), wanted)?;
-    }
-    Ok(())
-}
-
-// Reads a file in different numbers of pieces, and fails where another fault is told.
-fn tell_fault<R: Threads + Sync>(
-    rt: &R,
-    alloc: Global,
-    bytes: &[u8],
-    wanted: FileFault,
-) -> Result<(), Fail>
-    requires { length bytes.now ≤ 1024 }
-{
-    for pieces in &[1, 2, 7, 64] {
-        if *pieces == 0 || *pieces > 64 {
-            return Err(Fail::new("a number of pieces"));
-        }
-        let read = ProgrammeTable::read(rt, alloc, bytes, *pieces);
+        let read = ProgrammeTable::read(rt, alloc, text.as_bytes(), pieces);
         if read.err() != Some(TableStop::Fault(wanted)) {
             return Err(Fail::new("another fault"));
         }

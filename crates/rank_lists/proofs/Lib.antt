@@ -1,5 +1,4 @@
 pub mod NoCopies
-pub mod EarlierDuplicates
 pub mod FirstDuplicates
 pub mod Gathering
 pub mod Names

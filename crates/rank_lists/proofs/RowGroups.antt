@@ -1,6 +1,6 @@
 -- A row without a fault of its own has a candidate, a type name and a rank within their limits,
 -- so two such rows are in the same group exactly where the tests for duplicates say so.
-use Rattle.std.proofs.Common.{◌≡◌, ℕ, ◌≤◌, ◌==◌, ◌&&◌, List, Bool, true, nat_le, ap, arith, bytes_eq, None, Result, Ok, Err}
+use Rattle.std.proofs.Common.{◌≡◌, ℕ, ◌≤◌, ◌==◌, ◌&&◌, List, true, nat_le, ap, arith, bytes_eq, refl, None, Result, Ok, Err}
 use Rattle.std.proofs.lemmas.Bool.{cond_both, and_parts}
 use Rattle.std.proofs.lemmas.Bool.Decides.{nat_tests}
 use Rattle.std.proofs.lemmas.Slice.Eq.{bytes_eq-Decides}
@@ -65,59 +65,50 @@ HasFields-from row h =
       rank = rank.1;
     }
 
-both-and : (a b : Bool) → a ≡ true → b ≡ true → (a && b) ≡ true
-both-and a b g h = rw g h
+-- where the test holds, the numbers and the names of two rows are the same
+test-same : (f : Row → ℕ) (row other : Row)
+    → (f row == f other && bytes_eq (type_in row) (type_in other)) ≡ true
+    → (f row ≡ f other) × (name_number (type_in row) ≡ name_number (type_in other))
+test-same f row other h =
+    let parts = and_parts (f row == f other) (bytes_eq (type_in row) (type_in other)) h in (
+      grind (arith, nat_tests, parts.0),
+      ap name_number ((bytes_eq-Decides (type_in row) (type_in other)).0 parts.1),
+    )
 
-eq-true : (a b : ℕ) → a ≡ b → (a == b) ≡ true
-eq-true a b e = grind (arith, nat_tests)
-
-true-eq : (a b : ℕ) → (a == b) ≡ true → a ≡ b
-true-eq a b e = grind (arith, nat_tests)
-
--- equal names have one number
-name-number : (row other : Row) → bytes_eq (type_in row) (type_in other) ≡ true
+-- and it holds where they are, since names of one number are equal
+same-test : (f : Row → ℕ) (row other : Row) → HasFields row → HasFields other → f row ≡ f other
     → name_number (type_in row) ≡ name_number (type_in other)
-name-number row other e = ap name_number ((bytes_eq-Decides (type_in row) (type_in other)).0 e)
-
--- and names of one number are equal
-number-name : (row other : Row) → HasFields row → HasFields other
-    → name_number (type_in row) ≡ name_number (type_in other)
-    → bytes_eq (type_in row) (type_in other) ≡ true
-number-name row other g h e =
-    (bytes_eq-Decides (type_in row) (type_in other)).1 (IsName-same _ _ g.name h.name e)
+    → (f row == f other && bytes_eq (type_in row) (type_in other)) ≡ true
+same-test f row other g h e names =
+    let number : (f row == f other) ≡ true = grind (arith, nat_tests) in
+    let name = (bytes_eq-Decides (type_in row) (type_in other)).1
+    (IsName-same _ _ g.name h.name names) in
+    rw (number, name) refl
 
 -- rows that rank the same candidate in the same type are in one group
 pub candidate_group-same : (row other : Row) → same_candidate row other ≡ true
     → candidate_group other ≡ candidate_group row
 candidate_group-same row other h =
-    let parts = and_parts _ _ h in
-    let same = true-eq (candidate_in row) (candidate_in other) parts.0 in
-    let names = name-number row other parts.1 in
-    omega arith
+    let same = test-same candidate_in row other h in
+    omega (arith, same.0, same.1)
 
 -- and rows that give the same rank in the same type are in one group of ranks
 pub rank_group-same : (row other : Row) → same_rank row other ≡ true
     → rank_group other ≡ rank_group row
 rank_group-same row other h =
-    let parts = and_parts _ _ h in
-    let same = true-eq (rank_in row) (rank_in other) parts.0 in
-    let names = name-number row other parts.1 in
-    omega arith
+    let same = test-same rank_in row other h in
+    omega (arith, same.0, same.1)
 
 -- rows of one group rank the same candidate in the same type
 pub same_candidate-group : (row other : Row) → HasFields row → HasFields other
     → candidate_group other ≡ candidate_group row → same_candidate row other ≡ true
 same_candidate-group row other g h e =
-    let low = g.candidate in
-    let high = h.candidate in
-    both-and _ _ (eq-true (candidate_in row) (candidate_in other) (omega arith))
-    (number-name row other g h (omega arith))
+    same-test candidate_in row other g h (omega (arith, g.candidate, h.candidate))
+    (omega (arith, g.candidate, h.candidate))
 
 -- and rows of one group of ranks give the same rank in the same type
 pub same_rank-group : (row other : Row) → HasFields row → HasFields other
     → rank_group other ≡ rank_group row → same_rank row other ≡ true
 same_rank-group row other g h e =
-    let low = g.rank in
-    let high = h.rank in
-    both-and _ _ (eq-true (rank_in row) (rank_in other) (omega arith))
-    (number-name row other g h (omega arith))
+    same-test rank_in row other g h (omega (arith, g.rank, h.rank))
+    (omega (arith, g.rank, h.rank))

@@ -4,7 +4,7 @@ ghost use Rattle.std.specs.Prelude.{◌≡◌, ◌≤◌, [], ◌∷◌, length,
 
 use crate::RankLists;
 use place_base::FaultKind::{self, BadTypeName, Duplicate, FieldCount, NotNumber, OutOfRange};
-use place_base::{FileFault, FileKind, Finder, TypeFinder, TypeName};
+use place_base::{FileKind, Finder, TypeFinder, TypeName};
 use record_files::{TableStop, duplicate_at};
 use std::alloc::Global;
 use std::sync::atomic::AtomicBool;
@@ -136,16 +136,24 @@ const FILES: [(&str, u32, u8, FaultKind, u32); 14] = [
 #[test]
 fn the_first_fault_is_refused(rt: HostRuntime) -> Result<(), Fail> {
     let say = OneType(TypeName::new(b"SAY").ok_or("a name")?);
-    tell_faults(&rt, rt.alloc(), say, &FILES)
+    for pieces in &[1, 2, 7, 64] {
+        tell_faults(&rt, rt.alloc(), *pieces, say, &FILES)?;
+    }
+    Ok(())
 }
 
-// Reads each file's rows behind the header.
+// Reads each file's rows behind the header in so many pieces, and fails where another fault is
+// told.
 fn tell_faults<R: Threads + Sync>(
     rt: &R,
     alloc: Global,
+    pieces: u32,
     say: OneType,
     files: &[(&str, u32, u8, FaultKind, u32)],
 ) -> Result<(), Fail> {
+    if pieces == 0 || pieces > 64 {
+        return Err(Fail::new("a number of pieces"));
+    }
     for (rows, line, field, kind, earlier) in files {
         let mut wanted = duplicate_at(FileKind::Ranks, *line, *field, *earlier);
         wanted.kind = *kind;
@@ -154,26 +162,7 @@ fn tell_faults<R: Threads + Sync>(
         if bytes.len() > 1024 {
             return Err(Fail::new("a long text"));
         }
-        tell_fault(rt, alloc, &say, &bytes, wanted)?;
-    }
-    Ok(())
-}
-
-// Reads a file in different numbers of pieces, and fails where another fault is told.
-fn tell_fault<R: Threads + Sync>(
-    rt: &R,
-    alloc: Global,
-    say: &OneType,
-    bytes: &[u8],
-    wanted: FileFault,
-) -> Result<(), Fail>
-    requires { length bytes.now ≤ 1024 }
-{
-    for pieces in &[1, 2, 7, 64] {
-        if *pieces == 0 || *pieces > 64 {
-            return Err(Fail::new("a number of pieces"));
-        }
-        let read = RankLists::read(rt, alloc, bytes, *pieces, say, &Candidates);
+        let read = RankLists::read(rt, alloc, &bytes, pieces, &say, &Candidates);
         if read.err() != Some(TableStop::Fault(wanted)) {
             return Err(Fail::new("another fault"));
         }

@@ -16,7 +16,6 @@ header-is e f = λ j. header_in (e j) (f j)
 pub returns : goal.returns
 returns g c =
     let of_file = g.G.RowTable.rules c.args.beside.now in
-    let has = g.G.RowTable.has_rows c.args.beside.now in
     let bytes = c.args.bytes.now in
     let parts = c.from_header.result.now in
     let header : first_row_fault of_file.form (rows bytes) ≡ None =
@@ -29,7 +28,7 @@ returns g c =
     ∙ c.in_ok-parts.ensures.rows in
     IfOk-weaker c.whole.result _ _
     (λ read h. IfSome-weaker read _ _
-    (λ tables told. AreReadAhead-from of_file has bytes parts c.in-Ok.header tables.items header
+    (λ tables told. AreReadAhead-from of_file _ bytes parts c.in-Ok.header tables.items header
     same c.from_header.ensures.first all
     (told c.in-Ok.header (data_lists bytes parts) c.in_ok-read.ensures)) h)
     c.whole.ensures

@@ -9,8 +9,8 @@ use Rattle.piece_reader.proofs.joined.take_part.Given as goal
 abbrev pub invariant-rows : goal.invariant-rows
 invariant-rows g l = (earlier more : List Row)
     → g.T.RowTable.has_rows l.beside earlier l.initial.table
-    → AllZip (g.A.AheadRow.keeps l.beside) more (into_iter_items l.initial.left)
-    → AddsTo (g.T.RowTable.rules l.beside) (g.A.AheadRow.keeps l.beside)
+    → AllZip (g.T.TakesAhead.keeps l.beside) more (into_iter_items l.initial.left)
+    → AddsTo (g.T.RowTable.rules l.beside) (g.T.TakesAhead.keeps l.beside)
     (g.T.RowTable.has_rows l.beside) earlier more l.table (into_iter_items l.left)
 
 abbrev pub decreases-rows : goal.decreases-rows

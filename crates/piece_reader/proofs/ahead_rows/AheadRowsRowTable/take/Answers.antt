@@ -5,7 +5,7 @@ use Rattle.piece_reader.proofs.ahead_rows.AheadRowsRowTable.take.Goals as goal
 
 pub returns : goal.returns
 returns g c = λ earlier row kept says.
-    let keeps = g.A.AheadRow.keeps c.args.beside.now in (
+    let keeps = g.T.TakesAhead.keeps c.args.beside.now in (
       refl,
       subst (AllZip keeps (earlier ++ row ∷ [])) (sym c.in_ok-push.ensures.items)
           (AllZip-more keeps earlier c.args.self.now.rows.items row c.in_ok-keep.field-0 kept

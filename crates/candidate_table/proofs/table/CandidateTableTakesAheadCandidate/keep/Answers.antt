@@ -2,7 +2,7 @@ use Rattle.std.proofs.Common.{◌≤◌, ◌∙◌, List, length, subst, ℕ}
 use Rattle.place_base.specs.declared.limits.TheConstants.{MOST_ENTRIES}
 use Rattle.candidate_table.specs.Growth.{IsListFound}
 use Rattle.candidate_table.specs.Rows.{codes_in}
-use Rattle.candidate_table.proofs.ahead.CandidateAheadRow.keep.Goals as goal
+use Rattle.candidate_table.proofs.table.CandidateTableTakesAheadCandidate.keep.Goals as goal
 
 pub returns : goal.returns
 returns g c = λ row says.
