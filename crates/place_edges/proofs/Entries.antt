@@ -1,5 +1,5 @@
 -- Looking a name up in entries, and reading on in one.
-use Rattle.std.proofs.Common.{◌≡◌, ℕ, ◌+◌, ◌-◌, ◌^◌, suc, ◌<◌, min, List, [], ◌∷◌, ◌++◌, length, take, drop, refl, sym, ◌∙◌, ap, add-one, arith, Some, true, false, get_or, inl, inr}
+use Rattle.std.proofs.Common.{◌≡◌, ℕ, ◌+◌, ◌-◌, ◌^◌, suc, ◌<◌, min, List, [], ◌∷◌, ◌++◌, length, take, drop, refl, sym, ◌∙◌, ap, arith, Some, true, get_or, inl, inr}
 use Rattle.std.specs.Prelude.{slice_get, Option}
 use Rattle.std.specs.Str.{bytes_eq}
 use Rattle.std.proofs.Math.Seq.{drop-cons}
@@ -24,10 +24,6 @@ loses-front bytes at from count room f k =
       λ z r. drop_all (from + count) bytes (omega arith),
     )
 
-held-other : (entry : List ℕ × List ℕ) (rest : Entries) (name : List ℕ)
-    → bytes_eq (entry.0) name ≡ false → files_of (entry ∷ rest) name ≡ files_of rest name
-held-other entry rest name h = rw h refl
-
 held-same : (entry : List ℕ × List ℕ) (rest : Entries) (name : List ℕ)
     → bytes_eq (entry.0) name ≡ true → files_of (entry ∷ rest) name ≡ Some entry.1
 held-same entry rest name h = rw h refl
@@ -35,17 +31,6 @@ held-same entry rest name h = rw h refl
 slice_get_some : (entries : Entries) (i : ℕ) (d : List ℕ × List ℕ) → i < length entries
     → slice_get entries i ≡ Some (get_or entries i d)
 slice_get_some entries i d lt = slice_get-get_or entries i d lt
-
--- an entry with another name is passed
-pub held-passed : (entries : Entries) (name : List ℕ) (i : ℕ) (entry : List ℕ × List ℕ)
-    → i < length entries → entry ≡ get_or entries i entry
-    → bytes_eq (entry.0) name ≡ false
-    → files_of (drop i entries) name ≡ files_of (drop (i + 1) entries) name
-held-passed entries name i entry lt is other =
-    ap (λ v. files_of v name) (drop-cons entries i entry lt)
-    ∙ ap (λ e. files_of (e ∷ drop (suc i) entries) name) (sym is)
-    ∙ held-other entry (drop (suc i) entries) name other
-    ∙ rw add-one refl
 
 -- an entry with this name is found
 pub held-found : (entries : Entries) (name : List ℕ) (i : ℕ) (entry : List ℕ × List ℕ)

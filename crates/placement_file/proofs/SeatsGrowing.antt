@@ -51,14 +51,6 @@ lines-count : (rows : List Row) (seats : SeatRows) (lines : List ℕ) → HasSea
 lines-count rows seats lines has =
     ap (λ (all : List ℕ). length all) has.lines_are ∙ length-map rows (λ (row : Row). row.0)
 
--- there are at most as many seats as a file may have
-pub few_seats : (rows : List Row) (seats : SeatRows) (lines : List ℕ) → HasSeats rows seats lines
-    → length seats ≤ MOST_CANDIDATES
-few_seats rows seats lines has =
-    let few = has.few in
-    let count = ap (λ (all : SeatRows). length all) has.seats_are ∙ length-map rows seat_in in
-    omega arith
-
 -- all rows that these seats are of are as many
 pub as-few : (rows others : List Row) (seats : SeatRows) (lines : List ℕ)
     → HasSeats rows seats lines → HasSeats others seats lines → length others < MOST_CANDIDATES

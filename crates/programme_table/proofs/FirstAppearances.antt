@@ -114,17 +114,6 @@ place-insert_key_other names name added there = by (list_any (bytes_eq added) na
     by true e = rw e refl
     by false e = rw e (place-push (bytes_eq name) names added there)
 
--- a name that is there is there among more
-pub any-insert_key : (names : List (List ℕ)) (name added : List ℕ)
-    → list_any (bytes_eq name) names ≡ true
-    → list_any (bytes_eq name) (insert_key bytes_eq names added) ≡ true
-any-insert_key names name added there = by (list_any (bytes_eq added) names) refl
-  where
-    by : (known : Bool) → list_any (bytes_eq added) names ≡ known
-        → list_any (bytes_eq name) (insert_key bytes_eq names added) ≡ true
-    by true e = rw e there
-    by false e = rw e (list_any-append (bytes_eq name) names (added ∷ []) ∙ rw there refl)
-
 -- a name that is added is there
 pub any-insert_key_added : (names : List (List ℕ)) (name : List ℕ)
     → list_any (bytes_eq name) (insert_key bytes_eq names name) ≡ true

@@ -21,14 +21,6 @@ abbrev pub AreBytes : List ℕ → Type 0
 AreBytes [] = Unit {0}
 AreBytes (b ∷ bs) = ((1 ≤ b) × (b < 256)) × AreBytes bs
 
-name_number-small : (bs : List ℕ) → AreBytes bs → name_number bs < 256 ^ length bs
-name_number-small [] h = omega arith
-name_number-small (b ∷ bs) h =
-    let byte : b < 256 = h.0.1 in
-    let step : 256 ^ suc (length bs) ≡ 256 ^ length bs * 256 = pow-suc 256 (length bs) in
-    let rest : name_number bs < 256 ^ length bs = name_number-small bs h.1 in
-    omega arith
-
 names-same : (a b : List ℕ) → AreBytes a → AreBytes b → name_number a ≡ name_number b → a ≡ b
 names-same [] [] g h e = refl
 names-same [] (b ∷ bs) g h e = let low : 1 ≤ b = h.0.0 in absurd (omega arith)
@@ -65,13 +57,6 @@ IsName-from text h =
     name-length : (text : List ℕ) → (nat_le 1 (length text) && nat_le (length text) 8) ≡ true
         → length text ≤ 8
     name-length text h = grind (arith, nat_tests)
-
--- the number of a name fits a word
-pub name-small : (text : List ℕ) → IsName text → name_number text < 18446744073709551616
-name-small text name =
-    let small : name_number text < 256 ^ length text = name_number-small text name.bytes in
-    let short : 256 ^ length text ≤ 256 ^ 8 = short-name (length text) name.short in
-    omega arith
 
 -- names with the same number are the same
 pub IsName-same : (a b : List ℕ) → IsName a → IsName b → name_number a ≡ name_number b → a ≡ b

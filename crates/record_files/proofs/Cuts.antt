@@ -2,9 +2,7 @@
 use Rattle.std.proofs.Common.{◌≡◌, ◌≢◌, ℕ, zero, suc, ◌+◌, ◌<◌, List, [], ◌∷◌, length, take, drop, get_or, refl, ap, ◌∙◌, arith, true, false, ◌==◌}
 use Rattle.std.proofs.lemmas.Bool.Decides.{nat_tests}
 use Rattle.std.specs.List.{onto_first}
-use Rattle.std.specs.Str.Lines.{strip_carriage_return}
-use Rattle.place_base.specs.declared.limits.TheConstants.{LF}
-use Rattle.record_files.specs.Rows.{split, numbered, row_and, rows_left}
+use Rattle.record_files.specs.Rows.{split}
 
 split-at_same : (c b : ℕ) (bs : List ℕ) → b ≡ c → split c (b ∷ bs) ≡ [] ∷ split c bs
 split-at_same c b bs e = let t : (b == c) ≡ true = grind (arith, nat_tests) in rw t refl
@@ -31,34 +29,3 @@ split-cut c (b ∷ bs) (suc i) lt e h =
     ∙ ap (onto_first b) (split-cut c bs i (omega arith) e (λ k below. h (suc k) (omega arith)))
     ∙ (let n : suc (i + 1) ≡ suc i + 1 = omega arith in
     ap (λ m. (b ∷ take i bs) ∷ split c (drop m (b ∷ bs))) n)
-
-empty-of : (xs : List ℕ) → length xs ≡ 0 → xs ≡ []
-empty-of [] h = refl
-empty-of (x ∷ xs) h = absurd (omega arith)
-
-numbered-empty : (line : ℕ) (text : List ℕ) (texts : List (List ℕ))
-    → strip_carriage_return text ≡ [] → numbered line (text ∷ texts) ≡ numbered (line + 1) texts
-numbered-empty line text texts e = rw e refl
-
-numbered-full : (line : ℕ) (text : List ℕ) (texts : List (List ℕ))
-    → 0 < length (strip_carriage_return text)
-    → numbered line (text ∷ texts) ≡ (line, strip_carriage_return text) ∷ numbered (line + 1) texts
-numbered-full line text texts z = full-of (strip_carriage_return text) z
-  where
-    full-of : (xs : List ℕ) → 0 < length xs
-        → row_and line xs (numbered (line + 1) texts) ≡ (line, xs) ∷ numbered (line + 1) texts
-    full-of [] h = absurd (omega arith)
-    full-of (x ∷ xs) h = refl
-
--- a line that is empty is passed
-pub rows-passed : (line : ℕ) (rest text : List ℕ) (texts : List (List ℕ))
-    → split LF rest ≡ text ∷ texts → length (strip_carriage_return text) ≡ 0
-    → rows_left false line rest ≡ numbered (line + 1) texts
-rows-passed line rest text texts e z = ap (numbered line) e
-    ∙ numbered-empty line text texts (empty-of _ z)
-
--- a line that is not empty is a row
-pub rows-row : (line : ℕ) (rest text : List ℕ) (texts : List (List ℕ))
-    → split LF rest ≡ text ∷ texts → 0 < length (strip_carriage_return text)
-    → rows_left false line rest ≡ (line, strip_carriage_return text) ∷ numbered (line + 1) texts
-rows-row line rest text texts e z = ap (numbered line) e ∙ numbered-full line text texts z

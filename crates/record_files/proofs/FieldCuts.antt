@@ -1,6 +1,6 @@
 -- Cutting a text at its commas, one field after the other: the fields found so far, and those of
 -- the rest of the text, are the fields of the text.
-use Rattle.std.proofs.Common.{◌≡◌, ℕ, zero, suc, ◌+◌, ◌-◌, ◌<◌, ◌≤◌, List, [], ◌∷◌, length, take, drop, refl, sym, ap, ◌∙◌, arith, add-one, Some, ⊎_elim, subst, length-drop, take_all, add-zero, zero-add}
+use Rattle.std.proofs.Common.{◌≡◌, ℕ, zero, suc, ◌+◌, ◌-◌, ◌<◌, ◌≤◌, List, [], ◌∷◌, length, take, drop, refl, sym, ap, ◌∙◌, arith, add-one, Some, ⊎_elim, subst, length-drop, take_all, add-zero}
 use Rattle.std.proofs.lemmas.List.{drop-drop}
 use Rattle.std.specs.Prelude.{slice_get, slice_index}
 use Rattle.std.proofs.lemmas.Bool.{cases_lt}
@@ -17,17 +17,6 @@ pub record CutTo (text ends : List ℕ) (count start : ℕ) : Type 0 where
       ≡ slice_get (split COMMA (drop start text)) j
   pub begins : count ≤ 4 → start_of ends count ≡ start
   pub fields : (k : ℕ) → k < count → k < 4 → IsFieldAt text k (start_of ends k) (slice_index ends k)
-
--- nothing is found yet
-pub CutTo-begin : (text ends : List ℕ) → CutTo text ends 0 0
-CutTo-begin text ends = record {
-  inside = omega arith;
-  few = omega arith;
-  total = zero-add _;
-  rest = λ j. rw zero-add refl;
-  begins = λ _. refl;
-  fields = λ k lt _. absurd (omega arith);
-}
 
 -- what one more end does
 pub record AddsEnd (old new : List ℕ) (count end : ℕ) : Type 0 where
