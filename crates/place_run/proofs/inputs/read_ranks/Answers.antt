@@ -13,22 +13,18 @@ use Rattle.place_run.proofs.inputs.read_ranks.Goals as goal
 pub returns-in_err-bytes-clause-judged : goal.returns-in_err-bytes-clause-judged
 unfolding ranks_said
 returns-in_err-bytes-clause-judged g c =
-    judged-stop _ _ file.Ranks _ _ _ _ _ _ _ c.from_residual.ensures.1
-    (λ bytes many. judged-long file.Ranks _ _ bytes many) c.in_err-bytes.ensures.told
-    c.in_err-bytes.ensures.memory c.in_err-bytes.ensures.causes
-    c.in_err-bytes.ensures.within
+    judged-stop _ c.from_residual.ensures.1 (λ bytes. judged-long file.Ranks _ _ bytes)
+    c.in_err-bytes.ensures.reading
 
 pub returns-clause-judged : goal.returns-clause-judged
 unfolding ranks_said
 returns-clause-judged g c =
     let bytes = c.deref.result.now in
-    judged-lent _ _ bytes _ _ file.Ranks _ (ranks_table c.args.programmes.now.names (numbers_of
-    c.args.candidates.now.numbers) bytes)
-    (ranks_said c.args.programmes.now.names (numbers_of c.args.candidates.now.numbers))
-    _ c.read.result c.table_or_stop.result _ _ _ _ refl
-    c.deref.ensures.value c.deref.ensures.len c.in_ok-bytes.ensures.told c.in_ok-bytes.ensures.few
-    c.in_ok-bytes.ensures.given c.in_ok-bytes.ensures.causes
-    (other-ranks bytes) c.read.ensures c.table_or_stop.ensures
+    let names = c.args.programmes.now.names in
+    let numbers = numbers_of c.args.candidates.now.numbers in
+    judged-lent bytes _ (ranks_table names numbers bytes) (ranks_said names numbers)
+    c.read.result _ refl c.deref.ensures.value c.in_ok-bytes.ensures.reading (other-ranks bytes)
+    c.read.ensures c.table_or_stop.ensures
 
 pub returns-clause-types : goal.returns-clause-types
 returns-clause-types g c =

@@ -14,10 +14,8 @@ use Rattle.place_run.proofs.inputs.Inputs.read_placement.Goals as goal
 pub returns-in_err-bytes-clause-judged : goal.returns-in_err-bytes-clause-judged
 unfolding placement_said
 returns-in_err-bytes-clause-judged g c =
-    judged-stop _ _ file.Placement _ _ _ _ _ _ _ c.from_residual.ensures.1
-    (λ bytes many. judged-long file.Placement _ _ bytes many) c.in_err-bytes.ensures.told
-    c.in_err-bytes.ensures.memory c.in_err-bytes.ensures.causes
-    c.in_err-bytes.ensures.within
+    judged-stop _ c.from_residual.ensures.1 (λ bytes. judged-long file.Placement _ _ bytes)
+    c.in_err-bytes.ensures.reading
 
 pub returns-clause-judged : goal.returns-clause-judged
 unfolding placement_said
@@ -31,10 +29,8 @@ returns-clause-judged g c =
     c.table_or_stop.result
     (g.H.Shelf.faults c.args.shelf.now) (g.H.Shelf.faults c.read_file.new.shelf)
     (g.H.Shelf.tally c.args.shelf.now) (g.H.Shelf.tally c.read_file.new.shelf)) c.self.view_is
-    (judged-lent _ _ bytes _ _ file.Placement _ (placement_in codes numbers bytes)
-    (placement_said codes numbers) _ c.read_held.result c.table_or_stop.result _ _ _ _ refl
-    c.deref.ensures.value c.deref.ensures.len c.in_ok-bytes.ensures.told c.in_ok-bytes.ensures.few
-    c.in_ok-bytes.ensures.given c.in_ok-bytes.ensures.causes
+    (judged-lent bytes _ (placement_in codes numbers bytes) (placement_said codes numbers)
+    c.read_held.result _ refl c.deref.ensures.value c.in_ok-bytes.ensures.reading
     (other-placement codes numbers bytes) c.read_held.ensures.read c.table_or_stop.ensures)
 
 pub returns-clause-programmes : goal.returns-clause-programmes
