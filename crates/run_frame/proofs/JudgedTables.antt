@@ -1,6 +1,6 @@
 -- A file that was read whole says what its table was read as, and one that is too long says so.
 use Rattle.std.proofs.Common.{◌≡◌, ℕ, ◌<◌, ◌≤◌, List, Option, Some, Result, Ok, Err, Vec, IfOk, sym, ap, subst, ◌∙◌, inl, inr, refl, None, ⊎_elim}
-use Rattle.std.specs.Prelude.{length}
+use Rattle.std.specs.Prelude.{length, IsErrAnd}
 use Rattle.std.proofs.lemmas.Bool.{cases_lt, cond-true, cond-false, le-ltb, lt-ltb}
 use Rattle.place_base.specs.declared.fault.FileFault.{FileFault}
 use Rattle.place_base.specs.declared.fault.FileKind.{FileKind}
@@ -13,7 +13,8 @@ use Rattle.run_frame.specs.Meetings.{Meets}
 use Rattle.run_frame.specs.Stops.{is_free, table_said, too_long}
 use Rattle.run_frame.specs.declared.stop.FileStop.{FileStop}
 use Rattle.run_frame.specs.declared.stop.FileStop.TheVariants.{Fault}
-use Rattle.run_frame.proofs.Judging.{judged-bytes, short-bytes}
+use Rattle.run_frame.proofs.Judging.{judged-bytes, judged-unread, short-bytes}
+use Rattle.run_frame.proofs.Parts.{at-error}
 use Rattle.run_frame.specs.Says.{judged, fault_or}
 use Rattle.run_frame.proofs.TableFaults.{IsOther}
 
@@ -70,26 +71,41 @@ table-causes before now tally_before tally_now fault table (Err (stopped.Fault f
 table-causes before now tally_before tally_now fault table (Err stopped.Memory) later tally other
     found = record { faults = later; tally = tally; read = λ e. cc e; long = λ kind e. cc e }
 
--- a file whose table was read, or its first fault, is judged so: the table is that of bytes that
--- are lent from what the file was read into
-pub judged-lent : {T Z : Type 0} {told : Option Files} {name : List ℕ} {kind : FileKind}
-    {bytes : Vec ℕ Z} {before now tally_before tally_now : ℕ} (lent : List ℕ)
-    (fault : Option FileFault) (table : T) (said : List ℕ → Result T FileStop)
-    (read : Result T TableStop) (result : Result T FileStop)
-    → said lent ≡ judged kind fault table lent → lent ≡ bytes.items
-    → IsFileRead told name kind (Ok bytes) before now tally_before tally_now
-    → IsOther fault → IsTableRead fault table read → result ≡ table_said read
-    → IsJudged told name said result before now tally_before tally_now
-judged-lent {told = told} {name = name} {kind = kind} {bytes = bytes} {before = before} {now = now}
-    {tally_before = tally_before} {tally_now = tally_now} lent fault table said read result is same
-    reading other found e =
-    subst (λ v. IsJudged told name said v before now tally_before tally_now) (sym e)
-    (judged-bytes said (table_said read) reading
-    (table-meets kind fault table bytes.items said read
-    (subst (λ v. said v ≡ judged kind fault table v) same is)
-    (short-bytes reading) found)
-    (table-causes before now tally_before tally_now fault table read reading.causes.faults
-    reading.causes.tally other found))
+-- what a file says is by its first fault and its table, and no fault is that it is too long
+pub record Judges {T : Type 0} (kind : FileKind) (said : List ℕ → Result T FileStop)
+    (fault : List ℕ → Option FileFault) (table : List ℕ → T) : Type 0 where
+  pub says : (bytes : List ℕ) → said bytes ≡ judged kind (fault bytes) (table bytes) bytes
+  pub other : (bytes : List ℕ) → IsOther (fault bytes)
+
+module _ {T Z : Type 0} {told : Option Files} {name : List ℕ} {kind : FileKind}
+    {said : List ℕ → Result T FileStop} {fault : List ℕ → Option FileFault} {table : List ℕ → T}
+    {before now tally_before tally_now : ℕ} {result : Result T FileStop} where
+  -- a file that was not read whole is judged by its stop
+  pub judged-stop : {stop : FileStop} → Judges kind said fault table
+      → IsErrAnd result (λ found. found ≡ stop)
+      → IsFileRead {Z = Z} told name kind (Err stop) before now tally_before tally_now
+      → IsJudged told name said result before now tally_before tally_now
+  judged-stop {stop = stop} judges is reading =
+      at-error (λ r. IsJudged told name said r before now tally_before tally_now) result stop is
+      (judged-unread told name kind said stop before now tally_before tally_now
+      (λ bytes many. judges.says bytes ∙ judged-long kind (fault bytes) (table bytes) bytes many)
+      reading)
+
+  -- a file whose table was read, or its first fault, is judged so: the table is that of bytes that
+  -- are lent from what the file was read into
+  pub judged-lent : {lent : List ℕ} {bytes : Vec ℕ Z} → Judges kind said fault table
+      → (read : Result T TableStop) → lent ≡ bytes.items
+      → IsFileRead told name kind (Ok bytes) before now tally_before tally_now
+      → IsTableRead (fault lent) (table lent) read → result ≡ table_said read
+      → IsJudged told name said result before now tally_before tally_now
+  judged-lent {lent = lent} {bytes = bytes} judges read same reading found e =
+      subst (λ v. IsJudged told name said v before now tally_before tally_now) (sym e)
+      (judged-bytes said (table_said read) reading
+      (table-meets kind (fault bytes.items) (table bytes.items) bytes.items said read
+      (judges.says bytes.items) (short-bytes reading)
+      (subst (λ v. IsTableRead (fault v) (table v) read) same found))
+      (table-causes before now tally_before tally_now (fault lent) (table lent) read
+      reading.causes.faults reading.causes.tally (judges.other lent) found))
 
 -- what holds of a table that was read holds of what it is among the causes of a file
 pub table-ok : {T : Type 0} (P : T → Type 0) (read : Result T TableStop)

@@ -1,6 +1,6 @@
 -- A file that was read whole is judged by its bytes; one that was not has its cause.
 use Rattle.std.proofs.Common.{◌≡◌, ℕ, ◌+◌, ◌<◌, ◌≤◌, List, [], ◌∷◌, Option, Some, None, Result, Ok, Err, Vec, refl, sym, ap, subst, ◌∙◌, inl, inr, arith}
-use Rattle.std.specs.Prelude.{length, replicate, IsErrAnd, IsTrue, vec_len}
+use Rattle.std.specs.Prelude.{length, replicate, IsTrue, vec_len}
 use Rattle.std.proofs.lemmas.List.{length-replicate}
 use Rattle.place_base.specs.declared.fault.FileKind.{FileKind}
 use Rattle.place_edges.specs.Shelf.{Files, HasBytes, HasMore, IsWithin, file_limit, byte_count, piece_size, tally_with}
@@ -9,7 +9,6 @@ use Rattle.run_frame.specs.Meetings.{Meets}
 use Rattle.run_frame.specs.Stops.{is_free, too_long}
 use Rattle.run_frame.specs.declared.stop.FileStop.{FileStop}
 use Rattle.run_frame.specs.declared.stop.FileStop.TheVariants.{Fault, ReadFault, Memory}
-use Rattle.run_frame.proofs.Parts.{at-error}
 
 -- a file that has more than so many bytes, and no fewer than were taken: one that is held, where
 -- that is told, and else some
@@ -122,7 +121,7 @@ judged-some told name judge stop before now tally_before tally_now free within f
     }
 
 -- a file that was not read whole is judged so
-judged-unread : {T Z : Type 0} (told : Option Files) (name : List ℕ) (kind : FileKind)
+pub judged-unread : {T Z : Type 0} (told : Option Files) (name : List ℕ) (kind : FileKind)
     (judge : List ℕ → Result T FileStop) (stop : FileStop)
     (before now tally_before tally_now : ℕ)
     → ((bytes : List ℕ) → file_limit < length bytes → judge bytes ≡ Err (Fault (too_long kind)))
@@ -158,17 +157,3 @@ judged-unread told name kind judge Memory before now tally_before tally_now long
     judged-some told name judge Memory before now tally_before tally_now refl reading.within
     (reading.refused refl) (λ _. reading.begun refl)
     (same-causes _ before now tally_before tally_now reading.causes)
-
--- the same of a result that is its stop
-pub judged-stop : {T Z : Type 0} {told : Option Files} {name : List ℕ} {kind : FileKind}
-    {judge : List ℕ → Result T FileStop} {stop : FileStop}
-    {before now tally_before tally_now : ℕ} (result : Result T FileStop)
-    → IsErrAnd result (λ found. found ≡ stop)
-    → ((bytes : List ℕ) → file_limit < length bytes → judge bytes ≡ Err (Fault (too_long kind)))
-    → IsFileRead {Z = Z} told name kind (Err stop) before now tally_before tally_now
-    → IsJudged told name judge result before now tally_before tally_now
-judged-stop {told = told} {name = name} {kind = kind} {judge = judge} {stop = stop}
-    {before = before} {now = now} {tally_before = tally_before} {tally_now = tally_now} result is
-    long reading =
-    at-error (λ r. IsJudged told name judge r before now tally_before tally_now) result stop is
-    (judged-unread told name kind judge stop before now tally_before tally_now long reading)

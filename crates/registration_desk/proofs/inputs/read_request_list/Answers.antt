@@ -1,22 +1,12 @@
-use Rattle.std.proofs.Common.{refl}
-use Rattle.place_base.specs.declared.fault.FileKind.TheVariants as file
-use Rattle.placement_file.specs.Requests.{requests_in}
-use Rattle.run_frame.proofs.Judging.{judged-stop}
-use Rattle.run_frame.proofs.JudgedTables.{judged-lent, judged-long}
-use Rattle.registration_desk.specs.Says.{requests_said}
-use Rattle.registration_desk.proofs.DeskFaults.{other-requests}
+use Rattle.run_frame.proofs.JudgedTables.{judged-lent, judged-stop}
+use Rattle.registration_desk.proofs.DeskFaults.{requests-judges}
 use Rattle.registration_desk.proofs.inputs.read_request_list.Goals as goal
 
 pub returns-in_err-bytes-clause-judged : goal.returns-in_err-bytes-clause-judged
-unfolding requests_said
 returns-in_err-bytes-clause-judged g c =
-    judged-stop _ c.from_residual.ensures.1 (λ bytes. judged-long file.Registrations _ _ bytes)
-    c.in_err-bytes.ensures.reading
+    judged-stop requests-judges c.from_residual.ensures.1 c.in_err-bytes.ensures.reading
 
 pub returns-clause-judged : goal.returns-clause-judged
-unfolding requests_said
 returns-clause-judged g c =
-    let bytes = c.deref.result.now in
-    judged-lent bytes _ (requests_in bytes) requests_said c.request_list.result _ refl
-    c.deref.ensures.value c.in_ok-bytes.ensures.reading (other-requests bytes)
-    c.request_list.ensures c.table_or_stop.ensures
+    judged-lent requests-judges c.request_list.result c.deref.ensures.value
+    c.in_ok-bytes.ensures.reading c.request_list.ensures c.table_or_stop.ensures
