@@ -5,7 +5,7 @@ use Rattle.command_words.specs.declared.words.Command.{Command}
 use Rattle.command_words.specs.declared.words.Command.TheVariants.{Place, Base, Reasons, Audit, Make}
 use Rattle.command_words.specs.declared.words.WordsFault.{WordsFault}
 use Rattle.place_edges.specs.Shelf.{Files}
-use Rattle.place_run.specs.Says.{MayOpen, MayOpenAudit, MayOpenTables}
+use Rattle.place_run.specs.Says.{MayOpen, MayOpenTables}
 
 three-granted : (told : Option Files) (grants : List ℕ → Bool) (words : List (List ℕ))
     → ((name : List ℕ) → IsTrue (grants name)) → MayOpenTables told grants words

@@ -1,9 +1,9 @@
 -- Texts that pass through a buffer: what was queued, and what was written where a put failed.
-use Rattle.std.proofs.Common.{◌≡◌, ℕ, ◌+◌, ◌<◌, ◌≤◌, List, [], ◌++◌, length, take, drop, refl, sym, ap, ◌∙◌, append_assoc, append-nil, subst, arith, Option, Result, Ok, Err, length-append}
+use Rattle.std.proofs.Common.{◌≡◌, ℕ, ◌+◌, ◌<◌, ◌≤◌, List, [], ◌++◌, take, drop, refl, sym, ap, ◌∙◌, append_assoc, append-nil, subst, Option, Result, Err}
 use Rattle.std.specs.List.{flat_map, range_with_len}
 use Rattle.std.proofs.lemmas.List.{take-append-drop}
 use Rattle.std.proofs.lemmas.List.Concat.{flat_map-append}
-use Rattle.place_edges.specs.Sink.{Appended, AppendedPrefix, IsWritten}
+use Rattle.place_edges.specs.Sink.{IsWritten}
 use Rattle.run_frame.proofs.Parts.{appended-nothing, appended-two}
 use Rattle.place_run.specs.Texts.{AreQueued, IsQueued}
 use Rattle.place_run.proofs.RowTexts.{texts-next, texts_before}

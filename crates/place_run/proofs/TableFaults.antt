@@ -1,5 +1,6 @@
--- No fault of a table is that the file is too long: that is found before the table is read.
-use Rattle.std.proofs.Common.{ℕ, List, [], ◌∷◌, Option, Some, None, Result, Ok, Err}
+-- No fault of a table is that the file is too long: that is found before the table is read. So
+-- each file says its first fault, or its table.
+use Rattle.std.proofs.Common.{ℕ, List, [], ◌∷◌, Option, Some, None, Result, Ok, Err, refl}
 use Rattle.std.specs.Prelude.{bytes_eq, codes, nat_lt, nat_eq, length, take, slice_index, find, position, is_none, ◌==◌}
 use Rattle.std.specs.List.{list_any}
 use Rattle.std.proofs.lemmas.Bool.{cond_both}
@@ -12,17 +13,23 @@ use Rattle.record_files.specs.FirstFaults.{duplicate_at, fault_at, fault_if}
 use Rattle.record_files.specs.Numbers.{number_of, type_name_of}
 use Rattle.record_files.specs.Rows.{field_at}
 use Rattle.programme_table.specs.Rows as programmes
+use Rattle.programme_table.specs.Table.{programmes_table}
 use Rattle.candidate_table.specs.Rows as candidates
+use Rattle.candidate_table.specs.Table.{candidates_table}
 use Rattle.rank_lists.specs.Rows as ranks
+use Rattle.rank_lists.specs.Table.{ranks_table}
 use Rattle.placement_file.specs.Rows as placements
+use Rattle.placement_file.specs.Table.{placement_in}
+use Rattle.run_frame.proofs.JudgedTables.{Judges}
 use Rattle.run_frame.proofs.TableFaults.{IsOther, IsOtherReading, other-file, other-first, other-found, other-if, other-least, other-number, other-reading}
+use Rattle.place_run.specs.Tables.{candidates_said, placement_said, programmes_said, ranks_said}
 
 other-type_name : (field : List ℕ) → IsOtherReading (type_name_of field)
 other-type_name field = cond_both (is_type_name field) (Ok field) (Err BadTypeName) IsOtherReading
     (λ _. tt) (λ _. λ e. cc e)
 
 -- no fault of the programmes is that their file is too long
-pub other-programmes : (bytes : List ℕ) → IsOther (programmes.programmes_fault bytes)
+other-programmes : (bytes : List ℕ) → IsOther (programmes.programmes_fault bytes)
 other-programmes bytes = other-file programmes.programmes_rules bytes (record {
   reading = λ version row.
       other-first _ _ (other-reading _ _ 1 _ (other-number (field_at row 0) 1 LARGEST_CODE))
@@ -62,7 +69,7 @@ other-entry codes line list index =
     (other-if unknown no_programme (λ e. cc e)) (other-if repeated repeat (λ e. cc e))
 
 -- nor is one of the candidates
-pub other-candidates : (codes bytes : List ℕ) → IsOther (candidates.candidates_fault codes bytes)
+other-candidates : (codes bytes : List ℕ) → IsOther (candidates.candidates_fault codes bytes)
 other-candidates codes bytes = other-file (candidates.candidates_rules codes) bytes (record {
   reading = λ version row.
       other-first _ _ (other-reading _ _ 1 _ (other-number (field_at row 0) 1 LARGEST_NUMBER))
@@ -74,7 +81,7 @@ other-candidates codes bytes = other-file (candidates.candidates_rules codes) by
 })
 
 -- nor one of the ranks
-pub other-ranks : (bytes : List ℕ) → IsOther (ranks.ranks_fault bytes)
+other-ranks : (bytes : List ℕ) → IsOther (ranks.ranks_fault bytes)
 other-ranks bytes = other-file ranks.ranks_rules bytes (record {
   reading = λ version row.
       other-first _ _ (other-reading _ _ 1 _ (other-number (field_at row 0) 1 LARGEST_NUMBER))
@@ -103,7 +110,7 @@ other-unknown programmes line (Some code) =
     (fault_at file.Placement line 2 UnknownProgramme) (λ e. cc e)
 
 -- nor one of a placement
-pub other-placement : (programmes candidates bytes : List ℕ)
+other-placement : (programmes candidates bytes : List ℕ)
     → IsOther (placements.placement_fault programmes candidates bytes)
 other-placement programmes candidates bytes =
     other-file (placements.placement_rules programmes candidates) bytes (record {
@@ -115,3 +122,31 @@ other-placement programmes candidates bytes =
           (other-first _ _ (other-found _ _ 1 (find _ earlier))
           (other-unknown programmes row.0 (placements.code_in row)));
     })
+
+-- so a programmes file says its first fault, or its table
+pub programmes-judges : Judges file.Programmes programmes_said programmes.programmes_fault
+    programmes_table
+unfolding programmes_said
+programmes-judges = record { says = λ bytes. refl; other = other-programmes }
+
+-- so does a candidates file
+pub candidates-judges : (codes : List ℕ) → Judges file.Candidates (candidates_said codes)
+    (candidates.candidates_fault codes) (candidates_table codes)
+unfolding candidates_said
+candidates-judges codes = record { says = λ bytes. refl; other = other-candidates codes }
+
+-- and a ranks file
+pub ranks-judges : (names : List (List ℕ)) (numbers : List ℕ) → Judges file.Ranks
+    (ranks_said names numbers) ranks.ranks_fault (ranks_table names numbers)
+unfolding ranks_said
+ranks-judges names numbers = record { says = λ bytes. refl; other = other-ranks }
+
+-- and a placement file
+pub placement-judges : (codes numbers : List ℕ) → Judges file.Placement
+    (placement_said codes numbers) (placements.placement_fault codes numbers)
+    (placement_in codes numbers)
+unfolding placement_said
+placement-judges codes numbers = record {
+  says = λ bytes. refl;
+  other = other-placement codes numbers;
+}

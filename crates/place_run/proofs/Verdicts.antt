@@ -1,5 +1,5 @@
 -- What an audit says of a placement in the market of three tables.
-use Rattle.std.proofs.Common.{◌≡◌, ℕ, ◌<◌, List, Option, length, sym, subst, ap, ◌∙◌, arith}
+use Rattle.std.proofs.Common.{◌≡◌, ℕ, ◌<◌, List, Option, length, subst, ap, ◌∙◌}
 use Rattle.std.specs.Prelude.{◌↔◌}
 use Rattle.market.specs.Problems.{IsValid, Problem, list_of, place_of}
 use Rattle.market.specs.Stability.{IsStable}
@@ -16,8 +16,8 @@ use Rattle.stability_audit.proofs.FirstSaid.{holder-within, over-within}
 use Rattle.place_run.specs.Answers.{Answer}
 use Rattle.place_run.specs.Audits.{IsAuditOf, NamesVerdict}
 use Rattle.place_run.specs.Problems.{IsProblemOf}
-use Rattle.place_run.specs.Tables.{Tables, problem_of}
-use Rattle.place_run.specs.commands.Audit.{Audited, audit_of, verdict_answer, verdict_ending, verdict_row}
+use Rattle.place_run.specs.Tables.{Tables}
+use Rattle.place_run.specs.commands.Audit.{audit_of, verdict_answer, verdict_ending, verdict_row}
 use Rattle.place_run.specs.declared.problem.Problem.{Problem as Named}
 use Rattle.place_run.specs.declared.status.Ending.{Ending}
 use Rattle.place_run.proofs.Markets.{lists-of_market, programmes-of_market}

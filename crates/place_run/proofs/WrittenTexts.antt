@@ -1,12 +1,9 @@
 -- A text that is written in two parts.
-use Rattle.std.proofs.Common.{◌≡◌, ℕ, ◌+◌, ◌<◌, ◌≤◌, List, [], ◌∷◌, ◌++◌, length, take, get_or, sym, ap, ◌∙◌, subst, arith, Option, Result, Ok, Err, length-append}
-use Rattle.std.specs.List.{flat_map, range_with_len}
+use Rattle.std.proofs.Common.{ℕ, ◌+◌, ◌≤◌, List, ◌++◌, length, take, sym, subst, arith, Option, Result, Ok, Err, length-append}
 use Rattle.std.proofs.Math.Seq.{take-append-add}
 use Rattle.std.proofs.lemmas.List.{take-append-le}
-use Rattle.std.proofs.lemmas.List.FromFn.{get_or-range_with_len, length-range_with_len}
-use Rattle.place_edges.specs.Sink.{Appended, AppendedPrefix, IsWritten}
-use Rattle.run_frame.proofs.Parts.{appended-two, unwritten-at}
-use Rattle.place_run.proofs.RowTexts.{texts-next, texts_before}
+use Rattle.place_edges.specs.Sink.{Appended, IsWritten}
+use Rattle.run_frame.proofs.Parts.{appended-two}
 
 -- where the first part was not written whole, neither were both
 pub unwritten-first : {T E : Type 0} (first second : List ℕ) (error : E)

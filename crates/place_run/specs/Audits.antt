@@ -1,5 +1,5 @@
 -- What an audit of a placement in the market of three tables came to.
-use Rattle.std.specs.Prelude.{◌≡◌, ◌<◌, ◌↔◌, List, length, ⊤}
+use Rattle.std.specs.Prelude.{◌≡◌, ◌<◌, ◌↔◌, length, ⊤}
 use Rattle.market.specs.Problems.{Problem}
 use Rattle.market.specs.Stability.{IsStable}
 use Rattle.stability_audit.specs.Verdicts.{IsVerdict}

@@ -1,5 +1,5 @@
 -- The limits in numbers, as docs/FORMATS.md has them.
-use Rattle.std.specs.Prelude.{◌≡◌, ℕ, ◌^◌, List, [], ◌∷◌}
+use Rattle.std.specs.Prelude.{◌≡◌, ◌^◌, [], ◌∷◌}
 use Rattle.command_words.specs.declared.words.TheConstants.{WORKERS, MAX_WORKERS}
 use Rattle.place_base.specs.declared.limits.TheConstants.{MOST_PROGRAMMES, MOST_CANDIDATES, MOST_REQUESTS, MOST_RANKS, MOST_TYPES, MOST_ENTRIES, LARGEST_NUMBER, LARGEST_CODE, LARGEST_QUOTA, LARGEST_RANK, LONGEST_NAME, LONGEST_LINE, MOST_PIECES, LF, CR, COMMA, SEMICOLON, BYTE_ORDER_MARK}
 use Rattle.place_edges.specs.Shelf.{file_limit}

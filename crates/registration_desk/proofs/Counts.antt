@@ -1,6 +1,6 @@
 -- How many replies are of each kind is a function of the placement and the requests: each reply
 -- tells what the placement says of its candidate, and the registrations are the numbers kept.
-use Rattle.std.proofs.Common.{◌≡◌, ℕ, suc, ◌+◌, ◌-◌, ◌≤◌, Bool, cond, List, [], ◌∷◌, length, take, get_or, nat_eq, nat_lt, Some, None, sym, refl, ap, subst, ◌∙◌, arith}
+use Rattle.std.proofs.Common.{◌≡◌, ℕ, suc, ◌+◌, ◌-◌, ◌≤◌, Bool, cond, List, [], ◌∷◌, length, take, get_or, nat_eq, nat_lt, Option, Some, None, sym, refl, ap, subst, ◌∙◌, arith}
 use Rattle.std.specs.Prelude.{slice_get}
 use Rattle.std.specs.List.{IsDistinct, count_by, sum_by}
 use Rattle.std.proofs.lemmas.List.{take_all, length-take-le}
@@ -127,55 +127,40 @@ sum_both f g (x ∷ xs) =
       sum_both f g xs,
     )
 
--- a reply tells what the placement says of its candidate
-tells_placed : (seats : SeatRows) (requests : List ℕ) (history : List Reply) (c : ℕ) (reply : Reply)
-    → IsReply seats requests history c reply
-    → bit (is_registration reply) + bit (is_again reply) ≡ bit (says_placed (seat_of seats c))
-tells_placed seats requests history c (Registered number) fits =
-    ap (λ seat. bit (says_placed seat)) (sym fits.0.1)
-tells_placed seats requests history c (Already number) fits =
-    ap (λ seat. bit (says_placed seat)) (sym fits.0.1)
-tells_placed seats requests history c NotPlaced fits =
-    ap (λ seat. bit (says_placed seat)) (sym fits)
-tells_placed seats requests history c Unknown fits = ap (λ seat. bit (says_placed seat)) (sym fits)
-
-tells_without : (seats : SeatRows) (requests : List ℕ) (history : List Reply) (c : ℕ)
-    (reply : Reply) → IsReply seats requests history c reply
-    → bit (is_not_placed reply) ≡ bit (says_without (seat_of seats c))
-tells_without seats requests history c (Registered number) fits =
-    ap (λ seat. bit (says_without seat)) (sym fits.0.1)
-tells_without seats requests history c (Already number) fits =
-    ap (λ seat. bit (says_without seat)) (sym fits.0.1)
-tells_without seats requests history c NotPlaced fits =
-    ap (λ seat. bit (says_without seat)) (sym fits)
-tells_without seats requests history c Unknown fits =
-    ap (λ seat. bit (says_without seat)) (sym fits)
-
-tells_nothing : (seats : SeatRows) (requests : List ℕ) (history : List Reply) (c : ℕ)
-    (reply : Reply) → IsReply seats requests history c reply
-    → bit (is_unknown reply) ≡ bit (says_nothing (seat_of seats c))
-tells_nothing seats requests history c (Registered number) fits =
-    ap (λ seat. bit (says_nothing seat)) (sym fits.0.1)
-tells_nothing seats requests history c (Already number) fits =
-    ap (λ seat. bit (says_nothing seat)) (sym fits.0.1)
-tells_nothing seats requests history c NotPlaced fits =
-    ap (λ seat. bit (says_nothing seat)) (sym fits)
-tells_nothing seats requests history c Unknown fits =
-    ap (λ seat. bit (says_nothing seat)) (sym fits)
+-- a reply tells what the placement says of its candidate, where a reply of each kind tells what is
+-- said of a seat of that kind
+tells : (told : Reply → ℕ) (says : Option (Option ℕ) → ℕ)
+    → ((number code : ℕ) → told (Registered number) ≡ says (Some (Some code)))
+    → ((number code : ℕ) → told (Already number) ≡ says (Some (Some code)))
+    → told NotPlaced ≡ says (Some None) → told Unknown ≡ says None
+    → (seats : SeatRows) (requests : List ℕ) (history : List Reply) (c : ℕ) (reply : Reply)
+    → IsReply seats requests history c reply → told reply ≡ says (seat_of seats c)
+tells told says new again without nothing seats requests history c (Registered number) fits =
+    new number fits.0.0 ∙ ap says (sym fits.0.1)
+tells told says new again without nothing seats requests history c (Already number) fits =
+    again number fits.0.0 ∙ ap says (sym fits.0.1)
+tells told says new again without nothing seats requests history c NotPlaced fits =
+    without ∙ ap says (sym fits)
+tells told says new again without nothing seats requests history c Unknown fits =
+    nothing ∙ ap says (sym fits)
 
 module _ (desk : DeskValue) (numbers : List ℕ) (total : ℕ) (h : IsDesk desk numbers total)
     (all : length desk.history ≡ length desk.requests)
     (distinct : IsDistinct nat_eq (candidates_of desk.seats)) where
   -- what each reply tells is counted over all requests
-  counts : (f : Reply → ℕ) (g : ℕ → ℕ)
-      → ((history : List Reply) (c : ℕ) (reply : Reply)
-      → IsReply desk.seats desk.requests history c reply → f reply ≡ g c)
-      → sum_by f desk.history ≡ sum_by g desk.requests
-  counts f g tells = same_sum f g desk.history desk.requests all (λ i reply c given request.
+  counts : (told : Reply → ℕ) (says : Option (Option ℕ) → ℕ)
+      → ((number code : ℕ) → told (Registered number) ≡ says (Some (Some code)))
+      → ((number code : ℕ) → told (Already number) ≡ says (Some (Some code)))
+      → told NotPlaced ≡ says (Some None) → told Unknown ≡ says None
+      → sum_by told desk.history ≡ sum_by (λ c. says (seat_of desk.seats c)) desk.requests
+  counts told says new again without nothing =
+      same_sum told (λ c. says (seat_of desk.seats c)) desk.history desk.requests all
+      (λ i reply c given request.
       let it = h.history i reply given in
       let same : it.candidate ≡ c = let r = it.request in cc (r, request) in
-      subst (λ z. f reply ≡ g z) same
-      (tells (take i desk.history) it.candidate reply it.fits))
+      subst (λ z. told reply ≡ says (seat_of desk.seats z)) same
+      (tells told says new again without nothing desk.seats desk.requests (take i desk.history)
+      it.candidate reply it.fits))
 
   -- there are as many registrations as rows of the text
   named : registrations desk.history ≡ length (registered_rows desk.seats desk.requests)
@@ -196,12 +181,12 @@ module _ (desk : DeskValue) (numbers : List ℕ) (total : ℕ) (h : IsDesk desk 
   pub replies_are : replies_of desk.history ≡ desk_numbers desk.seats desk.requests
   replies_are =
       let placed = counts (λ r. bit (is_registration r) + bit (is_again r))
-      (λ c. bit (says_placed (seat_of desk.seats c))) (tells_placed desk.seats desk.requests) in
+      (λ seat. bit (says_placed seat)) (λ _ _. refl) (λ _ _. refl) refl refl in
       let both = sum_both (λ r. bit (is_registration r)) (λ r. bit (is_again r)) desk.history in
-      let without = counts (λ r. bit (is_not_placed r))
-      (λ c. bit (says_without (seat_of desk.seats c))) (tells_without desk.seats desk.requests) in
-      let nothing = counts (λ r. bit (is_unknown r))
-      (λ c. bit (says_nothing (seat_of desk.seats c))) (tells_nothing desk.seats desk.requests) in
+      let without = counts (λ r. bit (is_not_placed r)) (λ seat. bit (says_without seat))
+      (λ _ _. refl) (λ _ _. refl) refl refl in
+      let nothing = counts (λ r. bit (is_unknown r)) (λ seat. bit (says_nothing seat))
+      (λ _ _. refl) (λ _ _. refl) refl refl in
       let rows = named in
       let again : count_by is_again desk.history
       ≡ count_by (λ c. says_placed (seat_of desk.seats c)) desk.requests

@@ -34,25 +34,16 @@ module _ (requests clerks n : ℕ) (x : ClerkKnows) (r : IsRest requests clerks 
       let last = div_grows ((n + 1) * requests) (clerks * requests) clerks (omega arith) top in
       (div_grows (n * requests) ((n + 1) * requests) clerks (omega arith) up, omega arith)
 
-  -- so the next part is at most what is left
-  pub part_fits : n < clerks → next_part x ≤ x.left
-  part_fits inside =
+  -- so the next part is at most what is left, and this is what is left for the clerks behind it
+  pub part_within : n < clerks → (next_part x ≤ x.left)
+      × (x.left - next_part x ≡ requests - (n + 1) * requests / clerks)
+  part_within inside =
       let w = within inside in
       let a = w.0 in
       let b = w.1 in
       let p = part_is in
       let l = r.left in
-      omega arith
-
-  -- what is left for the clerks behind it
-  pub part_rest : n < clerks → x.left - next_part x ≡ requests - (n + 1) * requests / clerks
-  part_rest inside =
-      let w = within inside in
-      let a = w.0 in
-      let b = w.1 in
-      let p = part_is in
-      let l = r.left in
-      omega arith
+      (omega arith, omega arith)
 
   -- the last clerk has what is left
   pub part_last : n + 1 ≡ clerks → x.left ≡ part_of requests clerks n

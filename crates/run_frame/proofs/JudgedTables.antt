@@ -1,19 +1,20 @@
 -- A file that was read whole says what its table was read as, and one that is too long says so.
-use Rattle.std.proofs.Common.{◌≡◌, ℕ, ◌<◌, ◌≤◌, List, Option, Some, Result, Ok, Err, IfOk, sym, ap, subst, ◌∙◌, inl, inr, refl, arith, None, ⊎_elim}
-use Rattle.std.specs.Prelude.{length}
+use Rattle.std.proofs.Common.{◌≡◌, ℕ, ◌<◌, ◌≤◌, List, Option, Some, Result, Ok, Err, Vec, IfOk, sym, ap, subst, ◌∙◌, inl, inr, refl, None, ⊎_elim}
+use Rattle.std.specs.Prelude.{length, IsErrAnd}
 use Rattle.std.proofs.lemmas.Bool.{cases_lt, cond-true, cond-false, le-ltb, lt-ltb}
 use Rattle.place_base.specs.declared.fault.FileFault.{FileFault}
 use Rattle.place_base.specs.declared.fault.FileKind.{FileKind}
-use Rattle.place_edges.specs.Shelf.{Files, HasBytes, file_limit, tally_with}
+use Rattle.place_edges.specs.Shelf.{Files, file_limit}
 use Rattle.record_files.specs.ReadTo.{IsTableRead}
 use Rattle.record_files.specs.declared.table_stop.TableStop.{TableStop}
 use Rattle.record_files.specs.declared.table_stop.TableStop.TheVariants as stopped
-use Rattle.run_frame.specs.Files.{HasCauses, HasFileCauses, IsJudged}
+use Rattle.run_frame.specs.Files.{HasCauses, IsFileRead, IsJudged}
 use Rattle.run_frame.specs.Meetings.{Meets}
 use Rattle.run_frame.specs.Stops.{is_free, table_said, too_long}
 use Rattle.run_frame.specs.declared.stop.FileStop.{FileStop}
 use Rattle.run_frame.specs.declared.stop.FileStop.TheVariants.{Fault}
-use Rattle.run_frame.proofs.Judging.{judged-bytes}
+use Rattle.run_frame.proofs.Judging.{judged-bytes, judged-unread, short-bytes}
+use Rattle.run_frame.proofs.Parts.{at-error}
 use Rattle.run_frame.specs.Says.{judged, fault_or}
 use Rattle.run_frame.proofs.TableFaults.{IsOther}
 
@@ -70,39 +71,41 @@ table-causes before now tally_before tally_now fault table (Err (stopped.Fault f
 table-causes before now tally_before tally_now fault table (Err stopped.Memory) later tally other
     found = record { faults = later; tally = tally; read = λ e. cc e; long = λ kind e. cc e }
 
--- a file whose table was read, or its first fault, is judged so
-judged-table : {T : Type 0} (told : Option Files) (name bytes : List ℕ) (kind : FileKind)
-    (fault : Option FileFault) (table : T) (said : List ℕ → Result T FileStop)
-    (read : Result T TableStop) (result : Result T FileStop)
-    (before now tally_before tally_now : ℕ) → said bytes ≡ judged kind fault table bytes
-    → HasBytes told name bytes → length bytes ≤ file_limit
-    → tally_now ≡ tally_with tally_before (length bytes) → before ≤ now
-    → tally_before ≤ tally_now → IsOther fault → IsTableRead fault table read
-    → result ≡ table_said read
-    → IsJudged told name said result before now tally_before tally_now
-judged-table told name bytes kind fault table said read result before now tally_before tally_now is
-    held few given later tally other found same =
-    subst (λ v. IsJudged told name said v before now tally_before tally_now) (sym same)
-    (judged-bytes told name bytes said (table_said read) before now tally_before tally_now held few
-    given (table-meets kind fault table bytes said read is few found)
-    (table-causes before now tally_before tally_now fault table read later tally other found))
+-- what a file says is by its first fault and its table, and no fault is that it is too long
+pub record Judges {T : Type 0} (kind : FileKind) (said : List ℕ → Result T FileStop)
+    (fault : List ℕ → Option FileFault) (table : List ℕ → T) : Type 0 where
+  pub says : (bytes : List ℕ) → said bytes ≡ judged kind (fault bytes) (table bytes) bytes
+  pub other : (bytes : List ℕ) → IsOther (fault bytes)
 
--- the same of bytes that are lent from what the file was read into
-pub judged-lent : {T V : Type 0} (told : Option Files) (name bytes items : List ℕ) (count : ℕ)
-    (kind : FileKind) (fault : Option FileFault) (table : T) (said : List ℕ → Result T FileStop)
-    (whole : Result V FileStop) (read : Result T TableStop) (result : Result T FileStop)
-    (before now tally_before tally_now : ℕ) → said bytes ≡ judged kind fault table bytes
-    → bytes ≡ items → length bytes ≡ count → HasBytes told name items → count ≤ file_limit
-    → tally_now ≡ tally_with tally_before count
-    → HasFileCauses whole before now tally_before tally_now
-    → IsOther fault → IsTableRead fault table read → result ≡ table_said read
-    → IsJudged told name said result before now tally_before tally_now
-judged-lent told name bytes items count kind fault table said whole read result before now
-    tally_before tally_now is lent counts held few given causes other found same =
-    judged-table told name bytes kind fault table said read result before now tally_before tally_now
-    is (subst (HasBytes told name) (sym lent) held) (omega (arith, few, counts))
-    (given ∙ ap (λ n. tally_with tally_before n) (sym counts)) causes.faults causes.tally other
-    found same
+module _ {T Z : Type 0} {told : Option Files} {name : List ℕ} {kind : FileKind}
+    {said : List ℕ → Result T FileStop} {fault : List ℕ → Option FileFault} {table : List ℕ → T}
+    {before now tally_before tally_now : ℕ} {result : Result T FileStop} where
+  -- a file that was not read whole is judged by its stop
+  pub judged-stop : {stop : FileStop} → Judges kind said fault table
+      → IsErrAnd result (λ found. found ≡ stop)
+      → IsFileRead {Z = Z} told name kind (Err stop) before now tally_before tally_now
+      → IsJudged told name said result before now tally_before tally_now
+  judged-stop {stop = stop} judges is reading =
+      at-error (λ r. IsJudged told name said r before now tally_before tally_now) result stop is
+      (judged-unread told name kind said stop before now tally_before tally_now
+      (λ bytes many. judges.says bytes ∙ judged-long kind (fault bytes) (table bytes) bytes many)
+      reading)
+
+  -- a file whose table was read, or its first fault, is judged so: the table is that of bytes that
+  -- are lent from what the file was read into
+  pub judged-lent : {lent : List ℕ} {bytes : Vec ℕ Z} → Judges kind said fault table
+      → (read : Result T TableStop) → lent ≡ bytes.items
+      → IsFileRead told name kind (Ok bytes) before now tally_before tally_now
+      → IsTableRead (fault lent) (table lent) read → result ≡ table_said read
+      → IsJudged told name said result before now tally_before tally_now
+  judged-lent {lent = lent} {bytes = bytes} judges read same reading found e =
+      subst (λ v. IsJudged told name said v before now tally_before tally_now) (sym e)
+      (judged-bytes said (table_said read) reading
+      (table-meets kind (fault bytes.items) (table bytes.items) bytes.items said read
+      (judges.says bytes.items) (short-bytes reading)
+      (subst (λ v. IsTableRead (fault v) (table v) read) same found))
+      (table-causes before now tally_before tally_now (fault lent) (table lent) read
+      reading.causes.faults reading.causes.tally (judges.other lent) found))
 
 -- what holds of a table that was read holds of what it is among the causes of a file
 pub table-ok : {T : Type 0} (P : T → Type 0) (read : Result T TableStop)

@@ -1,15 +1,14 @@
 -- A file that was read whole is judged by its bytes; one that was not has its cause.
-use Rattle.std.proofs.Common.{◌≡◌, ℕ, ◌+◌, ◌<◌, ◌≤◌, List, [], ◌∷◌, Option, Some, None, Result, Err, refl, sym, ap, subst, ◌∙◌, inl, inr, arith}
-use Rattle.std.specs.Prelude.{length, replicate, IsErrAnd, IsErrOf}
+use Rattle.std.proofs.Common.{◌≡◌, ℕ, ◌+◌, ◌<◌, ◌≤◌, List, [], ◌∷◌, Option, Some, None, Result, Ok, Err, Vec, refl, sym, ap, subst, ◌∙◌, inl, inr, arith}
+use Rattle.std.specs.Prelude.{length, replicate, IsTrue, vec_len}
 use Rattle.std.proofs.lemmas.List.{length-replicate}
 use Rattle.place_base.specs.declared.fault.FileKind.{FileKind}
 use Rattle.place_edges.specs.Shelf.{Files, HasBytes, HasMore, IsWithin, file_limit, byte_count, piece_size, tally_with}
-use Rattle.run_frame.specs.Files.{HasBegun, HasCauses, HasFileCauses, IsHeld, IsJudged, IsTaken, IsUnread}
+use Rattle.run_frame.specs.Files.{HasBegun, HasCauses, IsFileRead, IsHeld, IsJudged, IsTaken}
 use Rattle.run_frame.specs.Meetings.{Meets}
 use Rattle.run_frame.specs.Stops.{is_free, too_long}
 use Rattle.run_frame.specs.declared.stop.FileStop.{FileStop}
 use Rattle.run_frame.specs.declared.stop.FileStop.TheVariants.{Fault, ReadFault, Memory}
-use Rattle.run_frame.proofs.Parts.{at-error}
 
 -- a file that has more than so many bytes, and no fewer than were taken: one that is held, where
 -- that is told, and else some
@@ -45,21 +44,36 @@ begun-bytes : (bytes : List ℕ) (before now : ℕ) → now ≡ tally_with befor
 begun-bytes [] before now given = inl refl
 begun-bytes (byte ∷ bytes) before now given = inr (omega (arith, given))
 
+-- the bytes of a vector are as many as it says
+count-items : {X Z : Type 0} (v : Vec X Z) → length v.items ≡ vec_len v
+count-items v = omega (arith, v.ok.0)
+
+-- a file whose bytes were read is short
+pub short-bytes : {Z : Type 0} {told : Option Files} {name : List ℕ} {kind : FileKind}
+    {bytes : Vec ℕ Z} {before now tally_before tally_now : ℕ}
+    → IsFileRead told name kind (Ok bytes) before now tally_before tally_now
+    → length bytes.items ≤ file_limit
+short-bytes {bytes = bytes} reading = omega (arith, count-items bytes, reading.few)
+
 -- a file whose bytes were read is judged by them
-pub judged-bytes : {T : Type 0} (told : Option Files) (name bytes : List ℕ)
+pub judged-bytes : {T Z : Type 0} {told : Option Files} {name : List ℕ} {kind : FileKind}
+    {bytes : Vec ℕ Z} {before now tally_before tally_now : ℕ}
     (judge : List ℕ → Result T FileStop) (result : Result T FileStop)
-    (before now tally_before tally_now : ℕ) → HasBytes told name bytes
-    → length bytes ≤ file_limit → tally_now ≡ tally_with tally_before (length bytes)
-    → Meets is_free (Some (judge bytes)) result
+    → IsFileRead told name kind (Ok bytes) before now tally_before tally_now
+    → Meets is_free (Some (judge bytes.items)) result
     → HasCauses (λ stop. stop) result before now tally_before tally_now
     → IsJudged told name judge result before now tally_before tally_now
-judged-bytes told name bytes judge result before now tally_before tally_now held few given meets
-    causes = record {
-      bytes = Some bytes;
-      held = held-bytes told name bytes held;
+judged-bytes {told = told} {name = name} {bytes = bytes} {tally_before = tally_before}
+    {tally_now = tally_now} judge result reading meets causes =
+    let few = short-bytes reading in
+    let given : tally_now ≡ tally_with tally_before (length bytes.items) =
+    reading.given ∙ ap (λ n. tally_with tally_before n) (sym (count-items bytes)) in
+    record {
+      bytes = Some bytes.items;
+      held = held-bytes told name bytes.items reading.says;
       meets = meets;
       taken = λ file same decided.
-          let e : file ≡ bytes = cc same in
+          let e : file ≡ bytes.items = cc same in
           subst (λ v. IsTaken v tally_before tally_now) (sym e)
           (record {
             short = λ _. given;
@@ -69,13 +83,13 @@ judged-bytes told name bytes judge result before now tally_before tally_now held
           });
       few = λ _. omega (arith, few, given);
       within = omega (arith, given);
-      begun = λ unread. begun-bytes bytes tally_before tally_now given;
+      begun = λ unread. begun-bytes bytes.items tally_before tally_now given;
       causes = causes;
     }
 
 -- the causes of a stop are the same whatever there would be without it
 same-causes : {T S : Type 0} (stop : FileStop) (before now tally_before tally_now : ℕ)
-    → HasFileCauses {T = S} (Err stop) before now tally_before tally_now
+    → HasCauses {T = S} (λ v. v) (Err stop) before now tally_before tally_now
     → HasCauses {T = T} (λ v. v) (Err stop) before now tally_before tally_now
 same-causes stop before now tally_before tally_now causes = record {
   faults = causes.faults;
@@ -85,20 +99,39 @@ same-causes stop before now tally_before tally_now causes = record {
       let same : stop ≡ Fault (too_long kind) = cc e in causes.long kind (ap (λ v. Err v) same);
 }
 
+-- a file that was not read whole is judged by some bytes, of which no fewer were taken
+judged-some : {T : Type 0} (told : Option Files) (name : List ℕ)
+    (judge : List ℕ → Result T FileStop) (stop : FileStop)
+    (before now tally_before tally_now : ℕ) → IsTrue (is_free stop)
+    → IsWithin told name tally_before tally_now → tally_now ≤ tally_before + file_limit
+    → ((stop ≡ ReadFault → ⊥) → tally_with tally_before 1 ≤ tally_now)
+    → HasCauses {T = T} (λ v. v) (Err stop) before now tally_before tally_now
+    → IsJudged told name judge (Err stop) before now tally_before tally_now
+judged-some told name judge stop before now tally_before tally_now free within few begun causes =
+    let file = held-some told name file_limit tally_before tally_now within few in
+    record {
+      bytes = file.0;
+      held = file.1;
+      meets = inl free;
+      taken = λ bytes same decided. absurd (cc (free, decided));
+      few = λ _. few;
+      within = file.2;
+      begun = λ unread. inr (begun (λ e. unread (ap (λ v. Err v) e)));
+      causes = causes;
+    }
+
 -- a file that was not read whole is judged so
-judged-unread : {T S : Type 0} (told : Option Files) (name : List ℕ) (kind : FileKind)
+pub judged-unread : {T Z : Type 0} (told : Option Files) (name : List ℕ) (kind : FileKind)
     (judge : List ℕ → Result T FileStop) (stop : FileStop)
     (before now tally_before tally_now : ℕ)
     → ((bytes : List ℕ) → file_limit < length bytes → judge bytes ≡ Err (Fault (too_long kind)))
-    → IsUnread told name kind stop
-    → (IsErrOf {T = S} (Err stop) Memory → tally_with tally_before 1 ≤ tally_now)
-    → HasFileCauses {T = S} (Err stop) before now tally_before tally_now
-    → IsWithin told name tally_before tally_now
+    → IsFileRead {Z = Z} told name kind (Err stop) before now tally_before tally_now
     → IsJudged told name judge (Err stop) before now tally_before tally_now
-judged-unread told name kind judge (Fault found) before now tally_before tally_now long
-    (is, more) begun causes within =
-    let file = long-file told name file_limit piece_size tally_before tally_now more within
-    causes.once (omega arith) in
+judged-unread told name kind judge (Fault found) before now tally_before tally_now long reading =
+    let is = reading.says.0 in
+    let file = long-file told name file_limit piece_size tally_before tally_now reading.says.1
+    reading.within reading.once (omega arith) in
+    let given = reading.causes.long kind (ap (λ v. Err (Fault v)) is) in
     record {
       bytes = Some file.0;
       held = file.1;
@@ -107,55 +140,20 @@ judged-unread told name kind judge (Fault found) before now tally_before tally_n
           let e : bytes ≡ file.0 = cc same in
           subst (λ v. IsTaken v tally_before tally_now) (sym e) (record {
             short = λ few. absurd (omega (arith, few, file.2));
-            long = λ many. causes.long kind (ap (λ v. Err (Fault v)) is);
-            once = λ many. causes.once;
+            long = λ many. given;
+            once = λ many. reading.once;
             within = file.3;
           });
       few = λ undecided. absurd (undecided refl);
       within = file.3;
-      begun = λ unread.
-          inr (omega (arith, causes.tally, causes.long kind (ap (λ v. Err (Fault v)) is)));
-      causes = same-causes _ before now tally_before tally_now causes;
+      begun = λ unread. inr (omega (arith, reading.causes.tally, given));
+      causes = same-causes _ before now tally_before tally_now reading.causes;
     }
-judged-unread told name kind judge ReadFault before now tally_before tally_now long unread begun
-    causes within =
-    let file = held-some told name file_limit tally_before tally_now within (causes.failed refl) in
-    record {
-      bytes = file.0;
-      held = file.1;
-      meets = inl refl;
-      taken = λ bytes same decided. cc decided;
-      few = λ _. causes.failed refl;
-      within = file.2;
-      begun = λ unread. absurd (unread refl);
-      causes = same-causes _ before now tally_before tally_now causes;
-    }
-judged-unread told name kind judge Memory before now tally_before tally_now long unread begun
-    causes within =
-    let file = held-some told name file_limit tally_before tally_now within (causes.refused refl) in
-    record {
-      bytes = file.0;
-      held = file.1;
-      meets = inl refl;
-      taken = λ bytes same decided. cc decided;
-      few = λ _. causes.refused refl;
-      within = file.2;
-      begun = λ unread. inr (begun refl);
-      causes = same-causes _ before now tally_before tally_now causes;
-    }
-
--- the same of a result that is its stop
-pub judged-stop : {T S : Type 0} (told : Option Files) (name : List ℕ) (kind : FileKind)
-    (judge : List ℕ → Result T FileStop) (stop : FileStop) (result : Result T FileStop)
-    (before now tally_before tally_now : ℕ) → IsErrAnd result (λ found. found ≡ stop)
-    → ((bytes : List ℕ) → file_limit < length bytes → judge bytes ≡ Err (Fault (too_long kind)))
-    → IsUnread told name kind stop
-    → (IsErrOf {T = S} (Err stop) Memory → tally_with tally_before 1 ≤ tally_now)
-    → HasFileCauses {T = S} (Err stop) before now tally_before tally_now
-    → IsWithin told name tally_before tally_now
-    → IsJudged told name judge result before now tally_before tally_now
-judged-stop told name kind judge stop result before now tally_before tally_now is long unread begun
-    causes within =
-    at-error (λ r. IsJudged told name judge r before now tally_before tally_now) result stop is
-    (judged-unread told name kind judge stop before now tally_before tally_now long unread begun
-    causes within)
+judged-unread told name kind judge ReadFault before now tally_before tally_now long reading =
+    judged-some told name judge ReadFault before now tally_before tally_now refl reading.within
+    (reading.failed refl) (λ unread. absurd (unread refl))
+    (same-causes _ before now tally_before tally_now reading.causes)
+judged-unread told name kind judge Memory before now tally_before tally_now long reading =
+    judged-some told name judge Memory before now tally_before tally_now refl reading.within
+    (reading.refused refl) (λ _. reading.begun refl)
+    (same-causes _ before now tally_before tally_now reading.causes)

@@ -1,8 +1,8 @@
 -- What reading files came to.
-use Rattle.std.specs.Prelude.{◌≡◌, ◌≤◌, ◌<◌, ◌⊎◌, ℕ, ◌+◌, List, [], ◌∷◌, ◌++◌, length, Option, Some, None, Result, IsErrOf, IfSome, option_map, ⊤}
+use Rattle.std.specs.Prelude.{◌≡◌, ◌≤◌, ◌<◌, ◌⊎◌, ℕ, ◌+◌, List, [], ◌∷◌, ◌++◌, length, Option, Some, None, Result, IfOk, IsErrOf, MatchResult, IfSome, option_map, Vec, vec_len, ⊤}
 use Rattle.place_base.specs.declared.fault.FileKind.{FileKind}
 use Rattle.place_edges.specs.Causes.{Rose}
-use Rattle.place_edges.specs.Shelf.{Files, GaveMore, HasMore, file_limit, byte_count, piece_size, tally_with}
+use Rattle.place_edges.specs.Shelf.{Files, GaveMore, HasBytes, HasMore, IsWithin, file_limit, byte_count, piece_size, tally_with}
 use Rattle.run_frame.specs.Meetings.{IsDecided, Meets}
 use Rattle.run_frame.specs.Stops.{is_free, is_free_stop, too_long}
 use Rattle.run_frame.specs.declared.stop.FileStop.{FileStop}
@@ -26,19 +26,24 @@ pub record HasCauses {T S : Type 0} (stopped : FileStop → S) (result : Result 
   pub long : (kind : FileKind) → IsErrOf result (stopped (Fault (too_long kind)))
       → GaveMore tally_before tally_now file_limit
 
--- The causes of what reading one file came to; and in no case were more bytes taken than one piece
--- beyond 2^30, nor more than 2^30 where a read failed or memory was refused, so that the reading of
--- a file that is too long, or whose last piece cannot be read, is not begun again.
-pub record HasFileCauses {T : Type 0} (result : Result T FileStop)
-    (before now tally_before tally_now : ℕ) : Type 0 where
-  pub faults : before ≤ now
-  pub tally : tally_before ≤ tally_now
-  pub read : IsErrOf result ReadFault → Rose before now
-  pub long : (kind : FileKind) → IsErrOf result (Fault (too_long kind))
-      → GaveMore tally_before tally_now file_limit
+-- What reading one file whole came to. What is given is the file, and what was taken is as much;
+-- else it says why not. Whatever is answered, no more was taken than the file has, and each stop
+-- has its cause in the counts. In no case were more bytes taken than one piece beyond 2^30, nor
+-- more than 2^30 where a read failed or memory was refused, so that the reading of a file that is
+-- too long, or whose last piece cannot be read, is not begun again. Memory is refused only where
+-- bytes were taken.
+pub record IsFileRead {Z : Type 0} (told : Option Files) (name : List ℕ) (kind : FileKind)
+    (result : Result (Vec ℕ Z) FileStop) (before now tally_before tally_now : ℕ) : Type 0 where
+  pub says : MatchResult result (λ bytes. HasBytes told name bytes.items)
+      (λ stop. IsUnread told name kind stop)
+  pub few : IfOk result (λ bytes. vec_len bytes ≤ file_limit)
+  pub given : IfOk result (λ bytes. tally_now ≡ tally_with tally_before (vec_len bytes))
+  pub within : IsWithin told name tally_before tally_now
+  pub causes : HasCauses (λ stop. stop) result before now tally_before tally_now
   pub once : tally_now ≤ tally_before + file_limit + piece_size
   pub failed : IsErrOf result ReadFault → tally_now ≤ tally_before + file_limit
   pub refused : IsErrOf result Memory → tally_now ≤ tally_before + file_limit
+  pub begun : IsErrOf result Memory → tally_with tally_before 1 ≤ tally_now
 
 -- the bytes held under a name, none where there is no such file, if that is told
 abbrev pub IsHeld : Option Files → List ℕ → Option (List ℕ) → Type 0

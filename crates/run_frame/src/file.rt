@@ -1,7 +1,6 @@
 // A named file, read whole.
-ghost use Rattle.std.specs.Prelude.{◌≡◌, ◌+◌, ◌≤◌, IfOk, IsErrOf, IsTrue, MatchResult, vec_len};
-ghost use Rattle.place_edges.specs.Shelf.{HasBytes, IsWithin, file_limit, tally_with};
-ghost use Rattle.run_frame.specs.Files.{HasFileCauses, IsUnread};
+ghost use Rattle.std.specs.Prelude.{◌≡◌, IsTrue};
+ghost use Rattle.run_frame.specs.Files.{IsFileRead};
 ghost use Rattle.run_frame.specs.Stops.{too_long as too_long_in};
 
 use crate::FileStop;
@@ -19,25 +18,8 @@ pub fn read_file<H: Shelf>(
 ) -> Result<Vec<u8>, FileStop>
     requires { IsTrue (H.grants shelf.old name.now) }
 
-    // What is given is the file, and what was taken is as much; else it says why not.
-    ensures told { MatchResult result
-        (λ bytes. HasBytes (H.files shelf.old) name.now bytes.items)
-        (λ stop. IsUnread (H.files shelf.old) name.now kind stop) }
-    ensures few { IfOk result (λ bytes. vec_len bytes ≤ file_limit) }
-    ensures given { IfOk result (λ bytes.
-        H.tally shelf.new ≡ tally_with (H.tally shelf.old) (vec_len bytes)) }
-
-    // Whatever is answered, no more was taken than the file has.
-    ensures within { IsWithin (H.files shelf.old) name.now (H.tally shelf.old) (H.tally shelf.new) }
-
-    // Each stop has its cause in the counts, and in no case were more bytes taken than one piece
-    // beyond 2^30, nor more than 2^30 where a read failed or memory was refused; memory is refused
-    // only where bytes were taken.
-    ensures causes { HasFileCauses result (H.faults shelf.old) (H.faults shelf.new)
-        (H.tally shelf.old) (H.tally shelf.new) }
-
-    ensures memory { IsErrOf result FileStop.Memory
-        → tally_with (H.tally shelf.old) 1 ≤ H.tally shelf.new }
+    ensures reading { IsFileRead (H.files shelf.old) name.now kind result
+        (H.faults shelf.old) (H.faults shelf.new) (H.tally shelf.old) (H.tally shelf.new) }
 
     // What is held and granted stays.
     ensures files { H.files shelf.new ≡ H.files shelf.old }

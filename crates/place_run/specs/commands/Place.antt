@@ -1,5 +1,5 @@
 -- The text of `place`, and what is promised of it.
-use Rattle.std.specs.Prelude.{◌≡◌, ℕ, List, Option, Some}
+use Rattle.std.specs.Prelude.{◌≡◌, ℕ, List, Some}
 use Rattle.place_base.specs.declared.fault.FileKind.TheVariants as file
 use Rattle.market.specs.Comparisons.{IsWorstStable}
 use Rattle.market.specs.Mechanism.{mechanism_placement}

@@ -1,4 +1,4 @@
-use Rattle.std.proofs.Common.{◌≡◌, ◌≤◌, Ok, length, sym, arith}
+use Rattle.std.proofs.Common.{◌≡◌, Ok, sym, arith}
 use Rattle.std.specs.Prelude.{string_bytes}
 use Rattle.std.proofs.lemmas.List.{length-map}
 use Rattle.command_words.specs.Words.{command_of, texts}

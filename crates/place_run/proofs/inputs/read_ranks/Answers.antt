@@ -1,34 +1,20 @@
-use Rattle.std.proofs.Common.{◌≡◌, length, refl}
+use Rattle.std.proofs.Common.{◌≡◌, length}
 use Rattle.std.proofs.lemmas.List.{length-map}
-use Rattle.place_base.specs.declared.fault.FileKind.TheVariants as file
 use Rattle.candidate_table.specs.Table.{numbers_of}
 use Rattle.rank_lists.specs.Table.{RankTable, ranks_table}
-use Rattle.run_frame.proofs.Judging.{judged-stop}
-use Rattle.run_frame.proofs.JudgedTables.{judged-lent, judged-long, table-ok, table-read}
-use Rattle.place_run.specs.Tables.{ranks_said}
+use Rattle.run_frame.proofs.JudgedTables.{judged-lent, judged-stop, table-ok, table-read}
 use Rattle.place_run.proofs.Markets.{types-in-ranks}
-use Rattle.place_run.proofs.TableFaults.{other-ranks}
+use Rattle.place_run.proofs.TableFaults.{ranks-judges}
 use Rattle.place_run.proofs.inputs.read_ranks.Goals as goal
 
 pub returns-in_err-bytes-clause-judged : goal.returns-in_err-bytes-clause-judged
-unfolding ranks_said
 returns-in_err-bytes-clause-judged g c =
-    judged-stop _ _ file.Ranks _ _ _ _ _ _ _ c.from_residual.ensures.1
-    (λ bytes many. judged-long file.Ranks _ _ bytes many) c.in_err-bytes.ensures.told
-    c.in_err-bytes.ensures.memory c.in_err-bytes.ensures.causes
-    c.in_err-bytes.ensures.within
+    judged-stop (ranks-judges _ _) c.from_residual.ensures.1 c.in_err-bytes.ensures.reading
 
 pub returns-clause-judged : goal.returns-clause-judged
-unfolding ranks_said
 returns-clause-judged g c =
-    let bytes = c.deref.result.now in
-    judged-lent _ _ bytes _ _ file.Ranks _ (ranks_table c.args.programmes.now.names (numbers_of
-    c.args.candidates.now.numbers) bytes)
-    (ranks_said c.args.programmes.now.names (numbers_of c.args.candidates.now.numbers))
-    _ c.read.result c.table_or_stop.result _ _ _ _ refl
-    c.deref.ensures.value c.deref.ensures.len c.in_ok-bytes.ensures.told c.in_ok-bytes.ensures.few
-    c.in_ok-bytes.ensures.given c.in_ok-bytes.ensures.causes
-    (other-ranks bytes) c.read.ensures c.table_or_stop.ensures
+    judged-lent (ranks-judges _ _) c.read.result c.deref.ensures.value
+    c.in_ok-bytes.ensures.reading c.read.ensures c.table_or_stop.ensures
 
 pub returns-clause-types : goal.returns-clause-types
 returns-clause-types g c =

@@ -1,8 +1,8 @@
-use Rattle.std.proofs.Common.{◌≤◌, ◌<◌, ◌++◌, ◌∷◌, [], length, sym, subst, ap, ◌∙◌, arith, length-append}
-use Rattle.std.specs.Prelude.{decimal, slice_get, slice_index}
+use Rattle.std.proofs.Common.{◌<◌, ◌++◌, sym, subst, ap, ◌∙◌}
+use Rattle.std.specs.Prelude.{slice_get, slice_index}
 use Rattle.candidate_table.specs.Table.{numbers_of}
 use Rattle.programme_table.specs.Table.{codes_of}
-use Rattle.record_files.specs.Texts.{row_text, text_of}
+use Rattle.record_files.specs.Texts.{text_of}
 use Rattle.reports.specs.Reasons.{entry_at}
 use Rattle.place_run.proofs.RowTexts.{reason-row}
 use Rattle.place_run.proofs.reason_rows.put_entry.Goals as goal

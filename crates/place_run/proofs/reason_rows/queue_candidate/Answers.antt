@@ -1,4 +1,4 @@
-use Rattle.std.proofs.Common.{◌<◌, ◌≤◌, ◌++◌, [], Err, length, ap, subst, ◌∙◌, append-nil, arith}
+use Rattle.std.proofs.Common.{◌<◌, ◌≤◌, ◌++◌, [], Err, length, ap, subst, append-nil, arith}
 use Rattle.candidate_table.specs.Table.{numbers_of}
 use Rattle.market.specs.Problems.{list_of}
 use Rattle.programme_table.specs.Table.{codes_of}

@@ -1,4 +1,4 @@
-use Rattle.std.proofs.Common.{◌<◌, ◌≤◌, Err, length, subst, ◌∙◌, arith}
+use Rattle.std.proofs.Common.{◌<◌, ◌≤◌, length, subst, arith}
 use Rattle.candidate_table.specs.Table.{numbers_of}
 use Rattle.programme_table.specs.Table.{codes_of}
 use Rattle.run_frame.proofs.Parts.{at-error}
@@ -8,7 +8,6 @@ use Rattle.place_run.proofs.QueuedTexts.{queued-more, texts-unqueued, unqueued-o
 use Rattle.place_run.proofs.RowTexts.{texts-all}
 use Rattle.place_run.proofs.reason_rows.queue_rows.Goals as goal
 use Rattle.std.specs.List.{flat_map, range_with_len}
-use Rattle.place_edges.specs.Sink.{IsWritten}
 
 pub returns-in_err-queue_candidate : goal.returns-in_err-queue_candidate
 returns-in_err-queue_candidate g c =

@@ -3,7 +3,7 @@ use Rattle.std.proofs.Math.Nat.{zero-mul, zero-div}
 use Rattle.registration_desk.specs.Desks.{IsNew, at_opening, key_of}
 use Rattle.registration_desk.specs.Clerks.{part_of}
 use Rattle.registration_desk.proofs.Shares.{split_keeps}
-use Rattle.registration_desk.proofs.Parts.{part_is, part_fits, part_rest, part_last}
+use Rattle.registration_desk.proofs.Parts.{part_is, part_within, part_last}
 use Rattle.registration_desk.proofs.Clerks.{new_snoc, count_snoc}
 use Rattle.registration_desk.proofs.opening.split_all.Goals as goal
 
@@ -15,7 +15,7 @@ split_seat-next-requires c =
     let share = v.rest.share in (
       v.table,
       search rules,
-      split_keeps _ _ _ (omega arith) v.free (part_fits _ _ _ _ v.rest (omega arith)),
+      split_keeps _ _ _ (omega arith) v.free (part_within _ _ _ _ v.rest (omega arith)).0,
     )
 
 pub loop-number-init : goal.loop-number-init
@@ -79,7 +79,7 @@ loop-number-preserved c =
         same_clerks = ap (λ x. x.clerks) given ∙ v.rest.same_clerks;
         share = let n = ap (λ x. x.share) given in omega arith;
         left = ap (λ x. x.left) given
-            ∙ (part_rest _ _ _ _ v.rest (omega arith)
+            ∙ ((part_within _ _ _ _ v.rest (omega arith)).1
             ∙ ap (λ n. c.args.count - n * c.args.count / c.args.clerks) next);
       };
       new = new_snoc _ _ _ _ c.push_reserved.ensures.items v.new new;

@@ -1,4 +1,4 @@
-use Rattle.std.proofs.Common.{◌<◌, length, sym, subst, ◌∙◌}
+use Rattle.std.proofs.Common.{◌<◌, sym, subst, ◌∙◌}
 use Rattle.place_run.proofs.Markets.{is-named}
 use Rattle.place_run.proofs.Verdicts.{audit-is, candidates-counted, names-verdict, programmes-counted}
 use Rattle.place_run.proofs.commands.audit.audited.Goals as goal
