@@ -22,5 +22,3 @@ pub mod WrittenTexts
 pub mod QueuedTexts
 -- what a run leaves of a sink
 pub mod Finishing
--- names that are all granted
-pub mod Granting

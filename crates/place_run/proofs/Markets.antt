@@ -8,10 +8,9 @@ use Rattle.std.proofs.lemmas.List.{get_or_past, length-map}
 use Rattle.std.proofs.lemmas.List.Elements.{All-get_or}
 use Rattle.std.proofs.lemmas.List.FromFn.{length-map-range_with_len}
 use Rattle.market.specs.Comparisons.{IsWorstStable}
-use Rattle.market.specs.Mechanism.{mechanism, mechanism_placement}
+use Rattle.market.specs.Mechanism.{mechanism_placement}
 use Rattle.market.specs.Problems.{Problem, IsValid, no_programme, problem, kind_of, quota_of, list_of, order_of, ranks_of, place_of}
 use Rattle.market.specs.Stability.{held_by, IsPlacement}
-use Rattle.market.specs.declared.placement.Outcome.{Outcome}
 use Rattle.market.specs.declared.programme.Prog.{Prog}
 use Rattle.market.proofs.Firsts.{place_get}
 use Rattle.place_base.specs.declared.limits.TheConstants.{LARGEST_QUOTA, MOST_CANDIDATES, MOST_PROGRAMMES, MOST_TYPES}
@@ -123,12 +122,6 @@ pub programmes-of_market : (programmes : Programmes) (lists : List (List ℕ)) (
 unfolding problem_with
 programmes-of_market programmes lists table = length-map programmes.rows prog_of ∙ sym
     (length-map programmes.rows (λ row. row.code))
-
--- what a mechanism's outcome places
-pub outcome-placement : (m : Problem) (outcome : Outcome) → outcome ≡ mechanism m
-    → outcome.placement ≡ mechanism_placement m
-unfolding mechanism
-outcome-placement m outcome same = ap (λ (o : Outcome). o.placement) same
 
 -- a programme that is held is one of the market's
 pub held-within : (m : Problem) (held : List (Option ℕ)) → IsValid m → IsPlacement m held

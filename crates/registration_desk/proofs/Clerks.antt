@@ -1,5 +1,5 @@
 -- Lists of clerks: the last one taken away, or one put behind the others.
-use Rattle.std.proofs.Common.{◌≡◌, ℕ, suc, ◌+◌, ◌-◌, List, [], ◌∷◌, ◌++◌, length, take, Some, refl, ap, ◌∙◌, arith, length-append}
+use Rattle.std.proofs.Common.{◌≡◌, ℕ, suc, ◌+◌, ◌-◌, List, [], ◌∷◌, ◌++◌, length, Some, refl, ap, arith, length-append}
 use Rattle.std.specs.Prelude.{slice_get}
 use Rattle.std.specs.List.{sum_by}
 use Rattle.std.proofs.lemmas.List.Sums.{sum_by-append, sum_by-cons}
@@ -21,13 +21,6 @@ sum_last f l xs m is =
     let both = sum_by-append f xs (m ∷ []) in
     let all = ap (λ z. sum_by f z) is in
     omega arith
-
--- no clerk is left
-pub sum_none : (f : Clerk → ℕ) (l left : List Clerk) (n : ℕ) → l ≡ left ++ [] → n ≡ 0
-    → left ≡ take (n - 1) l → sum_by f l ≡ 0
-sum_none f l left n is empty rest =
-    let gone : left ≡ [] = rest ∙ ap (λ (k : ℕ). take (k - 1) l) empty in
-    ap (λ z. sum_by f z) (is ∙ ap (λ (z : List Clerk). z ++ []) gone)
 
 -- one more clerk at the opening
 pub new_snoc : (desk : Desk) (l xs : List Clerk) (m : Clerk) → l ≡ xs ++ m ∷ []

@@ -1,10 +1,9 @@
 -- How many replies are of each kind is a function of the placement and the requests: each reply
 -- tells what the placement says of its candidate, and the registrations are the numbers kept.
-use Rattle.std.proofs.Common.{◌≡◌, ℕ, suc, ◌+◌, ◌-◌, ◌≤◌, Bool, cond, List, [], ◌∷◌, length, take, get_or, nat_eq, nat_lt, Option, Some, None, sym, refl, ap, subst, ◌∙◌, arith}
+use Rattle.std.proofs.Common.{◌≡◌, ℕ, suc, ◌+◌, ◌-◌, Bool, cond, List, [], ◌∷◌, length, take, get_or, nat_eq, nat_lt, Option, Some, None, sym, refl, ap, subst, ◌∙◌, arith}
 use Rattle.std.specs.Prelude.{slice_get}
 use Rattle.std.specs.List.{IsDistinct, count_by, sum_by}
-use Rattle.std.proofs.lemmas.List.{take_all, length-take-le}
-use Rattle.std.proofs.lemmas.List.Sums.{count_by-le-length, length-filter, sum_by-cons, sum_by_more}
+use Rattle.std.proofs.lemmas.List.Sums.{length-filter, sum_by-cons, sum_by_more}
 use Rattle.std.proofs.lemmas.Option.{get_or_from_slice_get, slice_get_within}
 use Rattle.placement_file.specs.SeatLists.{SeatRows, candidates_of}
 use Rattle.registration_desk.specs.declared.reply.Reply.{Reply}
@@ -79,27 +78,6 @@ replies_more history n reply k new at before after =
       not_placed = sym (more is_not_placed) j;
       unknown = sym (more is_unknown) j;
     })
-
--- all of them
-pub replies_all : (history : List Reply) (n : ℕ) → length history ≤ n
-    → replies_to history n ≡ replies_of history
-replies_all history n all = ap replies_of (take_all n history all)
-
--- there are at most as many of a kind as replies
-pub replies_few : (history : List Reply) (n : ℕ) (k : DeskNumbers) → k ≡ replies_to history n
-    → n ≤ length history
-    → (k.registered ≤ n) × (k.again ≤ n) × (k.not_placed ≤ n) × (k.unknown ≤ n)
-replies_few history n k is inside =
-    let long = length-take-le n history inside in
-    let a = count_by-le-length is_registration (take n history) in
-    let b = count_by-le-length is_again (take n history) in
-    let c = count_by-le-length is_not_placed (take n history) in
-    let d = count_by-le-length is_unknown (take n history) in
-    let p = ap (λ (z : DeskNumbers). z.registered) is in
-    let q = ap (λ (z : DeskNumbers). z.again) is in
-    let r = ap (λ (z : DeskNumbers). z.not_placed) is in
-    let s = ap (λ (z : DeskNumbers). z.unknown) is in
-    (omega arith, omega arith, omega arith, omega arith)
 
 -- lists of one length have one sum where what is added is the same at each place
 same_sum : {A B : Type 0} (f : A → ℕ) (g : B → ℕ) (xs : List A) (ys : List B)

@@ -1,12 +1,11 @@
 -- One request served: the reply is that of the desk of one thread, and the desk keeps its numbers.
-use Rattle.std.proofs.Common.{◌≡◌, ℕ, zero, suc, ◌+◌, ◌<◌, ◌≤◌, Bool, false, cond, List, [], ◌∷◌, ◌++◌, length, set, get_or, replicate, nat_eq, nat_lt, Some, None, sym, refl, ap, subst, ◌∙◌, arith, length-set, get_or-set_same, get_or-set_other}
+use Rattle.std.proofs.Common.{◌≡◌, ℕ, zero, suc, ◌+◌, ◌<◌, ◌≤◌, Bool, false, cond, List, [], ◌∷◌, ◌++◌, length, set, get_or, nat_eq, nat_lt, Some, None, sym, refl, ap, subst, ◌∙◌, arith, length-set, get_or-set_same, get_or-set_other}
 use Rattle.std.specs.Prelude.{slice_get}
 use Rattle.std.specs.List.{position}
-use Rattle.std.proofs.lemmas.List.{set-get_or, length-append, length-replicate, get_or-replicate}
+use Rattle.std.proofs.lemmas.List.{set-get_or, length-append}
 use Rattle.std.proofs.lemmas.Bool.{lt-ltb}
 use Rattle.std.proofs.lemmas.List.Sums.{sum_by-set, sum_by_push}
 use Rattle.std.proofs.lemmas.Option.{slice_get_read, get_or_from_slice_get}
-use Rattle.place_base.specs.declared.limits.TheConstants.{MOST_REQUESTS}
 use mathlib.Core.Logic.{dite}
 use native.Mathlib.Decide.{ℕ_discrete}
 use Rattle.registration_desk.specs.declared.reply.Reply.{Reply}
@@ -15,7 +14,7 @@ use Rattle.registration_desk.specs.declared.reply.Reply.TheVariants.{Registered,
 use Rattle.placement_file.specs.SeatLists.{SeatRows, candidates_of, code_held}
 use Rattle.registration_desk.specs.Replies.{is_registration, registrations, IsReply, IsPlaced}
 use Rattle.registration_desk.specs.States.{DeskValue, replied, NumberFits, IsDesk, Numbered}
-use Rattle.interleaving_core.proofs.Places.{at_last, sum_replicate}
+use Rattle.interleaving_core.proofs.Places.{at_last}
 use Rattle.registration_desk.proofs.Lookups.{found, missing, same_candidate}
 use Rattle.registration_desk.proofs.Histories.{was_plain, was_other, fits_more, fits_now, history_more}
 
@@ -214,21 +213,3 @@ number_at numbers seats candidate i number wide is at =
     let inside = (found candidate seats i is).0 in
     get_or_from_slice_get numbers i number 0
     (slice_get_read numbers (length numbers) i number refl (omega arith) at)
-
--- a desk that has given no reply
-pub fresh_desk : (seats : SeatRows) (requests : List ℕ) (n : ℕ) → length requests ≤ MOST_REQUESTS
-    → n ≡ length seats
-    → IsDesk (record { seats = seats; requests = requests; history = [] }) (replicate n 0) 0
-fresh_desk seats requests n few wide =
-    record {
-      few = few;
-      within = omega arith;
-      history = λ place reply is. absurd (cc (is));
-      wide = length-replicate n 0 ∙ wide;
-      numbered = sum_replicate (λ m. cond {A = ℕ} (nat_lt 0 m) 1 0) n 0 refl;
-      agree = λ c i is.
-          let inside = (found c seats i is).0 in
-          subst (NumberFits requests [] c) (sym (get_or-replicate n i 0 0 (omega arith)))
-          (λ number was. absurd (let r = was.reply in cc (r)));
-      counted = refl;
-    }

@@ -1,11 +1,11 @@
 -- What a desk prints once every request is answered is a function of the placement and the
 -- requests: a candidate has a number exactly where it is placed and a request names it.
-use Rattle.std.proofs.Common.{◌≡◌, ◌≢◌, ℕ, zero, suc, ◌+◌, ◌<◌, ◌≤◌, Bool, true, false, cond, ◌&&◌, List, [], ◌∷◌, ◌++◌, length, take, get_or, nat_eq, nat_lt, Option, Some, None, is_some, sym, refl, ap, subst, ◌∙◌, ⊎_elim, arith, append-nil}
+use Rattle.std.proofs.Common.{◌≡◌, ◌≢◌, ℕ, zero, suc, ◌+◌, ◌<◌, Bool, true, false, cond, ◌&&◌, List, [], ◌∷◌, ◌++◌, length, take, get_or, nat_eq, nat_lt, Option, Some, None, is_some, sym, refl, ap, subst, ◌∙◌, ⊎_elim, arith, append-nil}
 use Rattle.std.specs.Prelude.{slice_get, codes, decimal}
 use Rattle.std.specs.Cmp.{nat_eq_equiv}
 use Rattle.std.specs.List.{position, position_or_len, list_any, filter, flat_map, IsDistinct, Any}
 use Rattle.std.proofs.lemmas.Bool.{eq-eqb, eqb-true, lt-ltb, cases_order}
-use Rattle.std.proofs.lemmas.List.{length-map, get_or-map, take_all, flat_map_more}
+use Rattle.std.proofs.lemmas.List.{length-map, get_or-map, flat_map_more}
 use Rattle.std.proofs.lemmas.List.Sums.{passes_at_first, fails_before_first}
 use Rattle.std.proofs.lemmas.List.Folds.{Any-from_list_any}
 use Rattle.std.proofs.lemmas.List.Elements.{filter_more}
@@ -19,7 +19,7 @@ use Rattle.placement_file.specs.SeatLists.{SeatRows, candidates_of}
 use Rattle.registration_desk.specs.Seats.{seat_row_at, seat_of}
 use Rattle.registration_desk.specs.Replies.{IsUnregistered, IsReply}
 use Rattle.registration_desk.specs.States.{DeskValue, NumberFits, IsDesk}
-use Rattle.registration_desk.specs.Reports.{is_named, named_at, number_row, registered_text}
+use Rattle.registration_desk.specs.Reports.{is_named, named_at, number_row}
 use Rattle.registration_desk.proofs.Histories.{only_placed, at_longer_front}
 
 -- the place of an element that is the first of its kind
@@ -197,13 +197,6 @@ module _ (seats : SeatRows) (requests : List ℕ) (n : ℕ) (inside : n < length
       ∙ ap (λ v. row_text (codes "candidate" ∷ []) ++ flat_map number_row v)
       (sym (append-nil kept)
       ∙ (ap (λ (b : Bool). kept ++ cond b (row_n ∷ []) []) (sym (not_named is)) ∙ sym more))
-
--- all rows
-pub text_all : (seats : SeatRows) (requests : List ℕ) (n : ℕ) → length seats ≤ n
-    → text_to seats requests n ≡ registered_text seats requests
-text_all seats requests n all =
-    ap (λ v. row_text (codes "candidate" ∷ []) ++ flat_map number_row
-    (filter (is_named requests) v)) (take_all n seats all)
 
 -- a number is kept at an index, or none
 pub named_some : (seats : SeatRows) (requests : List ℕ) (i n number : ℕ) → n ≢ 0
