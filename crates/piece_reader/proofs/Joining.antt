@@ -139,7 +139,8 @@ module _ {A T : Type 0} (rules : FileRules) (keeps : Row → A → Type 0) (has 
       pub done : List Row
       pub lists : List (List Row)
       pub behind : all ≡ done ++ flat_map (λ rows. rows) lists
-      pub kept : AllZip (λ rows (part : AheadRows A T). AllZip keeps rows part.rows.items) lists left
+      pub kept : AllZip (λ rows (part : AheadRows A T). AllZip keeps rows part.rows.items) lists
+          left
       pub none : meanings rules [] done ≡ None
       pub has_rows : has done table
 
@@ -163,7 +164,8 @@ module _ {A T : Type 0} (rules : FileRules) (keeps : Row → A → Type 0) (has 
         → AllZip keeps more part.rows.items
         → IsRowTaken (meanings rules earlier more) ⊤ (has (earlier ++ more) new) found
 
-    module _ (all : List Row) (table new : T) (part : AheadRows A T) (left : List (AheadRows A T)) where
+    module _ (all : List Row) (table new : T) (part : AheadRows A T)
+        (left : List (AheadRows A T)) where
       -- a part with which nothing is wrong is one more in the table
       pub JoinsParts-next : JoinsParts all table (part ∷ left) → TakesPart table part new None
           → JoinsParts all new left

@@ -150,8 +150,8 @@ replay-short m r cuts total table firsts done u =
     let fewer = sum_fewer (round_turns m) (r + 1) (cutting_rounds m + 1) (omega arith) in
     omega arith
 
--- so a counter that has risen by the turns run so far, and within this round by no more than it has,
--- has risen by no more than the placement has
+-- so a counter that has risen by the turns run so far, and within this round by no more than it
+-- has, has risen by no more than the placement has
 pub replay-risen : (m : Problem) (r : ℕ) (cuts : List ℕ) (total : ℕ) (table : List (List (Option
     ℕ))) (firsts : List (Option ℕ)) (done start before after : ℕ)
     → IsReplayUpto m r cuts total table firsts done → before ≡ start + done

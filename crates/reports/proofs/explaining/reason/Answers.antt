@@ -14,7 +14,8 @@ returns-then-is_held c =
 
 pub returns-then-is_before : goal.returns-then-is_before
 returns-then-is_before c =
-    sym (reason-below c.args.market.now c.args.placement.now c.args.candidate c.args.place (cc) (cc))
+    sym (reason-below c.args.market.now c.args.placement.now c.args.candidate c.args.place
+    (cc) (cc))
 
 pub returns-in-Some : goal.returns-in-Some
 unfolding admits
