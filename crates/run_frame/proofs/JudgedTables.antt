@@ -8,7 +8,7 @@ use Rattle.place_edges.specs.Shelf.{Files, file_limit}
 use Rattle.record_files.specs.ReadTo.{IsTableRead}
 use Rattle.record_files.specs.declared.table_stop.TableStop.{TableStop}
 use Rattle.record_files.specs.declared.table_stop.TableStop.TheVariants as stopped
-use Rattle.run_frame.specs.Files.{HasCauses, IsFileRead, IsJudged}
+use Rattle.run_frame.specs.Files.{HasCauses, IsJudged, IsReadWhole}
 use Rattle.run_frame.specs.Meetings.{Meets}
 use Rattle.run_frame.specs.Stops.{is_free, table_said, too_long}
 use Rattle.run_frame.specs.declared.stop.FileStop.{FileStop}
@@ -83,7 +83,7 @@ module _ {T Z : Type 0} {told : Option Files} {name : List ℕ} {kind : FileKind
   -- a file that was not read whole is judged by its stop
   pub judged-stop : {stop : FileStop} → Judges kind said fault table
       → IsErrAnd result (λ found. found ≡ stop)
-      → IsFileRead {Z = Z} told name kind (Err stop) before now tally_before tally_now
+      → IsReadWhole {Z = Z} told name kind (Err stop) before now tally_before tally_now
       → IsJudged told name said result before now tally_before tally_now
   judged-stop {stop = stop} judges is reading =
       at-error (λ r. IsJudged told name said r before now tally_before tally_now) result stop is
@@ -95,7 +95,7 @@ module _ {T Z : Type 0} {told : Option Files} {name : List ℕ} {kind : FileKind
   -- are lent from what the file was read into
   pub judged-lent : {lent : List ℕ} {bytes : Vec ℕ Z} → Judges kind said fault table
       → (read : Result T TableStop) → lent ≡ bytes.items
-      → IsFileRead told name kind (Ok bytes) before now tally_before tally_now
+      → IsReadWhole told name kind (Ok bytes) before now tally_before tally_now
       → IsTableRead (fault lent) (table lent) read → result ≡ table_said read
       → IsJudged told name said result before now tally_before tally_now
   judged-lent {lent = lent} {bytes = bytes} judges read same reading found e =

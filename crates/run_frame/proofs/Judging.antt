@@ -4,7 +4,7 @@ use Rattle.std.specs.Prelude.{length, replicate, IsTrue, vec_len}
 use Rattle.std.proofs.lemmas.List.{length-replicate}
 use Rattle.place_base.specs.declared.fault.FileKind.{FileKind}
 use Rattle.place_edges.specs.Shelf.{Files, HasBytes, HasMore, IsWithin, file_limit, byte_count, piece_size, tally_with}
-use Rattle.run_frame.specs.Files.{HasBegun, HasCauses, IsFileRead, IsHeld, IsJudged, IsTaken}
+use Rattle.run_frame.specs.Files.{HasBegun, HasCauses, IsHeld, IsJudged, IsReadWhole, IsTaken}
 use Rattle.run_frame.specs.Meetings.{Meets}
 use Rattle.run_frame.specs.Stops.{is_free, too_long}
 use Rattle.run_frame.specs.declared.stop.FileStop.{FileStop}
@@ -51,7 +51,7 @@ count-items v = omega (arith, v.ok.0)
 -- a file whose bytes were read is short
 pub short-bytes : {Z : Type 0} {told : Option Files} {name : List ℕ} {kind : FileKind}
     {bytes : Vec ℕ Z} {before now tally_before tally_now : ℕ}
-    → IsFileRead told name kind (Ok bytes) before now tally_before tally_now
+    → IsReadWhole told name kind (Ok bytes) before now tally_before tally_now
     → length bytes.items ≤ file_limit
 short-bytes {bytes = bytes} reading = omega (arith, count-items bytes, reading.few)
 
@@ -59,7 +59,7 @@ short-bytes {bytes = bytes} reading = omega (arith, count-items bytes, reading.f
 pub judged-bytes : {T Z : Type 0} {told : Option Files} {name : List ℕ} {kind : FileKind}
     {bytes : Vec ℕ Z} {before now tally_before tally_now : ℕ}
     (judge : List ℕ → Result T FileStop) (result : Result T FileStop)
-    → IsFileRead told name kind (Ok bytes) before now tally_before tally_now
+    → IsReadWhole told name kind (Ok bytes) before now tally_before tally_now
     → Meets is_free (Some (judge bytes.items)) result
     → HasCauses (λ stop. stop) result before now tally_before tally_now
     → IsJudged told name judge result before now tally_before tally_now
@@ -125,7 +125,7 @@ pub judged-unread : {T Z : Type 0} (told : Option Files) (name : List ℕ) (kind
     (judge : List ℕ → Result T FileStop) (stop : FileStop)
     (before now tally_before tally_now : ℕ)
     → ((bytes : List ℕ) → file_limit < length bytes → judge bytes ≡ Err (Fault (too_long kind)))
-    → IsFileRead {Z = Z} told name kind (Err stop) before now tally_before tally_now
+    → IsReadWhole {Z = Z} told name kind (Err stop) before now tally_before tally_now
     → IsJudged told name judge (Err stop) before now tally_before tally_now
 judged-unread told name kind judge (Fault found) before now tally_before tally_now long reading =
     let is = reading.says.0 in

@@ -32,7 +32,7 @@ pub record HasCauses {T S : Type 0} (stopped : FileStop → S) (result : Result 
 -- more than 2^30 where a read failed or memory was refused, so that the reading of a file that is
 -- too long, or whose last piece cannot be read, is not begun again. Memory is refused only where
 -- bytes were taken.
-pub record IsFileRead {Z : Type 0} (told : Option Files) (name : List ℕ) (kind : FileKind)
+pub record IsReadWhole {Z : Type 0} (told : Option Files) (name : List ℕ) (kind : FileKind)
     (result : Result (Vec ℕ Z) FileStop) (before now tally_before tally_now : ℕ) : Type 0 where
   pub says : MatchResult result (λ bytes. HasBytes told name bytes.items)
       (λ stop. IsUnread told name kind stop)
