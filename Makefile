@@ -1,6 +1,9 @@
-# make          proves and builds the programs, with what they stand on
-# make install  copies the two binaries to $(DESTDIR)$(PREFIX)/bin; they need nothing of the kit when they run
-# make test     the whole gate: every proof, wrong body, test and program; and runs of the built programs
+# make            proves and builds the programs, with what they stand on
+# make install    copies what is built, with pages, completions and documents, to $(DESTDIR)$(PREFIX); it builds nothing
+# make uninstall  removes what make install copied
+# make dist       one archive of the same files, in dist/, with the sum of each
+# make deb        a Debian package of the same files, in dist/
+# make test       the whole gate: every proof, wrong body, test and program; and runs of the built programs
 
 PREFIX ?= /usr/local
 PLACE = crates/place_program/out/place_program
@@ -12,17 +15,18 @@ all: $(PLACE) $(DESK)
 $(PLACE) $(DESK): $(SOURCES)
 	tools/build $(notdir $@)
 
-install: all
-	install -d $(DESTDIR)$(PREFIX)/bin
-	install -m 755 $(PLACE) $(DESTDIR)$(PREFIX)/bin/place
-	install -m 755 $(DESK) $(DESTDIR)$(PREFIX)/bin/place-desk
+install uninstall:
+	tools/package $@ '$(DESTDIR)$(PREFIX)'
+
+dist deb:
+	tools/package $@ dist
 
 test:
 	.ci/run
 
 clean:
-	rm -rf crates/*/out
+	rm -rf crates/*/out dist
 
-.PHONY: all install test clean
+.PHONY: all install uninstall dist deb test clean
 # each of the two builds uses all processors, and they prove the same crates
 .NOTPARALLEL:

@@ -7,14 +7,19 @@ Build the programs first, as with ./place and ./place-desk. The parts, all of th
     limits   the address space is limited, from nothing up step by step, until the command is done; on a market of
              3,000 candidates, since a small one is placed wherever the program begins; below some limits the system
              does not begin the program at all: those runs show nothing of it, and are told apart
-    system   a full disk, a closed pipe, files that are missing, a directory or a pipe, words that are no text
+    system   a full disk, a closed pipe, files that are missing, a directory or a pipe, words that are no text, and a
+             limit on the size of files
+    counts   nothing is refused: it counts who takes memory while the workers of a round are at work, and while a text
+             is written; needs a C compiler
 
-Each run has to end by its own status: done with the whole text, or the refusal with its line on standard error and
-nothing on standard output, but for what was written before a write failed. None may end by a signal. A line is printed
-for each case, and at last how many runs were refused and how many of them answered wrong.
+Each run that is refused something has to end by its own status: done with the whole text, or the refusal with its line
+on standard error and nothing on standard output, but for what was written before a write failed. None may end by a
+signal, but under a limit on the size of files, where the system ends it. A line is printed for each case, and at last
+how many runs were refused and how many answers were wrong.
 """
 import os
 import resource
+import signal
 import subprocess
 import sys
 import tempfile
@@ -27,6 +32,9 @@ DESK = os.path.join(ROOT, "crates", "desk_program", "out", "desk_program")
 WORKED = ("examples", os.path.join("examples", "freed_seat"))
 DONE, NO_WORDS, WORDS, FILE_FAULT, READ_FAULT, WRITE_FAULT, MEMORY, AUDIT_NO = range(8)
 WANT_OF_MEMORY = b"want of memory\n"
+# Dictatorships that the rounds of a worked market run, each by a team: those of its first round, and then of each type
+# that the last cuts changed.
+TEAMS = {"freed_seat": 3, "three_rounds": 4}
 LARGEST_LIMIT = 1 << 30
 STEP = 16 << 10
 SECONDS = 60
@@ -69,6 +77,83 @@ __attribute__((constructor)) static void begin(void) {
 }
 """
 
+# Notes in order, in the file COUNTED: m, memory is asked for; c, a thread is begun; j, one was waited for; w, standard
+# output is written to. Each is the number of the thread that does it, in two bytes, and the letter.
+WATCHER = r"""
+#define _GNU_SOURCE
+#include <dlfcn.h>
+#include <fcntl.h>
+#include <pthread.h>
+#include <stdatomic.h>
+#include <stddef.h>
+#include <stdlib.h>
+#include <sys/mman.h>
+#include <unistd.h>
+enum { EVENTS = 1 << 22, THREADS = 1 << 15 };
+void *__libc_malloc(size_t);
+void *__libc_calloc(size_t, size_t);
+void *__libc_realloc(void *, size_t);
+void *__libc_memalign(size_t, size_t);
+struct start { void *(*run)(void *); void *with; };
+static struct start starts[THREADS];
+static unsigned char *noted;
+static atomic_long events;
+static atomic_int threads;
+static _Thread_local int number, quiet;
+static int (*real_create)(pthread_t *, const pthread_attr_t *, void *(*)(void *), void *);
+static int (*real_join)(pthread_t, void **);
+static ssize_t (*real_write)(int, const void *, size_t);
+static void note(char letter) {
+    if (!noted || quiet) return;
+    long at = atomic_fetch_add(&events, 1);
+    if (at >= EVENTS) _exit(125);
+    noted[3 * at] = number & 255;
+    noted[3 * at + 1] = number >> 8;
+    noted[3 * at + 2] = letter;
+}
+void *malloc(size_t n) { note('m'); return __libc_malloc(n); }
+void *calloc(size_t n, size_t m) { note('m'); return __libc_calloc(n, m); }
+void *realloc(void *p, size_t n) { note('m'); return __libc_realloc(p, n); }
+void *memalign(size_t a, size_t n) { note('m'); return __libc_memalign(a, n); }
+void *aligned_alloc(size_t a, size_t n) { return memalign(a, n); }
+int posix_memalign(void **p, size_t a, size_t n) { return (*p = memalign(a, n)) ? 0 : 12; }
+static void *begin(void *start) {
+    struct start *mine = start;
+    number = mine - starts;
+    return mine->run(mine->with);
+}
+int pthread_create(pthread_t *id, const pthread_attr_t *how, void *(*run)(void *), void *with) {
+    int next = atomic_fetch_add(&threads, 1) + 1;
+    if (next >= THREADS) _exit(125);
+    starts[next] = (struct start){run, with};
+    note('c');
+    quiet = 1; /* what the C library takes for a thread is its own */
+    int failed = real_create(id, how, begin, &starts[next]);
+    quiet = 0;
+    return failed;
+}
+int pthread_join(pthread_t id, void **end) {
+    int failed = real_join(id, end);
+    note('j');
+    return failed;
+}
+ssize_t write(int file, const void *from, size_t n) {
+    if (file == 1) note('w');
+    return real_write(file, from, n);
+}
+__attribute__((constructor)) static void open_notes(void) {
+    real_create = dlsym(RTLD_NEXT, "pthread_create");
+    real_join = dlsym(RTLD_NEXT, "pthread_join");
+    real_write = dlsym(RTLD_NEXT, "write");
+    int file = open(getenv("COUNTED"), O_RDWR);
+    void *shared = mmap(NULL, 3 * (size_t)EVENTS, PROT_READ | PROT_WRITE, MAP_SHARED, file, 0);
+    if (shared == MAP_FAILED) _exit(125);
+    close(file);
+    noted = shared;
+}
+"""
+EVENTS = 1 << 22
+
 
 class Tally:
     """How many runs were refused something, and how many of all answered wrong."""
@@ -109,7 +194,7 @@ def made_market(room):
             file.write("\n".join(lines) + "\n")
     with open(os.path.join(folder, "placement.csv"), "wb") as file:
         file.write(run(["place", *files_in(folder, *names)])[1])
-    with open(os.path.join(folder, "requests.csv"), "w") as file:
+    with open(os.path.join(folder, "registrations.csv"), "w") as file:
         file.write("candidate\n" + "".join("%d\n" % (number * 7 % 3_001) for number in range(1, 3_001)))
     return folder
 
@@ -124,7 +209,7 @@ def commands(workers, folders, numbers, desk):
         for words in (["place", *files], ["base", *files], ["reasons", *files], ["audit", *files, *placement]):
             found.append((words[0] + " " + os.path.basename(folder), PLACE, words + ["--workers"]))
     found.append(("make", PLACE, ["make", *numbers, "--workers"]))
-    found.append(("desk " + os.path.basename(desk), DESK, files_in(desk, "placement", "requests") + ["--clerks"]))
+    found.append(("desk " + os.path.basename(desk), DESK, files_in(desk, "placement", "registrations") + ["--clerks"]))
     for name, program, words in found:
         words = words + [str(workers)]
         free = run(words, program)
@@ -148,14 +233,22 @@ def told(counts):
     return ", ".join("%d %s" % (count, answer) for answer, count in sorted(counts.items()))
 
 
-def memory(tally, room):
-    shim = os.path.join(room, "shim.so")
-    with open(os.path.join(room, "shim.c"), "w") as source:
-        source.write(SHIM)
+def compiled(room, name, text):
+    """A library to be loaded before a program, or None where there is no C compiler."""
+    library = os.path.join(room, name + ".so")
+    with open(os.path.join(room, name + ".c"), "w") as source:
+        source.write(text)
     try:
-        subprocess.run(["cc", "-O1", "-shared", "-fPIC", "-o", shim, source.name], check=True)
+        subprocess.run(["cc", "-O1", "-shared", "-fPIC", "-o", library, source.name, "-ldl"], check=True)
     except OSError:
-        print("memory: skipped, there is no cc")
+        print("%s: skipped, there is no cc" % name)
+        return None
+    return library
+
+
+def memory(tally, room):
+    shim = compiled(room, "memory", SHIM)
+    if shim is None:
         return
     counted = os.path.join(room, "counted")
 
@@ -291,6 +384,12 @@ def system(tally, room):
     os.close(reading)
     ends("a pipe that nobody reads", run(place, stdout=writing), write_fault)
     os.close(writing)
+    front = os.path.join(room, "front")
+    with open(front, "wb") as out:
+        ended = run(place, stdout=out, preexec_fn=lambda: resource.setrlimit(resource.RLIMIT_FSIZE, (16, 16)))
+    with open(front, "rb") as file:
+        ended = ended[0], file.read(), ended[2]
+    ends("a text beyond a limit on file size", ended, (-signal.SIGXFSZ, text[:16], b""))
     ends("no standard output", run(place, stdout=None, preexec_fn=lambda: os.close(1)), write_fault)
     read_fault = (READ_FAULT, b"", b"read fault\n")
     for at, what in ((1, "programmes"), (2, "candidates"), (3, "ranks")):
@@ -304,25 +403,83 @@ def system(tally, room):
     fed("ranks from a pipe without a byte", b"", 3, header)
     ends("a word that is no text", run([b"place", b"\xff"]), (NO_WORDS, b"", b""))
     ends("no words", run([]), (WORDS, b"", b"words NoCommand 0\n"))
-    desk = files_in(os.path.join("examples", "desk"), "placement", "requests")
+    desk = files_in(os.path.join("examples", "desk"), "placement", "registrations")
     registered = run(desk, DESK)[1]
     with open("/dev/full", "wb") as full:
         ends("the desk's text on a full disk", run(desk, DESK, stdout=full), write_fault)
         ends("the desk's line on a full disk", run(desk, DESK, stderr=full), (DONE, registered, None))
-    for at, what in ((0, "placement"), (1, "requests")):
+    for at, what in ((0, "placement"), (1, "registrations")):
         words = list(desk)
         words[at] = os.path.join(room, "missing")
         ends("the desk, its %s missing" % what, run(words, DESK), read_fault)
     ends("the desk without words", run([], DESK), (WORDS, b"", b"words WordCount 1\n"))
 
 
+def teams_of(events):
+    """The teams of a run: for each what happens from where the first thread begins one until it has waited for all."""
+    teams, left = [], 0
+    for thread, letter in events:
+        if left == 0 and (thread, letter) == (0, "c"):
+            teams.append([])
+        if thread == 0:
+            left += (letter == "c") - (letter == "j")
+        if left > 0:
+            teams[-1].append((thread, letter))
+    return teams
+
+
+def taken_at_work(team):
+    """How often the threads of a team take memory, but for the piece that a thread takes just before it begins another:
+    without that, it does the other's work itself."""
+    taken, before = 0, {}
+    for thread, letter in team:
+        taken += before.get(thread) == "m" and letter != "c"
+        before[thread] = letter
+    return taken + list(before.values()).count("m")
+
+
+def counts(tally, room):
+    watcher = compiled(room, "counts", WATCHER)
+    if watcher is None:
+        return
+    counted = os.path.join(room, "events")
+
+    def watched(words, program):
+        with open(counted, "wb") as file:
+            file.truncate(3 * EVENTS)
+        ended = run(words, program, env={"LD_PRELOAD": watcher, "COUNTED": counted})
+        with open(counted, "rb") as file:
+            noted = file.read()
+        noted = noted[: noted.index(bytes(3))] if bytes(3) in noted else noted
+        return ended, [(noted[at] + 256 * noted[at + 1], chr(noted[at + 2])) for at in range(0, len(noted) - 2, 3)]
+
+    made = made_market(room)
+    folders = [os.path.join("examples", name) for name in TEAMS] + [made]
+    for workers in (2, 7):
+        for name, program, words, free in commands(workers, folders, ["7", "300", "40", "5"], made):
+            ended, events = watched(words, program)
+            letters = [letter for _, letter in events]
+            while_writing = letters[letters.index("w"):].count("m")
+            # the last teams are those of rounds: as many as the market's rounds run, and of another market at least
+            # as many as its first round has types
+            number = 0
+            if words[0] in ("place", "base", "reasons", "make"):
+                number = TEAMS.get(os.path.basename(os.path.dirname(words[1])), 4)
+            last = teams_of(events)[-number:] if number else []
+            taken = sum(map(taken_at_work, last))
+            threads = [[letter for _, letter in team].count("c") for team in last]
+            wrong = ended != free or while_writing != 0 or taken != 0 or threads != [workers - 1] * number
+            tally.case("counts: " + name, "%d teams of rounds take %d at work, the text %d while it is written, all in all %d"
+                       % (len(last), taken, while_writing, letters.count("m")), wrong)
+
+
 def main():
     if not os.path.exists(PLACE) or not os.path.exists(DESK):
         sys.exit("refusals: build the programs first, as with ./place and ./place-desk")
-    parts = {"memory": memory, "limits": limits, "system": system}
+    parts = {"memory": memory, "limits": limits, "system": system, "counts": counts}
     tally = Tally()
-    with tempfile.TemporaryDirectory() as room:
-        for name in sys.argv[1:] or list(parts):
+    for name in sys.argv[1:] or list(parts):
+        with tempfile.TemporaryDirectory() as room:
             parts[name](tally, room)
     print("%d runs were refused something, %d answers were wrong" % (tally.refused, tally.wrong))
     sys.exit(tally.wrong != 0)

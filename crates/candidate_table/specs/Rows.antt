@@ -84,7 +84,7 @@ abbrev pub candidates_rules : List ℕ → FileRules
 candidates_rules programmes = record {
   form = candidates_form;
   reading = λ version. reading;
-  meaning = meaning programmes;
+  meaning = λ version. meaning programmes;
 }
 
 -- the first fault of a candidates file beside the programmes' codes

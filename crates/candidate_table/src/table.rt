@@ -121,9 +121,10 @@ impl<P: Finder> RowTable<P> for CandidateTable {
 
     ghost rules = { λ programmes. candidates_rules (P.numbers programmes) };
 
-    ghost says = { IsFieldsOf };
+    ghost says = { λ version. IsFieldsOf };
 
-    ghost has_rows = { λ programmes rows table. HasRows (P.numbers programmes) rows table };
+    ghost has_rows = { λ programmes version rows table.
+        HasRows (P.numbers programmes) rows table };
 
     fn form(_programmes: &P) -> FileForm {
         FileForm::new(FileKind::Candidates, &[b"candidate,list"], MOST_CANDIDATES)
@@ -151,7 +152,7 @@ impl<P: Finder> RowTable<P> for CandidateTable {
 impl<P: Finder> TakesAhead<P, Candidate> for CandidateTable {
     ghost use Rattle.candidate_table.specs.Growth.{IsCandidateOf};
 
-    ghost keeps = { λ programmes row candidate.
+    ghost keeps = { λ programmes version row candidate.
         IsCandidateOf (P.numbers programmes) row candidate };
 
     fn most_rows(_programmes: &P) -> u32 {

@@ -1,10 +1,10 @@
 -- The market that words give is valid, and has its sizes.
-use Rattle.std.proofs.Common.{◌≡◌, ℕ, ◌+◌, ◌%◌, ◌<◌, ◌≤◌, [], length, refl, sym, ap, ◌∙◌, subst, arith, mod-lt, zero-add, ⊎_elim}
+use Rattle.std.proofs.Common.{◌≡◌, ℕ, ◌+◌, ◌%◌, ◌<◌, ◌≤◌, [], length, None, refl, sym, ap, ◌∙◌, subst, arith, mod-lt, zero-add, ⊎_elim}
 use Rattle.std.specs.Prelude.{All, slice_index}
 use Rattle.std.proofs.lemmas.Bool.{cases_lt}
 use Rattle.std.proofs.lemmas.List.Elements.{All-from_get_or, All-get_or}
 use Rattle.std.proofs.lemmas.List.FromFn.{get_or-map-range_with_len, get_or-range_with_len, length-map-range_with_len, length-range_with_len}
-use Rattle.market.specs.Problems.{IsValid, HasNoRepeats, kind_of, quota_of, list_of, order_of, ranks_of, no_programme}
+use Rattle.market.specs.Problems.{IsValid, IsBar, HasNoRepeats, kind_of, quota_of, bar_of, list_of, order_of, ranks_of, no_programme}
 use Rattle.market.specs.declared.programme.Prog.{Prog}
 use Rattle.market.specs.declared.limits.TheConstants.{MAX_PROGRAMMES, MAX_CANDIDATES}
 use Rattle.case_maker.specs.declared.sizes.Sizes.{Sizes}
@@ -98,6 +98,11 @@ module _ (s : Sizes) (words : Words) where
   quota-at p lt = ap (λ q. q.quota)
       (get_or-map-range_with_len one 0 s.programmes p p no_programme lt (zero-add p))
 
+  bar-at : (p : ℕ) → p < s.programmes → bar_of (made_problem s words) p ≡ None
+  unfolding bar_of
+  bar-at p lt = ap (λ q. q.bar)
+      (get_or-map-range_with_len one 0 s.programmes p p no_programme lt (zero-add p))
+
   list-at : (i : ℕ) → i < s.candidates
       → list_of (made_problem s words) i ≡ drawn_list s.programmes (own_words s rest i)
   unfolding list_of
@@ -159,6 +164,7 @@ module _ (s : Sizes) (words : Words) where
         kinds = λ p lt. subst (λ k. k < s.types) (sym (kind-at p (omega arith)))
             (mod-lt p fit.some_type);
         quotas = λ p lt. let at = quota-at p (omega arith) in omega arith;
+        bars = λ p lt. subst IsBar (sym (bar-at p (omega arith))) tt;
         list_lengths = λ i lt.
             let size = ap (λ xs. length {A = ℕ} xs) (list-at i (omega arith)) in
             let short = length-list s.programmes (own_words s rest i) in

@@ -1,5 +1,5 @@
 -- The market of a seed: which words are drawn for what, in which order.
-use Rattle.std.specs.Prelude.{◌≡◌, ℕ, zero, suc, ◌+◌, ◌*◌, ◌/◌, ◌%◌, ◌<◌, ◌≤◌, min, List, length, map}
+use Rattle.std.specs.Prelude.{◌≡◌, ℕ, zero, suc, ◌+◌, ◌*◌, ◌/◌, ◌%◌, ◌<◌, ◌≤◌, min, None, List, length, map}
 use Rattle.std.specs.List.{filter_map, range_with_len}
 use Rattle.market.specs.Problems.{Problem, list_of, problem}
 use Rattle.market.specs.declared.limits.TheConstants.{MAX_TYPES, MAX_PROGRAMMES, MAX_CANDIDATES}
@@ -16,11 +16,13 @@ pub record AreFit (sizes : Sizes) : Type 0 where
   pub types : sizes.types ≤ MAX_TYPES
   pub some_type : 0 < sizes.types
 
--- the programme that a word gives: its type by its index, its quota by the word, at most 100,000
+-- the programme that a word gives: its type by its index, its quota by the word, at most 100,000,
+-- and no bar
 abbrev pub drawn_programme : Sizes → ℕ → ℕ → Prog
 drawn_programme sizes word index = record {
   kind = index % sizes.types;
   quota = min 100000 (word % (2 * (sizes.candidates / sizes.programmes) + 2));
+  bar = None;
 }
 
 -- the programmes: a word for each, the first of all words

@@ -28,7 +28,7 @@ pub(crate) fn draw_programmes(
     Ok(made)
 }
 
-// The programme that a word gives. Quotas below this bound are expected to add up to about the
+// The programme that a word gives, without a bar. Quotas below this bound are expected to add up to about the
 // number of candidates.
 fn drawn_programme(sizes: Sizes, word: u32, index: u32) -> Prog
     requires fit { AreFit sizes }
@@ -39,5 +39,6 @@ fn drawn_programme(sizes: Sizes, word: u32, index: u32) -> Prog
     Prog {
         kind: index % sizes.types,
         quota: MAX_QUOTA.min(word % bound),
+        bar: None,
     }
 }

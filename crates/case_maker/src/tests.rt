@@ -33,10 +33,11 @@ fn check_counts(rt: &impl Abort, market: &Market, counts: (u32, u32, u32)) {
     );
 }
 
-// Compares the type and the quota of each programme of a market.
+// Compares the type and the quota of each programme of a market, which has no bar.
 fn check_programmes(rt: &impl Abort, market: &Market, programmes: &[(u32, u32)]) {
     for programme in 0..market.programme_count() {
-        let Prog { kind, quota } = market.programme(programme);
+        let Prog { kind, quota, bar } = market.programme(programme);
+        assert_eq!(rt; bar, None);
         assert_eq!(rt;
             programmes.get(programme as usize).copied(),
             Some((kind, quota))

@@ -1,3 +1,1 @@
 pub mod Claims
-pub mod Seats
-pub mod TwoTurns

@@ -6,7 +6,7 @@ use Rattle.place_base.specs.declared.fault.FaultKind.{FaultKind}
 use Rattle.place_base.specs.declared.limits.TheConstants.{MOST_CANDIDATES, MOST_PROGRAMMES, MOST_RANKS, MOST_TYPES}
 use Rattle.record_files.specs.Numbers.{number_of}
 use Rattle.command_words.specs.declared.words.Command.{Command}
-use Rattle.command_words.specs.declared.words.Command.TheVariants.{Place, Base, Reasons, Audit, Make}
+use Rattle.command_words.specs.declared.words.Command.TheVariants.{Place, Base, Reasons, Audit, Fixed, Make}
 use Rattle.command_words.specs.declared.words.WordsFault.{WordsFault}
 use Rattle.command_words.specs.declared.words.WordsFault.TheVariants.{NoCommand, UnknownCommand, WordCount, BadNumber}
 use Rattle.command_words.specs.declared.words.TheConstants.{WORKERS, MAX_WORKERS}
@@ -65,7 +65,7 @@ pub record CommandForm : Type 0 where
   -- what they ask for, by these words and the number of workers
   pub command : List (List ℕ) → Result ℕ WordsFault → Result Command WordsFault
 
--- the grammar: three commands take the names of three files, the audit takes that of a placement
+-- the grammar: four commands take the names of three files, the audit takes that of a placement
 -- file behind them, and the maker of markets takes four numbers
 abbrev pub grammar : List CommandForm
 grammar =
@@ -77,6 +77,7 @@ grammar =
       command = of_names (λ workers. Reasons workers);
     }
     ∷ record { word = codes "audit"; further = 4; command = of_names (λ workers. Audit workers) }
+    ∷ record { word = codes "fixed"; further = 3; command = of_names (λ workers. Fixed workers) }
     ∷ record { word = codes "make"; further = 4; command = of_numbers } ∷ []
 
 -- the line of the grammar with this word

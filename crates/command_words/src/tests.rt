@@ -13,7 +13,7 @@ fn words(alloc: Global, texts: &[&str]) -> Result<Vec<String>, AllocError> {
     Ok(words)
 }
 
-const ROWS: [(&[&str], Result<Command, WordsFault>); 32] = [
+const ROWS: [(&[&str], Result<Command, WordsFault>); 34] = [
     (&["place", "P", "C", "R"], Ok(Command::Place(4))),
     // Any word is a name where a name stands.
     (&["place", "-P", "", "--workers"], Ok(Command::Place(4))),
@@ -91,6 +91,11 @@ const ROWS: [(&[&str], Result<Command, WordsFault>); 32] = [
     (
         &["reason", "P", "C", "R"],
         Err(WordsFault::UnknownCommand(1)),
+    ),
+    (&["fixed", "P", "C", "R"], Ok(Command::Fixed(4))),
+    (
+        &["fixed", "P", "C", "R", "S"],
+        Err(WordsFault::WordCount(5)),
     ),
     // The audit takes a word more.
     (&["audit", "P", "C", "R", "S"], Ok(Command::Audit(4))),

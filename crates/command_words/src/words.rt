@@ -30,6 +30,8 @@ pub enum Command {
     /// The audit of the placement in a fourth file. This number bounds the parts in which the three
     /// files are read, and the threads that make their market.
     Audit(u32),
+    /// What all stable placements share, by this number of workers.
+    Fixed(u32),
     /// The summary of a market that is made from numbers, and of its placement.
     Make {
         /// The seed of the words that are drawn.
@@ -73,10 +75,11 @@ enum Kind {
     Base,
     Reasons,
     Audit,
+    Fixed,
     Make,
 }
 
-const FORMS: [Form; 5] = [
+const FORMS: [Form; 6] = [
     Form {
         word: b"place",
         further: 3,
@@ -96,6 +99,11 @@ const FORMS: [Form; 5] = [
         word: b"audit",
         further: 4,
         kind: Kind::Audit,
+    },
+    Form {
+        word: b"fixed",
+        further: 3,
+        kind: Kind::Fixed,
     },
     Form {
         word: b"make",
@@ -200,6 +208,7 @@ fn asked(
         Kind::Base => Ok(Command::Base(workers?)),
         Kind::Reasons => Ok(Command::Reasons(workers?)),
         Kind::Audit => Ok(Command::Audit(workers?)),
+        Kind::Fixed => Ok(Command::Fixed(workers?)),
         Kind::Make => read_sizes(further, workers),
     }
 }

@@ -20,9 +20,9 @@ use Rattle.word_rule.specs.declared.seat.WorkSeat.{WorkSeat}
 use Rattle.commit_book.specs.Holder.{MayLook, MayWeigh, MaySeat, MaySeal, MayRelease}
 
 -- the word found is small, since the place found is one of the turn's list, or its length
-pub found_small : (d : Dictatorship) (m n : SeatMe) (found k : ℕ) → IsValidDictatorship d
-    → m.0.dict ≡ d → m.0.core.hold ≡ hold_at k Idle → TellsLook m found n → found ≤ 98
-found_small d m n found k valid dict hold told =
+pub found_small : (d : Dictatorship) (m n : SeatMe) (word found k : ℕ) → IsValidDictatorship d
+    → m.0.dict ≡ d → m.0.core.hold ≡ hold_at k Idle → TellsLook word m found n → found ≤ 98
+found_small d m n word found k valid dict hold told =
     let small = shows_small found in
     let place = by (cell_of found) refl in
     omega arith

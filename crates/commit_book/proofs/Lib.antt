@@ -1,4 +1,2 @@
 pub mod Holds
-pub mod ManyTurns
-pub mod Seats
 pub mod Sweeps

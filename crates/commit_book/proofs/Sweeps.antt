@@ -6,7 +6,7 @@ use Rattle.interleaving_core.specs.Core.{turn_count, hold_at}
 use Rattle.interleaving_core.specs.Events.{phase_after_look}
 use Rattle.word_rule.specs.Layout.{is_held, mark_number}
 use Rattle.word_rule.specs.Views.{SeatKnows}
-use Rattle.word_rule.specs.Holder.{as_holder, tried, released_with}
+use Rattle.word_rule.specs.Holder.{as_holder, tried, having_sealed, released_with}
 use Rattle.word_rule.specs.Rounds.{knows}
 use Rattle.word_rule.specs.declared.seat.WorkSeat.{WorkSeat}
 use Rattle.commit_book.specs.Holder.{IsTake, IsLook, IsRelease}
@@ -28,7 +28,7 @@ module _ (old at mid new : WorkSeat) (count : ℕ) where
   c = old.committed + count
 
   -- a release after a look that left this phase
-  swept_in : (p : Phase) → knows at ≡ as_holder (knows old) c Idle
+  swept_in : (p : Phase) → knows at ≡ having_sealed (knows old) old.committed count
       → knows mid ≡ as_holder (knows at) c p → IsRelease mid new
       → ((knows old).share ≡ (knows old).workers → (knows old).core.done ≡ true
       → turn_count (knows old).dict ≤ c) → HasSwept old new count
@@ -45,8 +45,8 @@ module _ (old at mid new : WorkSeat) (count : ℕ) where
       }
 
   -- turns were committed up to a look that found nothing, and the mark given back
-  pub swept_so : knows at ≡ as_holder (knows old) c Idle → IsLook at mid None → IsRelease mid new
-      → HasSwept old new count
+  pub swept_so : knows at ≡ having_sealed (knows old) old.committed count → IsLook at mid None
+      → IsRelease mid new → HasSwept old new count
   swept_so view look free =
       let hold : (knows at).core.hold ≡ hold_at c Idle = ap (λ (x : SeatKnows). x.core.hold) view in
       let same : look.committed ≡ c =
@@ -100,7 +100,8 @@ module _ (old mid : WorkSeat) (take : IsTake old mid true) where
       record {
         found = take.found;
         free = was_free (is_held take.found) take.answered;
-        view = done.view ∙ (λ i. released_with (view i) (took.1 i + count));
+        view = done.view
+            ∙ (λ i. released_with (having_sealed (view i) (took.1 i) count) (took.1 i + count));
         within = omega arith;
         whole = λ every over.
             let all = done.whole

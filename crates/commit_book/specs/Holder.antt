@@ -8,7 +8,7 @@ use Rattle.interleaving_core.specs.Core.{turn_count, entry, quota_of, hold_at}
 use Rattle.interleaving_core.specs.Events.{Takes, Weighs, Seats, Seals, Releases, IsAllowed, phase_after_look, phase_after_weigh}
 use Rattle.word_rule.specs.Views.{SeatKnows}
 use Rattle.word_rule.specs.Layout.{is_held, mark_number}
-use Rattle.word_rule.specs.Holder.{as_holder, tried, released_with}
+use Rattle.word_rule.specs.Holder.{as_holder, tried, having_sealed, released_with}
 use Rattle.word_rule.specs.Rounds.{knows}
 use Rattle.word_rule.specs.declared.seat.WorkSeat.{WorkSeat}
 
@@ -96,11 +96,11 @@ pub record IsSeat (old new : WorkSeat) (answer : Bool) : Type 0 where
   pub answered : answer ≡ nat_le
       (quota_of (knows old).dict (entry (knows old).dict committed place)) (found + 1)
 
--- a commit: the answer is the turn, and one turn more is committed
+-- a commit: the answer is the turn, and one turn more is committed, by this seat
 pub record IsSeal (old new : WorkSeat) (answer : ℕ) : Type 0 where
   pub phase : Phase
   pub hold : (knows old).core.hold ≡ hold_at answer phase
-  pub view : knows new ≡ as_holder (knows old) (answer + 1) Idle
+  pub view : knows new ≡ having_sealed (knows old) answer 1
 
 -- a release: the mark is free with the number of committed turns
 pub record IsRelease (old new : WorkSeat) : Type 0 where

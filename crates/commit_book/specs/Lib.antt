@@ -3,5 +3,3 @@
 pub mod Holder
 -- the call that takes, commits and releases
 pub mod Prefix
--- seats and their steps, as the tests speak of them
-pub mod Seats

@@ -5,7 +5,7 @@ use Rattle.interleaving_core.specs.Core.{turn_count}
 use Rattle.interleaving_core.specs.Events.{Seals, IsAllowed}
 use Rattle.word_rule.specs.Layout.{is_held, mark_number}
 use Rattle.word_rule.specs.Views.{SeatKnows}
-use Rattle.word_rule.specs.Holder.{as_holder, tried, released_with}
+use Rattle.word_rule.specs.Holder.{as_holder, tried, having_sealed, released_with}
 use Rattle.word_rule.specs.Rounds.{knows}
 use Rattle.word_rule.specs.declared.seat.WorkSeat.{WorkSeat}
 
@@ -19,7 +19,8 @@ pub record IsSettled (old new : WorkSeat) : Type 0 where
 -- the holder committed so many turns and gave the mark back with their sum. A done seat with every
 -- share has committed every turn left
 pub record HasSwept (old new : WorkSeat) (count : ℕ) : Type 0 where
-  pub view : knows new ≡ released_with (knows old) (old.committed + count)
+  pub view : knows new ≡ released_with (having_sealed (knows old) old.committed count)
+      (old.committed + count)
   pub within : old.committed + count ≤ turn_count (knows old).dict
   pub whole : (knows old).share ≡ (knows old).workers → (knows old).core.done ≡ true
       → old.committed + count ≡ turn_count (knows old).dict
@@ -35,7 +36,8 @@ pub record IsMiss (old new : WorkSeat) : Type 0 where
 -- the seat after it took the mark with this number, committed so many turns, and gave the mark
 -- back with their sum
 abbrev pub swept : SeatKnows → ℕ → ℕ → SeatKnows
-swept x number count = released_with (tried x false number) (number + count)
+swept x number count =
+    released_with (having_sealed (tried x false number) number count) (number + count)
 
 -- the mark was free: there is a word found that says so, from whose number on so many turns were
 -- committed. A done seat with every share has committed every turn left

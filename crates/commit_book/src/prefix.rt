@@ -4,7 +4,7 @@ ghost use Rattle.std.specs.Prelude.{◌≡◌, ◌+◌};
 ghost use Rattle.interleaving_core.specs.declared.parts.Phase.TheVariants.{Idle, Scan};
 ghost use Rattle.interleaving_core.specs.Core.{hold_at};
 ghost use Rattle.word_rule.specs.Rounds.{IsSeatOf, Stays, dict_of, knows};
-ghost use Rattle.word_rule.specs.Holder.{as_holder};
+ghost use Rattle.word_rule.specs.Holder.{having_sealed};
 ghost use Rattle.commit_book.specs.Holder.{MayTake};
 ghost use Rattle.commit_book.specs.Prefix.{IsSettled, HasSwept, IsPrefixCommit};
 
@@ -13,7 +13,8 @@ use market::Dict;
 use word_rule::{SharedRound, WorkSeat, raise_step};
 
 /// Takes the mark, commits turns in their order until a look gives `None`, gives the mark back,
-/// and answers how many turns it committed: what its release wrote less what its take found.
+/// and answers how many turns it committed: so many turns more has its seat committed in all, and
+/// so many more stand in what its release wrote than in what its take found.
 /// `None` comes exactly where the take found the mark held. A done seat with every share never
 /// gets `None`, and has then committed every turn of the round.
 pub fn commit_prefix(round: &SharedRound, dict: &Dict, me: &mut WorkSeat) -> Option<u32>
@@ -54,7 +55,7 @@ pub fn commit_turn(round: &SharedRound, dict: &Dict, me: &mut WorkSeat, place: u
     requires scan { (knows me.old).core.hold ≡ hold_at me.old.committed (Scan place) }
     ensures stays { Stays me.old me.new }
     ensures turn { result ≡ me.old.committed }
-    ensures view { knows me.new ≡ as_holder (knows me.old) (me.old.committed + 1) Idle }
+    ensures view { knows me.new ≡ having_sealed (knows me.old) me.old.committed 1 }
 {
     settle(round, dict, me, place);
     seal(round, dict, me)

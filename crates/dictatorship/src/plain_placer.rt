@@ -1,8 +1,11 @@
 // The mechanism as a placer.
 
 ghost use Rattle.std.specs.Prelude.{◌≡◌, ◌+◌, IfOk};
+ghost use Rattle.std.specs.Result.{IfErr};
 ghost use Rattle.std.specs.Thread.{IsSync};
+ghost use Rattle.market.specs.Counting.{HasRisenWithin};
 ghost use Rattle.market.specs.Mechanism.{mechanism, mechanism_placement, mechanism_rounds, mechanism_cuts};
+ghost use Rattle.market.specs.Reruns.{placement_turns};
 
 use crate::mechanism_plain;
 use market::{Market, Outcome, Placer, Steps};
@@ -16,7 +19,7 @@ pub struct PlainPlacer;
 
 impl Placer for PlainPlacer {
     /// The outcome of `mechanism_plain`. The counter rises by its turns: all turns of all types in
-    /// each round.
+    /// each round; where memory is refused, it stands still.
     #[tactic(auto, unfolding(market::specs::Mechanism::mechanism))]
     fn place<R: Threads + Sync, L: Ledger>(
         &mut self,
@@ -33,6 +36,9 @@ impl Placer for PlainPlacer {
         ensures whole_rounds { IfOk result (λ outcome. outcome.turns
             ≡ (mechanism market.now).turns) }
         ensures turns { IfOk result (λ outcome. turns.new ≡ turns.old + outcome.turns) }
+        ensures still { IfErr result (λ _. turns.new ≡ turns.old) }
+        ensures refused { IfErr result (λ _. HasRisenWithin turns.old turns.new
+            (placement_turns market.now)) }
     {
         let outcome = mechanism_plain(alloc, market)?;
         turns.count(outcome.turns);

@@ -1,3 +1,5 @@
 mod Turns
 mod Points
 mod Teams
+mod Seats
+mod ManyTurns

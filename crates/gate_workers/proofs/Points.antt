@@ -51,15 +51,22 @@ has_looked at mid answer look =
           record { hold = hold_at look.committed (phase_after_look saw.found); view = saw.view }
     ]
 
+-- the seat after a try that took the mark with this number, with so many turns committed now, and
+-- so many by this seat in all
+abbrev pub at_work : SeatKnows → ℕ → ℕ → ℕ → SeatKnows
+at_work x number count sealed =
+    record (as_holder (tried x false number) count Idle) { sealed = sealed }
+
 -- a release after a try that took the mark, and a look
-pub has_released : (old at mid new : WorkSeat) (number count : ℕ) (answer : Option ℕ)
+pub has_released : (old at mid new : WorkSeat) (number count sealed : ℕ) (answer : Option ℕ)
     → (knows old).core.done ≡ false → MayTake old
-    → knows at ≡ as_holder (tried (knows old) false number) count Idle
+    → knows at ≡ at_work (knows old) number count sealed
     → IsLook at mid answer → IsRelease mid new → HasCome (knows new) (Released mid.committed)
-has_released old at mid new number count answer working may took look free =
+has_released old at mid new number count sealed answer working may took look free =
     let same = held mid free.committed free.phase free.hold in
     let looked = has_looked at mid answer look in
-    let view : knows new ≡ released_with (tried (knows old) false number) free.committed =
+    let view : knows new
+    ≡ released_with (record (tried (knows old) false number) { sealed = sealed }) free.committed =
     free.view
     ∙ (ap (λ (x : SeatKnows). released_with x free.committed) looked.view
     ∙ ap (λ (x : SeatKnows). released_with x free.committed) took) in

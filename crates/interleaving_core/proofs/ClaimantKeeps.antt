@@ -247,7 +247,7 @@ read_keeps d c i v k j s at ok = by (is_open d c (entry d k j)) refl
 -- ---- a post
 
 -- a claimed turn has an empty cell
-claimed_open : (d : Dictatorship) (c : Core) (s : IsSound d c) (i : ℕ) (v : View) (x : Claiming)
+pub claimed_open : (d : Dictatorship) (c : Core) (s : IsSound d c) (i : ℕ) (v : View) (x : Claiming)
     → slice_get c.views i ≡ Some v → v.claim ≡ Some x → cell_at c x.turn ≡ Empty
 claimed_open d c s i v x at is =
     let f = (s.views i v at).claim x is in

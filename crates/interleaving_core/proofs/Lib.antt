@@ -6,6 +6,7 @@ pub mod Views
 pub mod Holder
 pub mod ClaimantKeeps
 pub mod HolderKeeps
+pub mod Counts
 pub mod Keeps
 pub mod Prefix
 pub mod Machines

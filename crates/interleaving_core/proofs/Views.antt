@@ -1,6 +1,6 @@
 -- What views know stays true where the state grows: claims and seat counts rise, and a cell is
 -- posted and then committed, never the other way.
-use Rattle.std.proofs.Common.{◌≡◌, ◌≢◌, ℕ, ◌≤◌, Bool, List, set, Option, Some, nat_le, sym, refl, ap, subst, ◌∙◌, arith}
+use Rattle.std.proofs.Common.{◌≡◌, ◌≢◌, ℕ, zero, suc, ◌≤◌, Bool, List, [], ◌∷◌, set, Option, Some, nat_le, sym, refl, ap, subst, ◌∙◌, arith}
 use Rattle.std.specs.Prelude.{slice_get}
 use Rattle.market.specs.Dictatorships.{Dictatorship}
 use Rattle.interleaving_core.specs.declared.parts.Cell.{Cell}
@@ -18,6 +18,13 @@ use Rattle.interleaving_core.proofs.OwnTurns.{own_stays}
 -- what holds of the value that is there
 pub at_some : {A : Type 0} (P : A → Type 0) (a : A) → P a → (b : A) → Some a ≡ Some b → P b
 at_some P a p b e = let is : a ≡ b = cc (e) in subst P is p
+
+-- what was written at a place stands there
+pub here_set : {A : Type 0} (l : List A) (i : ℕ) (x y : A) → slice_get l i ≡ Some x
+    → slice_get (set l i y) i ≡ Some y
+here_set [] i x y e = absurd (cc (e))
+here_set (z ∷ zs) zero x y e = refl
+here_set (z ∷ zs) (suc i) x y e = here_set zs i x y e
 
 -- ---- the state grows
 

@@ -37,6 +37,15 @@ fn empty_places(alloc: Global) -> Result<Dict, AllocError>
     Ok(Dict::from_parts(quota, fill, lists))
 }
 
+// One turn, which lists a programme without a seat first.
+fn one_turn(alloc: Global) -> Result<Dict, AllocError> {
+    let quota = vec![in alloc; 0, 1]?;
+    let fill = vec![in alloc; 0, 0]?;
+    let list = List::from_slice(alloc, &[0, 1])?;
+    let lists = vec![in alloc; list]?;
+    Ok(Dict::from_parts(quota, fill, lists))
+}
+
 // Makes these events of so many workers in turn, and compares what each tells: `None` where it is
 // not allowed.
 fn play(
@@ -128,12 +137,10 @@ fn nothing_is_allowed_out_of_turn(rt: HostRuntime) -> Result<(), Fail> {
     Ok(())
 }
 
-// The seat taken is the programme's last: its turn is committed once the flag is raised, and the
-// next turn passes the programme by its flag.
+// An entry is read once its flag was looked at, which is looked at once, and a flag is raised once
+// its programme is filled.
 #[test]
-fn a_filled_programme_is_passed_by_its_flag(rt: HostRuntime) -> Result<(), Fail> {
-    let alloc = rt.alloc();
-    let mut state = CoreState::open(alloc, two_turns(alloc)?, 1)?;
+fn flags_are_looked_at_first_and_raised_last(rt: HostRuntime) -> Result<(), Fail> {
     let script = [
         (0, Claim, Some(Told::Claimed(0))),
         (0, Read, None),
@@ -145,6 +152,26 @@ fn a_filled_programme_is_passed_by_its_flag(rt: HostRuntime) -> Result<(), Fail>
         (0, Look, Some(Told::Found(0))),
         (0, Weigh, Some(Told::Room)),
         (0, Raise, None),
+    ];
+    let stands = two_turns_after(&rt, rt.alloc(), &script)?;
+    assert_eq!(rt; stands, ((Cell::Posted(0), Cell::Empty), 0, (0, 0)));
+    Ok(())
+}
+
+// The seat taken is the programme's last: its turn is committed once the flag is raised, and the
+// next turn passes the programme by its flag, so that it meets and posts its second entry.
+#[test]
+fn a_filled_programme_is_passed_by_its_flag(rt: HostRuntime) -> Result<(), Fail> {
+    let alloc = rt.alloc();
+    let mut state = CoreState::open(alloc, two_turns(alloc)?, 1)?;
+    let script = [
+        (0, Claim, Some(Told::Claimed(0))),
+        (0, Flags, Some(Told::Flags(0))),
+        (0, Read, Some(Told::Met)),
+        (0, Post, Some(Told::Posted(0))),
+        (0, Take, Some(Told::Took(0))),
+        (0, Look, Some(Told::Found(0))),
+        (0, Weigh, Some(Told::Room)),
         (0, Seat, Some(Told::Seated(true))),
         (0, Seal, None),
         (0, Raise, Some(Told::Raised(0))),
@@ -164,7 +191,7 @@ fn a_filled_programme_is_passed_by_its_flag(rt: HostRuntime) -> Result<(), Fail>
 #[test]
 fn a_programme_without_a_seat_has_its_flag_raised(rt: HostRuntime) -> Result<(), Fail> {
     let alloc = rt.alloc();
-    let mut state = CoreState::open(alloc, empty_places(alloc)?, 1)?;
+    let mut state = CoreState::open(alloc, one_turn(alloc)?, 1)?;
     let script = [
         (0, Claim, Some(Told::Claimed(0))),
         (0, Flags, Some(Told::Flags(1))),

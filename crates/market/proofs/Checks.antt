@@ -1,14 +1,14 @@
 -- Tests that compute whether a problem or a dictatorship that is written out is valid. To show that
 -- one is, cite `valid_from` with `refl` for each test, under an `unfolding` line with the tests and
 -- `computes`.
-use Rattle.std.proofs.Common.{◌≡◌, ℕ, zero, suc, ◌<◌, Bool, true, not, ◌&&◌, eqb, ltb, leb, List, length, refl, sym, ap, ◌∙◌, arith, ⊎_elim, subst, [], ◌∷◌}
+use Rattle.std.proofs.Common.{◌≡◌, ℕ, zero, suc, ◌<◌, Bool, true, not, ◌&&◌, eqb, ltb, leb, List, length, Option, Some, None, refl, sym, ap, ◌∙◌, arith, ⊎_elim, subst, [], ◌∷◌}
 use Rattle.std.specs.Prelude.{slice_index}
 use Rattle.std.proofs.lemmas.Bool.{and_parts, cases_lt, ltb-true, leb-true, eqb-true, eq-eqb, false≢true, not-true}
 use Rattle.market.specs.declared.programme.Prog.{Prog}
 use Rattle.market.specs.declared.limits.TheConstants.{MAX_TYPES, MAX_PROGRAMMES, MAX_CANDIDATES, MAX_ENTRIES, MAX_QUOTA, MAX_RANK}
-use Rattle.market.specs.Problems.{Problem, problem, IsValid, HasNoRepeats, kind_of, quota_of, list_of, order_of, ranks_of}
+use Rattle.market.specs.Problems.{Problem, problem, IsValid, IsBar, HasNoRepeats, kind_of, quota_of, bar_of, list_of, order_of, ranks_of}
 use Rattle.market.specs.Dictatorships.{Dictatorship, dictatorship, IsValidDictatorship, list_at}
-use Rattle.market.specs.Examples.{exchange, freed_seat, three_rounds, two_turns}
+use Rattle.market.specs.Examples.{exchange, freed_seat, three_rounds, rank_bars, two_turns}
 use Rattle.market.proofs.Computes.{computes}
 
 -- whether all numbers below n pass the test
@@ -45,10 +45,23 @@ abbrev pub all_rise : List ℕ → Bool
 all_rise xs = all_below (λ k. all_below (λ j. ltb (slice_index xs j) (slice_index xs k)) k) (length
     xs)
 
--- whether each programme's type and quota are in range
+-- whether a bar, if there is one, is in the range of ranks
+abbrev pub bar_fits : Option ℕ → Bool
+bar_fits None = true
+bar_fits (Some bar) = leb 1 bar && leb bar MAX_RANK
+
+-- then it is a bar
+bar-from : (bar : Option ℕ) → bar_fits bar ≡ true → IsBar bar
+bar-from None e = tt
+bar-from (Some bar) e =
+    let b = and_parts (leb 1 bar) (leb bar MAX_RANK) e in
+    (leb-true _ _ b.0, leb-true _ _ b.1)
+
+-- whether each programme's type, quota and bar are in range
 unfoldable pub programmes_fit : Problem → Bool
 programmes_fit m =
-    all_below (λ p. ltb (kind_of m p) m.types && leb (quota_of m p) MAX_QUOTA) (length m.programmes)
+    all_below (λ p. (ltb (kind_of m p) m.types && leb (quota_of m p) MAX_QUOTA)
+    && bar_fits (bar_of m p)) (length m.programmes)
 
 -- whether each list is short, names programmes, and names none twice
 unfoldable pub lists_fit : Problem → Bool
@@ -91,8 +104,11 @@ valid_from m c p l o r =
       candidates = leb-true _ _ c2.0;
       orders = eqb-true _ _ c3.0;
       ranks = eqb-true _ _ c3.1;
-      kinds = λ q lq. ltb-true _ _ (and_parts _ _ (all_below_at _ _ q p lq)).0;
-      quotas = λ q lq. leb-true _ _ (and_parts _ _ (all_below_at _ _ q p lq)).1;
+      kinds =
+          λ q lq. ltb-true _ _ (and_parts _ _ (and_parts _ _ (all_below_at _ _ q p lq)).0).0;
+      quotas =
+          λ q lq. leb-true _ _ (and_parts _ _ (and_parts _ _ (all_below_at _ _ q p lq)).0).1;
+      bars = λ q lq. bar-from (bar_of m q) (and_parts _ _ (all_below_at _ _ q p lq)).1;
       list_lengths = λ i li. leb-true _ _ (and_parts _ _ (all_below_at _ _ i l li)).0;
       list_entries =
           λ i k li lk. ltb-true _ _
@@ -129,6 +145,11 @@ pub three_rounds_valid : IsValid three_rounds
 unfolding computes counts_fit programmes_fit lists_fit orders_fit ranks_fit
 three_rounds_valid = valid_from three_rounds refl refl refl refl refl
 
+-- so is the one with bars
+pub rank_bars_valid : IsValid rank_bars
+unfolding computes counts_fit programmes_fit lists_fit orders_fit ranks_fit
+rank_bars_valid = valid_from rank_bars refl refl refl refl refl
+
 -- a market that is built of these parts is valid where they are those of a valid problem
 pub parts_valid : (m : Problem) (programmes : List Prog) (lists orders ranks : List (List ℕ))
     → IsValid m → programmes ≡ m.programmes → lists ≡ m.lists → orders ≡ m.orders → ranks ≡ m.ranks
@@ -138,15 +159,15 @@ parts_valid m programmes lists orders ranks v p l o r =
     = λ i. problem m.types (sym p i) (sym l i) (sym o i) (sym r i) in
     subst IsValid same v
 
--- lists made of equal lists are equal
-pub two_lists : (x y u v : List ℕ) (all : List (List ℕ)) → all ≡ x ∷ y ∷ [] → x ≡ u → y ≡ v
+-- two equal items make equal lists
+pub two_items : {A : Type 0} (x y u v : A) (all : List A) → all ≡ x ∷ y ∷ [] → x ≡ u → y ≡ v
     → all ≡ u ∷ v ∷ []
-two_lists x y u v all e a b = e ∙ (λ i. a i ∷ b i ∷ [])
+two_items x y u v all e a b = e ∙ (λ i. a i ∷ b i ∷ [])
 
--- the same of three lists
-pub three_lists : (x y z u v w : List ℕ) (all : List (List ℕ)) → all ≡ x ∷ y ∷ z ∷ [] → x ≡ u
+-- and so do three
+pub three_items : {A : Type 0} (x y z u v w : A) (all : List A) → all ≡ x ∷ y ∷ z ∷ [] → x ≡ u
     → y ≡ v → z ≡ w → all ≡ u ∷ v ∷ w ∷ []
-three_lists x y z u v w all e a b c = e ∙ (λ i. a i ∷ b i ∷ c i ∷ [])
+three_items x y z u v w all e a b c = e ∙ (λ i. a i ∷ b i ∷ c i ∷ [])
 
 -- ---- dictatorships that are written out
 

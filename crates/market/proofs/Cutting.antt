@@ -16,6 +16,7 @@ use Rattle.market.specs.declared.programme.Prog.{Prog}
 use Rattle.market.proofs.Turns.{one_more, no_more, is_programme-from, some_from}
 use Rattle.market.proofs.Counts.{suc_count, count_some_two}
 use Rattle.market.proofs.Tentatives.{turn_at, candidate_at}
+use Rattle.market.proofs.Valid.{kind_lt}
 
 -- who has several choices keeps the list up to and with the best of them
 pub cut-several : (m : Problem) (c : ℕ → ℕ → Option ℕ) (cuts : List ℕ) (i : ℕ)
@@ -280,15 +281,16 @@ IsFirstUpto-cut m table old t k o new w e f =
 
 -- after all candidates this is the first changed turn of the type
 pub IsFirstUpto-all : (m : Problem) → IsValid m
-    → (c : ℕ → ℕ → Option ℕ) (old : List ℕ) (t k : ℕ) (o : Option ℕ) → t < m.types
+    → (c : ℕ → ℕ → Option ℕ) (old : List ℕ) (t k : ℕ) (o : Option ℕ)
     → k ≡ length m.lists → IsFirstUpto m c old t k o → o ≡ changed_turn m c old t
 unfolding changed_turn
-IsFirstUpto-all m v c old t k o lt e f =
+IsFirstUpto-all m v c old t k o e f =
     let n = length (order_of m t) in
     let away = is_cut_away m c old t in
     let at = position_or_len_is away (order_of m t) f.turn 0 f.within
     (λ j lj.
     let i = slice_index (order_of m t) j in
+    let lt = kind_lt m v t j (omega (arith, f.within)) in
     let li = v.order_entries t j lt (omega (arith, f.within)) in
     let back = turn_at m v t j lt (omega (arith, f.within)) in
     ⊎_elim

@@ -19,6 +19,8 @@ pub mod Locals
 pub mod Cutting
 pub mod Reruns
 pub mod Replays
+-- a market with one quota changed
+pub mod Quotas
 -- what a market keeps
 pub mod Tables
 pub mod Members

@@ -2,13 +2,13 @@
 -- cut that is of the type and has a seat left at the candidate's turn.
 use Rattle.std.proofs.Common.{◌≡◌, ℕ, zero, suc, ◌<◌, ◌≤◌, Bool, true, ◌&&◌, List, [], ◌∷◌, length, Option, Some, None, refl, sym, ap, ◌∙◌, arith, get_or, ⊎_elim, map, take, replicate}
 use Rattle.std.specs.Prelude.{find, ◌==◌, slice_index}
-use Rattle.std.proofs.lemmas.Bool.{cases_lt, eqb-true, eq-eqb, ne_eqb, and_parts, and_from}
+use Rattle.std.proofs.lemmas.Bool.{cases_lt, cases_Bool, eqb-true, eq-eqb, ne_eqb, and_parts, and_from}
 use Rattle.std.proofs.lemmas.List.{get_or_past, get_or_append_left, get_or_push, get_or-replicate, length-replicate, length-map, get_or-map}
 use Rattle.std.proofs.Math.ListN.{get_or-map as get_or-map_past}
 use Rattle.std.proofs.lemmas.List.Sums.{position_or_len_is}
 use Rattle.std.proofs.lemmas.Option.{none-some}
 use Rattle.market.specs.declared.programme.Prog.{Prog}
-use Rattle.market.specs.Problems.{Problem, IsValid, place_of, programme_at, kind_of, quota_of, list_of, order_of, turn_of}
+use Rattle.market.specs.Problems.{Problem, IsValid, place_of, programme_at, no_programme, kind_of, quota_of, bar_of, list_of, order_of, turn_of, rank_of, admits, admits_rank}
 use Rattle.market.specs.Dictatorships.{Dictatorship, picks, pick, list_at, seats_taken}
 use Rattle.market.specs.Mechanism.{is_offered, turn_list, type_dictatorship, tentative}
 use Rattle.market.proofs.Firsts.{find_take, find_first_take, find-filter, place_get}
@@ -53,7 +53,7 @@ pub type-quota : (m : Problem) (cuts : List ℕ) (t p : ℕ)
     → slice_index (type_dictatorship m cuts t).quota p ≡ quota_of m p
 unfolding type_dictatorship quota_of
 type-quota m cuts t p =
-    get_or-map_past (λ (q : Prog). q.quota) m.programmes p (record { kind = 0; quota = 0 })
+    get_or-map_past (λ (q : Prog). q.quota) m.programmes p no_programme
 
 -- zero anywhere
 pub zeros : (n p : ℕ) → slice_index (replicate n 0) p ≡ 0
@@ -88,18 +88,43 @@ type-list_past m cuts t k l =
 -- what is offered is of the type
 pub offered-kind : (m : Problem) (t i p : ℕ) → is_offered m t i p ≡ true → kind_of m p ≡ t
 unfolding is_offered
-offered-kind m t i p e = eqb-true (kind_of m p) t e
+offered-kind m t i p e =
+    eqb-true (kind_of m p) t (and_parts (kind_of m p == t) (admits m p i) e).0
 
--- what is of the type is offered
-pub offered-from : (m : Problem) (t i p : ℕ) → kind_of m p ≡ t → is_offered m t i p ≡ true
+-- and admits the candidate
+pub offered-admits : (m : Problem) (t i p : ℕ) → is_offered m t i p ≡ true → admits m p i ≡ true
 unfolding is_offered
-offered-from m t i p e = eq-eqb (kind_of m p) t e
+offered-admits m t i p e = (and_parts (kind_of m p == t) (admits m p i) e).1
 
--- as a call reads it: the type of the programme that it looks up
-pub offered-is : (m : Problem) (t i p : ℕ) (q : Prog) → q ≡ programme_at m p
-    → is_offered m t i p ≡ (q.kind == t)
-unfolding is_offered kind_of
-offered-is m t i p q e = ap (λ (x : Prog). x.kind == t) (sym e)
+-- what is of the type and admits the candidate is offered
+pub offered-from : (m : Problem) (t i p : ℕ) → kind_of m p ≡ t → admits m p i ≡ true
+    → is_offered m t i p ≡ true
+unfolding is_offered
+offered-from m t i p e a =
+    and_from (kind_of m p == t) (admits m p i) (eq-eqb (kind_of m p) t e) a
+
+-- the rank in the programme's type is that in type t, where the two are the same type
+offered-rank : (m : Problem) (t i p : ℕ)
+    → is_offered m t i p ≡ ((kind_of m p == t) && admits_rank (bar_of m p) (rank_of m t i))
+unfolding is_offered admits
+offered-rank m t i p =
+    let bar = bar_of m p in
+    ⊎_elim
+    (λ same. ap (λ (u : ℕ). (kind_of m p == t) && admits_rank bar (rank_of m u i))
+    (eqb-true (kind_of m p) t same))
+    (λ other.
+    ap (λ b. b && admits_rank bar (rank_of m (kind_of m p) i)) other
+    ∙ sym (ap (λ b. b && admits_rank bar (rank_of m t i)) other))
+    (cases_Bool (kind_of m p == t))
+
+-- as a call reads it: by the programme that it looks up, and the candidate's rank in the type
+pub offered-is : (m : Problem) (t i p : ℕ) (q : Prog) (rank : Option ℕ) → q ≡ programme_at m p
+    → rank ≡ rank_of m t i → is_offered m t i p ≡ ((q.kind == t) && admits_rank q.bar rank)
+unfolding kind_of bar_of
+offered-is m t i p q rank e r =
+    offered-rank m t i p
+    ∙ ap (λ (o : Option ℕ). (kind_of m p == t) && admits_rank (bar_of m p) o) (sym r)
+    ∙ ap (λ (x : Prog). (x.kind == t) && admits_rank x.bar rank) (sym e)
 
 -- ---- what a candidate takes
 

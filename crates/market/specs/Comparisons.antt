@@ -1,6 +1,6 @@
 -- One placement compared with another, candidate by candidate, and one market with a wider one.
 use Rattle.std.specs.Prelude.{◌≡◌, ℕ, ◌≤◌, List, Option, Some, None}
-use Rattle.market.specs.Problems.{Problem, place_of, kind_of, quota_of, list_of}
+use Rattle.market.specs.Problems.{Problem, place_of, kind_of, quota_of, bar_of, list_of}
 use Rattle.market.specs.Stability.{held_by, IsStable}
 
 -- what is held is at least what is given: who is given p holds p or a programme listed higher, and
@@ -22,6 +22,7 @@ pub record Widens (m wider : Problem) : Type 0 where
   pub orders : wider.orders ≡ m.orders
   pub ranks : wider.ranks ≡ m.ranks
   pub kinds : (p : ℕ) → kind_of wider p ≡ kind_of m p
+  pub bars : (p : ℕ) → bar_of wider p ≡ bar_of m p
   pub quotas : (p : ℕ) → quota_of m p ≤ quota_of wider p
 
 -- stable, and in every stable placement each candidate holds the same programme or one listed

@@ -1,5 +1,5 @@
 -- Counts and sums.
-use Rattle.std.specs.Prelude.{ℕ, zero, suc, ◌+◌, Bool, false, List, Option, Some, None, ◌==◌, count_by, if◌then◌else◌}
+use Rattle.std.specs.Prelude.{ℕ, zero, suc, ◌+◌, ◌≤◌, Bool, false, List, Option, Some, None, ◌==◌, count_by, if◌then◌else◌}
 
 -- how many numbers below n pass the test
 abbrev pub count_below : (ℕ → Bool) → ℕ → ℕ
@@ -19,3 +19,7 @@ is_programme p (Some q) = q == p
 -- how many of these are the programme p
 abbrev pub count_of : ℕ → List (Option ℕ) → ℕ
 count_of p given = count_by (is_programme p) given
+
+-- a counter has risen by at most so many
+abbrev pub HasRisenWithin : ℕ → ℕ → ℕ → Type 0
+HasRisenWithin old new most = (old ≤ new) × (new ≤ old + most)

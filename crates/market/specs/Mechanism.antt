@@ -1,20 +1,21 @@
 -- The multi-category serial dictatorship, by whole rounds.
-use Rattle.std.specs.Prelude.{◌≡◌, ℕ, zero, suc, ◌+◌, ◌*◌, ◌<◌, ◌≤◌, Bool, List, map, length, take, replicate, IsTrue, Option, None, is_some, ◌==◌, nat_lt, filter, if◌then◌else◌, slice_get, slice_index, slice_index_or}
+use Rattle.std.specs.Prelude.{◌≡◌, ℕ, zero, suc, ◌+◌, ◌*◌, ◌<◌, ◌≤◌, Bool, List, map, length, take, replicate, IsTrue, Option, None, ◌&&◌, is_some, ◌==◌, nat_lt, filter, if◌then◌else◌, slice_get, slice_index, slice_index_or}
 use Rattle.std.specs.List.{position_or_len, range_with_len}
 use Rattle.market.specs.declared.programme.Prog.{Prog}
 use Rattle.market.specs.declared.placement.Outcome.{Outcome}
 use Rattle.market.specs.Counting.{count_below, sum_below, is_programme}
 use Rattle.market.specs.Dictatorships.{Dictatorship, picks}
-use Rattle.market.specs.Problems.{Problem, kind_of, list_of, order_of, turn_of}
+use Rattle.market.specs.Problems.{Problem, kind_of, list_of, order_of, turn_of, admits}
 
 -- ---- one round: a dictatorship for each type
 
--- whether a turn of type t may take the programme: it is one of the type
+-- whether the candidate's turn in type t may take the programme: it is one of the type, and admits
+-- the candidate
 unfoldable pub is_offered : Problem → ℕ → ℕ → ℕ → Bool
-is_offered m t i p = kind_of m p == t
+is_offered m t i p = (kind_of m p == t) && admits m p i
 
 -- the list of a candidate's turn in a type: the preference list up to the cut, restricted to the
--- type
+-- programmes of the type that are acceptable to the candidate
 unfoldable pub turn_list : Problem → List ℕ → ℕ → ℕ → List ℕ
 turn_list m cuts t i = filter (is_offered m t i) (take (slice_index cuts i) (list_of m i))
 

@@ -24,7 +24,8 @@ pub record FlatTypeLists : Type 0 where
   pub places : List ℕ
   pub bounds : List ℕ
 
--- the programmes that a candidate's turn in a type may take, as local numbers
+-- the programmes that a candidate's turn in a type may take, as local numbers: listed, of the type,
+-- and admitting the candidate
 unfoldable pub type_items : Problem → ℕ → ℕ → List ℕ
 type_items m t i = map (local_of m) (filter (is_offered m t i) (list_of m i))
 

@@ -6,7 +6,7 @@ ghost use Rattle.market.specs.Problems.{IsValid};
 ghost use Rattle.market.specs.Dictatorships.{choices, IsValidDictatorship};
 ghost use Rattle.market.specs.Mechanism.{mechanism};
 ghost use Rattle.market.specs.Reruns.{placement_turns};
-ghost use Rattle.market.specs.Examples.{exchange, freed_seat, three_rounds, two_turns};
+ghost use Rattle.market.specs.Examples.{exchange, freed_seat, three_rounds, rank_bars, two_turns, prog};
 
 use crate::{Dict, List, Market, Prog};
 use std::alloc::{AllocError, Global};
@@ -15,7 +15,7 @@ use std::alloc::{AllocError, Global};
 pub fn exchange(alloc: Global) -> Result<Market, AllocError>
     ensures { IfOk result (λ m. m ≡ exchange) }
 {
-    let programmes = vec![in alloc; Prog { kind: 0, quota: 1 }, Prog { kind: 1, quota: 1 }]?;
+    let programmes = vec![in alloc; one_seat(0), one_seat(1)]?;
     let lists = two_lists(alloc, &[0, 1], &[1, 0])?;
     let orders = two_lists(alloc, &[1, 0], &[0, 1])?;
     let ranks = two_lists(alloc, &[1, 2], &[1, 2])?;
@@ -26,7 +26,7 @@ pub fn exchange(alloc: Global) -> Result<Market, AllocError>
 pub fn freed_seat(alloc: Global) -> Result<Market, AllocError>
     ensures { IfOk result (λ m. m ≡ freed_seat) }
 {
-    let programmes = vec![in alloc; Prog { kind: 0, quota: 1 }, Prog { kind: 1, quota: 1 }]?;
+    let programmes = vec![in alloc; one_seat(0), one_seat(1)]?;
     let lists = two_lists(alloc, &[0, 1], &[1])?;
     let orders = two_lists(alloc, &[0, 1], &[0, 1])?;
     let ranks = two_lists(alloc, &[1, 2], &[1, 2])?;
@@ -37,17 +37,35 @@ pub fn freed_seat(alloc: Global) -> Result<Market, AllocError>
 pub fn three_rounds(alloc: Global) -> Result<Market, AllocError>
     ensures { IfOk result (λ m. m ≡ three_rounds) }
 {
-    let programmes = vec![in alloc;
-        Prog { kind: 0, quota: 1 },
-        Prog { kind: 0, quota: 1 },
-        Prog { kind: 1, quota: 1 },
-    ]?;
+    let programmes = vec![in alloc; one_seat(0), one_seat(0), one_seat(1)]?;
     let first = List::from_slice(alloc, &[0, 2])?;
     let second = List::from_slice(alloc, &[2, 0, 1])?;
     let third = List::from_slice(alloc, &[1])?;
     let lists = vec![in alloc; first, second, third]?;
     let orders = two_lists(alloc, &[0, 1, 2], &[0, 1, 2])?;
     let ranks = two_lists(alloc, &[1, 2, 3], &[1, 2, 3])?;
+    Market::build(alloc, 2, programmes, lists, orders, ranks)
+}
+
+/// Each candidate is one behind the bar of the first wish, and exactly at that of the second.
+pub fn rank_bars(alloc: Global) -> Result<Market, AllocError>
+    ensures { IfOk result (λ m. m ≡ rank_bars) }
+{
+    let programmes = vec![in alloc;
+        Prog {
+            kind: 0,
+            quota: 2,
+            bar: Some(50)
+        },
+        Prog {
+            kind: 1,
+            quota: 2,
+            bar: Some(7)
+        },
+    ]?;
+    let lists = two_lists(alloc, &[1, 0], &[0, 1])?;
+    let orders = two_lists(alloc, &[0, 1], &[1, 0])?;
+    let ranks = two_lists(alloc, &[50, 51], &[7, 8])?;
     Market::build(alloc, 2, programmes, lists, orders, ranks)
 }
 
@@ -59,6 +77,17 @@ pub fn two_turns(alloc: Global) -> Result<Dict, AllocError>
     let fill = vec![in alloc; 0, 0]?;
     let lists = two_lists(alloc, &[0], &[0, 1])?;
     Ok(Dict::from_parts(quota, fill, lists))
+}
+
+// A programme of a type with one seat and no bar.
+fn one_seat(kind: u32) -> Prog
+    ensures { result ≡ prog kind 1 }
+{
+    Prog {
+        kind,
+        quota: 1,
+        bar: None,
+    }
 }
 
 // Two lists.
@@ -75,6 +104,7 @@ pub fn examples_are_valid()
     ensures exchange { IsValid exchange }
     ensures freed_seat { IsValid freed_seat }
     ensures three_rounds { IsValid three_rounds }
+    ensures rank_bars { IsValid rank_bars }
     ensures two_turns { IsValidDictatorship two_turns }
 {}
 
@@ -110,6 +140,17 @@ pub fn three_rounds_placement()
     ensures cuts { (mechanism three_rounds).cuts ≡ 2 }
     ensures whole_rounds { (mechanism three_rounds).turns ≡ 18 }
     ensures reruns { placement_turns three_rounds ≡ 11 }
+{}
+
+/// Each candidate gets the second wish, since the bar of the first one excludes by one rank whom
+/// that of the second just admits. One round, no cut, four turns.
+#[tactic(auto, unfolding(crate::proofs::Computes::computes))]
+pub fn rank_bars_placement()
+    ensures placement { (mechanism rank_bars).placement ≡ Option.Some 0 ∷ Option.Some 1 ∷ [] }
+    ensures rounds { (mechanism rank_bars).rounds ≡ 1 }
+    ensures cuts { (mechanism rank_bars).cuts ≡ 0 }
+    ensures whole_rounds { (mechanism rank_bars).turns ≡ 4 }
+    ensures reruns { placement_turns rank_bars ≡ 4 }
 {}
 
 /// The first turn takes the only programme it lists; the second, which lists it first, the other.

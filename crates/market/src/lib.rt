@@ -11,7 +11,7 @@
 mod limits;
 // A list of numbers.
 mod list;
-// A programme: its score type and its quota.
+// A programme: its score type, its quota and its rank bar.
 mod programme;
 // What each candidate holds, and the outcome of a placement.
 mod placement;
@@ -51,6 +51,7 @@ pub use dict::Dict;
 pub use limits::{MAX_CANDIDATES, MAX_ENTRIES, MAX_PROGRAMMES, MAX_QUOTA, MAX_RANK, MAX_TYPES};
 pub use list::List;
 pub use market::Market;
+pub use parts::MarketParts;
 pub use placement::{Outcome, Placement};
 pub use placer::Placer;
 pub use programme::Prog;

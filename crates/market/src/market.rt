@@ -1,7 +1,8 @@
 // A market: a placement problem with the tables that make its look-ups quick.
 
 ghost use Rattle.std.specs.Prelude.{◌≡◌, ◌<◌, ◌≤◌, length, slice_index, map, drop, IfOk};
-ghost use Rattle.market.specs.Problems.{IsValid, problem, list_of, order_of, rank_of, turn_of, programme_at, quota_of};
+ghost use Rattle.market.specs.declared.limits.TheConstants.{MAX_QUOTA};
+ghost use Rattle.market.specs.Problems.{IsValid, problem, list_of, order_of, rank_of, turn_of, programme_at, quota_of, admits, with_quota};
 ghost use Rattle.market.specs.Mechanism.{IsCuts};
 ghost use Rattle.market.specs.LocalNumbers.{programmes_of, local_of, local_dictatorship, local_list as local_turn_list, IsFill, IsFillBefore, ChoosesAlike};
 ghost use Rattle.market.specs.Tables.{IsLocals};
@@ -12,13 +13,13 @@ use crate::flat_lists::{FlatLists, first_bound};
 use crate::parts::Parts;
 use crate::type_lists::{TypeLists, add_turn, all_type_lists};
 use crate::type_lists_by::type_lists_by;
-use crate::{Cuts, Dict, List, Prog};
+use crate::{Cuts, Dict, List, MarketParts, Prog};
 use std::alloc::{AllocError, Global};
 use std::marker::Model;
 use std::thread::Threads;
 
-/// Score types, programmes with quotas, and candidates with preference lists and ranks. Contracts
-/// see it as a `Problem`, which is always valid.
+/// Score types, programmes with quotas and rank bars, and candidates with preference lists and
+/// ranks. Contracts see it as a `Problem`, which is always valid.
 pub struct Market {
     parts: Parts,
     // For each type the turn of each candidate, or the number of turns for none.
@@ -122,6 +123,32 @@ impl Market {
         })
     }
 
+    /// Gives back what the market was built of. It takes no memory.
+    pub fn into_parts(self) -> MarketParts
+        ensures parts { problem result.types result.programmes.items result.lists.items
+            result.orders.items result.ranks.items ≡ self }
+        ensures valid { IsValid self }
+    {
+        let Self {
+            parts,
+            turns: _turns,
+            members: _members,
+            locals: _locals,
+            type_lists: _type_lists,
+        } = self;
+        parts.into_parts()
+    }
+
+    /// Gives a programme this quota, at most `MAX_QUOTA`; all else stays. It takes no memory, and
+    /// the same time for every market.
+    pub fn set_quota(&mut self, programme: u32, quota: u32)
+        requires programme { programme < length self.old.programmes }
+        requires quota { quota ≤ MAX_QUOTA }
+        ensures { self.new ≡ with_quota self.old programme quota }
+    {
+        self.parts.set_quota(programme, quota);
+    }
+
     /// How many score types there are.
     pub fn type_count(&self) -> u32
         ensures count { result ≡ self.now.types }
@@ -191,6 +218,19 @@ impl Market {
         self.parts.rank_at(kind, self.turn(kind, candidate))
     }
 
+    /// Whether a programme admits a candidate: the candidate has a rank in its type, and that rank
+    /// is at most the programme's bar where it has one.
+    pub fn admits(&self, programme: u32, candidate: u32) -> bool
+        requires programme { programme < length self.now.programmes }
+        requires candidate { candidate < length self.now.lists }
+        ensures { result ≡ admits self.now programme candidate }
+    {
+        // Its clause says that the market is valid.
+        let _ = self.type_count();
+        let programme = self.programme(programme);
+        programme.admits_rank(self.rank(programme.kind, candidate))
+    }
+
     /// The programmes of a type, rising. The one at place j has the local number j.
     pub fn type_programmes(&self, kind: u32) -> &[u32]
         requires { kind < self.now.types }
@@ -213,7 +253,8 @@ impl Market {
 
     /// The dictatorship of a type under cuts, over local numbers, from a turn on and with these
     /// seats taken before it. The list of turn k is that of the candidate at place `from_turn` + k
-    /// of the turn order, up to the cut and restricted to the type.
+    /// of the turn order, up to the cut and restricted to the programmes of the type that are
+    /// acceptable to the candidate.
     pub fn dict(
         &self,
         alloc: Global,

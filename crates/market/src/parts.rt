@@ -1,7 +1,8 @@
 // What a market is made of, as it is given.
 
-ghost use Rattle.std.specs.Prelude.{◌≡◌, ◌<◌, length, slice_get};
-ghost use Rattle.market.specs.Problems.{IsValid, problem, list_of, order_of, ranks_of, programme_at};
+ghost use Rattle.std.specs.Prelude.{◌≡◌, ◌<◌, ◌≤◌, length, slice_get};
+ghost use Rattle.market.specs.declared.limits.TheConstants.{MAX_QUOTA};
+ghost use Rattle.market.specs.Problems.{IsValid, problem, list_of, order_of, ranks_of, programme_at, with_quota};
 
 use crate::{List, Prog};
 use std::marker::Model;
@@ -41,6 +42,21 @@ impl Model for Parts {
         IsValid (problem m.types m.programmes.items m.lists.items m.orders.items m.ranks.items) };
 }
 
+/// What a market was built of, as `Market::build` takes it.
+#[derive(Drop)]
+pub struct MarketParts {
+    /// How many score types there are.
+    pub types: u32,
+    /// The programmes, by index.
+    pub programmes: Vec<Prog>,
+    /// The preference list of each candidate: programmes, best first.
+    pub lists: Vec<List>,
+    /// The turn order of each type: the candidates who have a rank in it, best rank first.
+    pub orders: Vec<List>,
+    /// The ranks of each type, in its turn order.
+    pub ranks: Vec<List>,
+}
+
 impl Parts {
     /// These parts. It takes no memory.
     pub fn new(
@@ -60,6 +76,37 @@ impl Parts {
             orders,
             ranks,
         }
+    }
+
+    /// Gives these parts back. It takes no memory.
+    pub fn into_parts(self) -> MarketParts
+        ensures parts { problem result.types result.programmes.items result.lists.items
+            result.orders.items result.ranks.items ≡ self }
+        ensures valid { IsValid self }
+    {
+        let Self {
+            types,
+            programmes,
+            lists,
+            orders,
+            ranks,
+        } = self;
+        MarketParts {
+            types,
+            programmes,
+            lists,
+            orders,
+            ranks,
+        }
+    }
+
+    /// Gives a programme this quota. It takes no memory.
+    pub fn set_quota(&mut self, programme: u32, quota: u32)
+        requires programme { programme < length self.old.programmes }
+        requires quota { quota ≤ MAX_QUOTA }
+        ensures { self.new ≡ with_quota self.old programme quota }
+    {
+        self.programmes[programme as usize].quota = quota;
     }
 
     /// How many score types there are.

@@ -5,7 +5,7 @@ ghost use Rattle.market.specs.Problems.{problem};
 ghost use Rattle.market.specs.Examples.{prog};
 ghost use Rattle.market.specs.Mechanism.{IsCuts};
 
-use crate::examples::three_rounds;
+use crate::examples::{rank_bars, three_rounds};
 use crate::{Cuts, List, Market, Placement, Prog, Tentative};
 use std::alloc::{AllocError, Global};
 use std::process::Abort;
@@ -94,7 +94,18 @@ fn built_by_two<R: Threads + Sync>(rt: &R, alloc: Global) -> Result<Market, Allo
     ensures { IfOk result (λ m. m ≡ problem 2 (prog 0 1 ∷ prog 1 1 ∷ []) ((1 ∷ 0 ∷ []) ∷ [])
         ((0 ∷ []) ∷ (0 ∷ []) ∷ []) ((7 ∷ []) ∷ (7 ∷ []) ∷ [])) }
 {
-    let programmes = vec![in alloc; Prog { kind: 0, quota: 1 }, Prog { kind: 1, quota: 1 }]?;
+    let programmes = vec![in alloc;
+        Prog {
+            kind: 0,
+            quota: 1,
+            bar: None
+        },
+        Prog {
+            kind: 1,
+            quota: 1,
+            bar: None
+        },
+    ]?;
     let list = List::from_slice(alloc, &[1, 0])?;
     let lists = vec![in alloc; list]?;
     let orders = vec![in alloc;
@@ -132,5 +143,34 @@ fn keeps_choices_and_placements(rt: HostRuntime) -> Result<(), Fail> {
     assert_eq!(rt; placement.holds(1), None);
     crosses_threads(&table);
     crosses_threads(&placement);
+    Ok(())
+}
+
+#[test]
+fn admits_up_to_the_bar_of_each_type(rt: HostRuntime) -> Result<(), Fail> {
+    let alloc = rt.alloc();
+    let market = rank_bars(alloc)?;
+    assert_eq!(rt; (market.admits(0, 0), market.admits(0, 1)), (true, false));
+    assert_eq!(rt; (market.admits(1, 0), market.admits(1, 1)), (false, true));
+    let cuts = Cuts::whole(alloc, &market)?;
+    let lists = turn_lists(alloc, &market, &cuts, 0)?;
+    assert_eq!(rt; lists.as_slice(), &[0, 9, 9][..]);
+    let lists = turn_lists(alloc, &market, &cuts, 1)?;
+    assert_eq!(rt; lists.as_slice(), &[0, 9, 9][..]);
+    Ok(())
+}
+
+#[test]
+fn changes_one_quota_and_gives_its_parts_back(rt: HostRuntime) -> Result<(), Fail> {
+    let alloc = rt.alloc();
+    let mut market = rank_bars(alloc)?;
+    market.set_quota(1, 5);
+    assert_eq!(rt; market.programme(1).quota, 5);
+    let parts = market.into_parts();
+    assert_eq!(rt; parts.types, 2);
+    let quotas = parts.programmes.iter().map(|programme| programme.quota);
+    assert!(rt; quotas.eq([2, 5]));
+    let bars = parts.programmes.iter().map(|programme| programme.bar);
+    assert!(rt; bars.eq([Some(50), Some(7)]));
     Ok(())
 }

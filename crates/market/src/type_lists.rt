@@ -1,17 +1,20 @@
 // The lists of a type in turn order, from which its dictatorships are copied.
 
-ghost use Rattle.std.specs.Prelude.{◌≡◌, ◌+◌, ◌<◌, ◌≤◌, ◌++◌, length, slice_index, IfOk};
+ghost use Rattle.std.specs.Prelude.{◌≡◌, ◌+◌, ◌<◌, ◌≤◌, ◌++◌, ◌&&◌, ◌==◌, length, slice_index, IfOk};
+ghost use Rattle.market.specs.Problems.{admits_rank, rank_of};
 ghost use Rattle.market.specs.FlatLists.{between};
 ghost use Rattle.market.specs.Tables.{IsLocals};
 ghost use Rattle.market.specs.TypeLists.{items_below, type_items, type_places, IsTypeLists, HasTypeLists};
 
+use crate::Prog;
 use crate::flat_lists::first_bound;
 use crate::parts::Parts;
 use std::alloc::{AllocError, Global};
 use std::marker::Model;
 
-/// The lists of a type's turns, restricted to the type and whole: local numbers, and beside each
-/// its place in the preference list, so that a cut keeps those whose place is below it.
+/// The lists of a type's turns, whole and restricted to the programmes of the type that admit the
+/// candidate: local numbers, and beside each its place in the preference list, so that a cut keeps
+/// those whose place is below it.
 pub struct TypeLists {
     items: Vec<u32>,
     places: Vec<u8>,
@@ -64,7 +67,15 @@ impl TypeLists {
     }
 }
 
-// Adds the local numbers of a candidate's programmes of a type, and their places in the list.
+// Whether the turn of a candidate with this rank in the type may take the programme.
+fn is_offered(programme: Prog, kind: u32, rank: Option<u32>) -> bool
+    ensures { result ≡ (programme.kind == kind) && admits_rank programme.bar rank }
+{
+    programme.kind == kind && programme.admits_rank(rank)
+}
+
+// Adds the local numbers of the programmes of a type that a candidate with this rank in it lists and
+// is admitted to, and their places in the list.
 fn add_list(
     items: &mut Vec<u32>,
     places: &mut Vec<u8>,
@@ -72,9 +83,11 @@ fn add_list(
     locals: &[u32],
     kind: u32,
     candidate: u32,
+    rank: Option<u32>,
 ) -> Result<(), AllocError>
     requires numbers { IsLocals parts.now locals.now }
     requires candidate { candidate < length parts.now.lists }
+    requires rank { rank ≡ rank_of parts.now kind candidate }
     ensures items { IfOk result (λ _. items.new.items
         ≡ items.old.items ++ type_items parts.now kind candidate) }
     ensures places { IfOk result (λ _. places.new.items
@@ -82,7 +95,7 @@ fn add_list(
 {
     let list = parts.list(candidate);
     for (place, programme) in list.iter().enumerate() {
-        if parts.programme(*programme).kind == kind {
+        if is_offered(parts.programme(*programme), kind, rank) {
             items.push(locals[*programme as usize])?;
             places.push(place as u8)?;
         }
@@ -105,8 +118,17 @@ pub fn lists_of_type(
     let mut items = Vec::new(alloc);
     let mut places = Vec::new(alloc);
     let mut bounds = first_bound(alloc, order.len())?;
-    for candidate in order {
-        add_list(&mut items, &mut places, parts, locals, kind, *candidate)?;
+    for (turn, candidate) in order.iter().enumerate() {
+        let rank = parts.rank_at(kind, turn as u32);
+        add_list(
+            &mut items,
+            &mut places,
+            parts,
+            locals,
+            kind,
+            *candidate,
+            rank,
+        )?;
         bounds.push(items.len() as u32)?;
     }
     Ok(TypeLists {

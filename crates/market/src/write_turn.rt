@@ -2,7 +2,8 @@
 
 ghost use Rattle.std.specs.Prelude.{◌≡◌, ℕ, ◌+◌, ◌<◌, [], length, slice_index, slice_index_or, slice_get};
 ghost use Rattle.std.specs.Option.{option_map};
-ghost use Rattle.market.specs.Problems.{order_of};
+ghost use Rattle.market.specs.Problems.{order_of, turn_of};
+ghost use Rattle.market.specs.Choices.{held_in_table};
 ghost use Rattle.market.specs.Dictatorships.{choice};
 ghost use Rattle.market.specs.LocalNumbers.{local_dictatorship, IsFillBefore};
 ghost use Rattle.market.specs.Reruns.{IsRunUpto};
@@ -12,7 +13,8 @@ use crate::{Cuts, Dict, Market, Tentative};
 impl Tentative {
     /// Writes what a turn of a type's dictatorship takes, where `place` is its choice. The
     /// dictatorship is that of the market from a turn on, with the seats that the turns before it
-    /// take; the row has what the turns so far took, and then what this one takes too.
+    /// take; the row has what the turns so far took, and then what this one takes too. What it has
+    /// of every other turn stays, those yet to come among them.
     pub fn write_turn(
         &mut self,
         market: &Market,
@@ -36,6 +38,8 @@ impl Tentative {
         ensures types { length self.new ≡ market.now.types }
         ensures row { IsRunUpto market.now cuts.now kind (from_turn + turn + 1)
             (slice_index_or self.new kind []) }
+        ensures rest { (i : ℕ) → (turn_of market.now kind i ≡ from_turn + turn → ⊥)
+            → held_in_table self.new kind i ≡ held_in_table self.old kind i }
         ensures others { (t : ℕ) → (t ≡ kind → ⊥)
             → slice_index_or self.new t [] ≡ slice_index_or self.old t [] }
     {

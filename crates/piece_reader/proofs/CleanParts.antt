@@ -33,7 +33,7 @@ IsClean-from rules header earlier row none =
 -- of a clean row only what it means is left
 pub clean-means : (rules : FileRules) (header : Header) (earlier : List Row) (row : Row)
     → length earlier < rules.form.most_rows → IsClean rules header row
-    → fault_behind rules header earlier row ≡ rules.meaning earlier row
+    → fault_behind rules header earlier row ≡ rules.meaning header.version earlier row
 clean-means rules header earlier row lt clean =
     let shape = shape-anywhere rules.form header.fields 0 (length earlier) row lt clean.shape in
     rw (shape, clean.reading) refl

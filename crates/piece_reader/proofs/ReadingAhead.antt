@@ -42,112 +42,113 @@ AllZip-each R (x ∷ xs) (y ∷ ys) same each = (
   AllZip-each R xs ys (omega arith) (λ k d e lt. each (suc k) d e (omega arith)),
 )
 
-module _ {G : Type 0} (rules : FileRules) (header : Header) (HasRows : List Row → G → Type 0) where
-  -- the rows of a part, where no fault of them was told
-  pub IsPartRead-from : (all : List Row) (read : RowsRead G) → read.fault ≡ None
-      → AreRowsTaken rules None header HasRows all read → IsPartRead rules header HasRows all read
-  IsPartRead-from all read none taken =
-      let count = taken.whole none in
-      let least = subst (λ n. least_fault (fault_in rules header all) n ≡ None) count taken.none in
-      record {
-        has = AreRowsTaken-whole rules header HasRows all None read taken none;
-        clean = λ k d below. IsClean-from rules header (take k all) (get_or all k d)
-            (sym (ap (option_and_then (fault_behind rules header (take k all)))
-            (slice_get-get_or all k d below))
-            ∙ least_fault-each _ (length all) least k below);
-        count = count;
-      }
+module _ {G : Type 0} (rules : FileRules) (header : Header) (HasRows : ℕ → List Row → G → Type 0)
+  where
+    -- the rows of a part, where no fault of them was told
+    pub IsPartRead-from : (all : List Row) (read : RowsRead G) → read.fault ≡ None
+        → AreRowsTaken rules None header HasRows all read → IsPartRead rules header HasRows all read
+    IsPartRead-from all read none taken =
+        let count = taken.whole none in
+        let least = subst (λ n. least_fault (fault_in rules header all) n ≡ None) count taken.none in
+        record {
+          has = AreRowsTaken-whole rules header HasRows all None read taken none;
+          clean = λ k d below. IsClean-from rules header (take k all) (get_or all k d)
+              (sym (ap (option_and_then (fault_behind rules header (take k all)))
+              (slice_get-get_or all k d below))
+              ∙ least_fault-each _ (length all) least k below);
+          count = count;
+        }
 
-  -- the rows of the first parts are in these tables, so many
-  pub record JoinsTo (lists : List (List Row)) (tables : List G) (count : ℕ)
-      (left : List (List Row))
-      : Type 0 where
-    pub done : List (List Row)
-    pub each : AllZip HasRows done tables
-    pub clean : All (IsClean rules header) (flat_map (λ rows. rows) done)
-    pub size : count ≡ length (flat_map (λ rows. rows) done)
-    pub behind : lists ≡ done ++ left
+    -- the rows of the first parts are in these tables, so many
+    pub record JoinsTo (lists : List (List Row)) (tables : List G) (count : ℕ)
+        (left : List (List Row))
+        : Type 0 where
+      pub done : List (List Row)
+      pub each : AllZip (HasRows header.version) done tables
+      pub clean : All (IsClean rules header) (flat_map (λ rows. rows) done)
+      pub size : count ≡ length (flat_map (λ rows. rows) done)
+      pub behind : lists ≡ done ++ left
 
-  -- before the first of the parts there is no table, and all lists are left
-  pub JoinsTo-begin : (lists : List (List Row)) → JoinsTo lists [] 0 lists
-  JoinsTo-begin lists =
-      record { done = []; each = tt; clean = All-nil _; size = refl; behind = refl }
+    -- before the first of the parts there is no table, and all lists are left
+    pub JoinsTo-begin : (lists : List (List Row)) → JoinsTo lists [] 0 lists
+    JoinsTo-begin lists =
+        record { done = []; each = tt; clean = All-nil _; size = refl; behind = refl }
 
-  -- a part that was read adds its table and its number of rows
-  pub JoinsTo-next : (lists : List (List Row)) (tables : List G) (count : ℕ) (rows : List Row)
-      (left : List (List Row)) (read : RowsRead G) → JoinsTo lists tables count (rows ∷ left)
-      → IsPartRead rules header HasRows rows read
-      → JoinsTo lists (tables ++ read.table ∷ []) (count + read.count) left
-  JoinsTo-next lists tables count rows left read j is =
-      let whole : flat_map (λ rows. rows) (j.done ++ rows ∷ [])
-      ≡ flat_map (λ rows. rows) j.done ++ rows =
-      flat_map-append (λ (rows : List Row). rows) j.done (rows ∷ [])
-      ∙ ap (λ more. flat_map (λ rows. rows) j.done ++ more) (append-nil rows) in
-      let sizes = length-append (flat_map (λ (rows : List Row). rows) j.done) rows in
-      let before = j.size in
-      let here = is.count in
-      record {
-        done = j.done ++ rows ∷ [];
-        each = AllZip-more HasRows j.done tables rows read.table j.each is.has;
-        clean = subst (All (IsClean rules header)) (sym whole)
-            (All-append (IsClean rules header) (flat_map (λ rows. rows) j.done) rows
-            j.clean is.clean);
-        size = omega (arith, ap length whole);
-        behind = j.behind ∙ sym (append_assoc j.done (rows ∷ []) left);
-      }
+    -- a part that was read adds its table and its number of rows
+    pub JoinsTo-next : (lists : List (List Row)) (tables : List G) (count : ℕ) (rows : List Row)
+        (left : List (List Row)) (read : RowsRead G) → JoinsTo lists tables count (rows ∷ left)
+        → IsPartRead rules header HasRows rows read
+        → JoinsTo lists (tables ++ read.table ∷ []) (count + read.count) left
+    JoinsTo-next lists tables count rows left read j is =
+        let whole : flat_map (λ rows. rows) (j.done ++ rows ∷ [])
+        ≡ flat_map (λ rows. rows) j.done ++ rows =
+        flat_map-append (λ (rows : List Row). rows) j.done (rows ∷ [])
+        ∙ ap (λ more. flat_map (λ rows. rows) j.done ++ more) (append-nil rows) in
+        let sizes = length-append (flat_map (λ (rows : List Row). rows) j.done) rows in
+        let before = j.size in
+        let here = is.count in
+        record {
+          done = j.done ++ rows ∷ [];
+          each = AllZip-more (HasRows header.version) j.done tables rows read.table j.each is.has;
+          clean = subst (All (IsClean rules header)) (sym whole)
+              (All-append (IsClean rules header) (flat_map (λ rows. rows) j.done) rows
+              j.clean is.clean);
+          size = omega (arith, ap length whole);
+          behind = j.behind ∙ sym (append_assoc j.done (rows ∷ []) left);
+        }
 
-  -- where none is left and the rows are not too many, these are the tables of all parts
-  pub JoinsTo-ends : (lists : List (List Row)) (tables : List G) (count : ℕ)
-      → count ≤ rules.form.most_rows → JoinsTo lists tables count []
-      → AreTablesOf rules header HasRows lists tables
-  JoinsTo-ends lists tables count few j =
-      let whole : j.done ≡ lists = sym (append-nil j.done) ∙ sym j.behind in
-      record {
-        each = subst (λ all. AllZip HasRows all tables) whole j.each;
-        clean =
-            subst (λ all. All (IsClean rules header) (flat_map (λ rows. rows) all)) whole j.clean;
-        few = omega (
-          arith,
-          j.size,
-          ap (λ all. length (flat_map (λ (rows : List Row). rows) all)) whole,
-        );
-      }
+    -- where none is left and the rows are not too many, these are the tables of all parts
+    pub JoinsTo-ends : (lists : List (List Row)) (tables : List G) (count : ℕ)
+        → count ≤ rules.form.most_rows → JoinsTo lists tables count []
+        → AreTablesOf rules header HasRows lists tables
+    JoinsTo-ends lists tables count few j =
+        let whole : j.done ≡ lists = sym (append-nil j.done) ∙ sym j.behind in
+        record {
+          each = subst (λ all. AllZip (HasRows header.version) all tables) whole j.each;
+          clean =
+              subst (λ all. All (IsClean rules header) (flat_map (λ rows. rows) all)) whole j.clean;
+          few = omega (
+            arith,
+            j.size,
+            ap (λ all. length (flat_map (λ (rows : List Row). rows) all)) whole,
+          );
+        }
 
-  -- the parts left are those of the lists left
-  pub record PartsLeft {E : Type 0} (lists : List (List Row)) (tables : List G) (count : ℕ)
-      (parts : List (Result (Option (RowsRead G)) E)) : Type 0 where
-    pub left : List (List Row)
-    pub read : ArePartsRead rules header HasRows left parts
-    pub joins : JoinsTo lists tables count left
+    -- the parts left are those of the lists left
+    pub record PartsLeft {E : Type 0} (lists : List (List Row)) (tables : List G) (count : ℕ)
+        (parts : List (Result (Option (RowsRead G)) E)) : Type 0 where
+      pub left : List (List Row)
+      pub read : ArePartsRead rules header HasRows left parts
+      pub joins : JoinsTo lists tables count left
 
-  -- the next part was read, and adds its table and its number of rows
-  pub PartsLeft-next : {E : Type 0} (lists : List (List Row)) (tables : List G) (count : ℕ)
-      (read : RowsRead G) (parts : List (Result (Option (RowsRead G)) E))
-      → PartsLeft lists tables count (Ok (Some read) ∷ parts)
-      → PartsLeft lists (tables ++ read.table ∷ []) (count + read.count) parts
-  PartsLeft-next {E} lists tables count read parts p = by p.left p.read p.joins
-    where
-      by : (left : List (List Row))
-          → ArePartsRead {E = E} rules header HasRows left (Ok (Some read) ∷ parts)
-          → JoinsTo lists tables count left
-          → PartsLeft lists (tables ++ read.table ∷ []) (count + read.count) parts
-      by [] each joins = absurd each
-      by (rows ∷ left) each joins = record {
-        left = left;
-        read = each.1;
-        joins = JoinsTo-next lists tables count rows left read joins each.0;
-      }
+    -- the next part was read, and adds its table and its number of rows
+    pub PartsLeft-next : {E : Type 0} (lists : List (List Row)) (tables : List G) (count : ℕ)
+        (read : RowsRead G) (parts : List (Result (Option (RowsRead G)) E))
+        → PartsLeft lists tables count (Ok (Some read) ∷ parts)
+        → PartsLeft lists (tables ++ read.table ∷ []) (count + read.count) parts
+    PartsLeft-next {E} lists tables count read parts p = by p.left p.read p.joins
+      where
+        by : (left : List (List Row))
+            → ArePartsRead {E = E} rules header HasRows left (Ok (Some read) ∷ parts)
+            → JoinsTo lists tables count left
+            → PartsLeft lists (tables ++ read.table ∷ []) (count + read.count) parts
+        by [] each joins = absurd each
+        by (rows ∷ left) each joins = record {
+          left = left;
+          read = each.1;
+          joins = JoinsTo-next lists tables count rows left read joins each.0;
+        }
 
-  -- and where none is left these are the tables of all parts, if the rows are not too many
-  pub PartsLeft-ends : {E : Type 0} (lists : List (List Row)) (tables : List G) (count : ℕ)
-      → count ≤ rules.form.most_rows → PartsLeft {E = E} lists tables count []
-      → AreTablesOf rules header HasRows lists tables
-  PartsLeft-ends {E} lists tables count few p = by p.left p.read p.joins
-    where
-      by : (left : List (List Row)) → ArePartsRead {E = E} rules header HasRows left []
-          → JoinsTo lists tables count left → AreTablesOf rules header HasRows lists tables
-      by [] each joins = JoinsTo-ends lists tables count few joins
-      by (rows ∷ left) each joins = absurd each
+    -- and where none is left these are the tables of all parts, if the rows are not too many
+    pub PartsLeft-ends : {E : Type 0} (lists : List (List Row)) (tables : List G) (count : ℕ)
+        → count ≤ rules.form.most_rows → PartsLeft {E = E} lists tables count []
+        → AreTablesOf rules header HasRows lists tables
+    PartsLeft-ends {E} lists tables count few p = by p.left p.read p.joins
+      where
+        by : (left : List (List Row)) → ArePartsRead {E = E} rules header HasRows left []
+            → JoinsTo lists tables count left → AreTablesOf rules header HasRows lists tables
+        by [] each joins = JoinsTo-ends lists tables count few joins
+        by (rows ∷ left) each joins = absurd each
 
 -- the data rows of the part of a number
 pub data_lists-at : (bytes : List ℕ) (parts : List RowPart) (k : ℕ) (d : List Row) (p : RowPart)
@@ -174,7 +175,7 @@ IfSome-weaker None P Q w h = tt
 IfSome-weaker (Some x) P Q w h = w x h
 
 -- the tables of the parts of a file
-pub AreReadAhead-from : {G : Type 0} (rules : FileRules) (HasRows : List Row → G → Type 0)
+pub AreReadAhead-from : {G : Type 0} (rules : FileRules) (HasRows : ℕ → List Row → G → Type 0)
     (bytes : List ℕ) (parts : List RowPart) (header : Header) (tables : List G)
     → first_row_fault rules.form (rows bytes) ≡ None → header ≡ header_in rules.form (rows bytes)
     → BeginsWithRow bytes parts → flat_map (part_rows bytes) parts ≡ rows bytes
@@ -191,5 +192,6 @@ AreReadAhead-from rules HasRows bytes parts header tables passed same first all 
       few = omega (arith, ap length whole);
       lists = data_lists bytes parts;
       whole = whole;
-      each = t.each;
+      each = subst (λ (h : Header). AllZip (HasRows h.version) (data_lists bytes parts) tables) same
+          t.each;
     }

@@ -18,8 +18,9 @@ use std::thread::{self, Threads};
 /// Reads the rows of each part of a file into a table of its own, side by side.
 ///
 /// Where tables are answered, the file has no fault that its header or a row shows by itself, and
-/// no row too many. `None` says nothing of the file: the caller then reads it row by row. It may
-/// come where such a fault was seen, or where a table told one of a row beside those of its part.
+/// no row too many. `None` says nothing of the file: the caller then reads it row by row. It comes
+/// where such a fault was seen, or where a table told one of a row beside those of its part; no
+/// clause says so, nor in how many parts a file was read, and tests show both.
 pub fn read_parts<R: Threads + Sync, B: Sync, G: PartTable<B> + Send + Drop>(
     rt: &R,
     alloc: Global,

@@ -1,5 +1,5 @@
 // Rows that are kept until the rows before them are in the table.
-ghost use Rattle.std.specs.Prelude.{◌≡◌, ◌<◌, ◌++◌, ◌∷◌, [], List, length, IfOk};
+ghost use Rattle.std.specs.Prelude.{◌≡◌, ◌<◌, ◌++◌, ◌∷◌, [], ℕ, List, length, IfOk};
 ghost use Rattle.record_files.specs.ReadTo.{IsRowTaken};
 ghost use Rattle.record_files.specs.Rows.{Row};
 
@@ -11,10 +11,11 @@ use std::marker::PhantomData;
 
 /// A table whose rows can be read ahead of the rows before them: an `A` is kept of each.
 pub trait TakesAhead<B, A>: RowTable<B> {
+    ghost use Rattle.std.specs.Prelude.{ℕ};
     ghost use Rattle.record_files.specs.Rows.{Row};
 
-    /// This is kept of the row.
-    ghost keeps: { B → Row → A → Type 0 };
+    /// This is kept of the row under that header.
+    ghost keeps: { B → ℕ → Row → A → Type 0 };
 
     /// The most data rows that the whole file may have.
     fn most_rows(beside: &B) -> u32
@@ -22,25 +23,27 @@ pub trait TakesAhead<B, A>: RowTable<B> {
 
     /// What is kept of a row with these fields.
     fn keep(alloc: Global, beside: &B, fields: Self::Fields) -> Result<A, AllocError>
-        ensures { IfOk result (λ kept. (row : Row)
-            → Self.says row fields
-            → keeps beside.now row kept) };
+        ensures { IfOk result (λ kept. (version : ℕ) (row : Row)
+            → Self.says version row fields
+            → keeps beside.now version row kept) };
 
-    /// Adds a row of which this was kept, or answers what is wrong with it beside the table.
+    /// Adds a row of which this was kept, or answers what is wrong with it beside the table. After
+    /// a refusal of memory the table is spent: no clause says what it holds.
     fn take_ahead(
         &mut self,
         alloc: Global,
         beside: &B,
         row: A,
     ) -> Result<Option<FileFault>, AllocError>
-        requires { (earlier : List Row) × Self.has_rows beside.now earlier self.old
+        requires { (version : ℕ) × (earlier : List Row)
+            × Self.has_rows beside.now version earlier self.old
             × (length earlier < (Self.rules beside.now).form.most_rows) }
-        ensures { IfOk result (λ found. (earlier : List Row) (one : Row)
-            → Self.has_rows beside.now earlier self.old
-            → keeps beside.now one row
-            → IsRowTaken ((Self.rules beside.now).meaning earlier one)
-            (Self.has_rows beside.now earlier self.new)
-            (Self.has_rows beside.now (earlier ++ one ∷ []) self.new) found) };
+        ensures { IfOk result (λ found. (version : ℕ) (earlier : List Row) (one : Row)
+            → Self.has_rows beside.now version earlier self.old
+            → keeps beside.now version one row
+            → IsRowTaken ((Self.rules beside.now).meaning version earlier one)
+            (Self.has_rows beside.now version earlier self.new)
+            (Self.has_rows beside.now version (earlier ++ one ∷ []) self.new) found) };
 }
 
 /// What is kept of the rows of a part for a table `T`, in order.
@@ -61,7 +64,8 @@ impl<B, A: Drop, T: TakesAhead<B, A>> RowTable<B> for AheadRows<A, T> {
 
     ghost says = { T.says };
 
-    ghost has_rows = { λ beside rows table. AllZip (T.keeps beside) rows table.rows.items };
+    ghost has_rows = { λ beside version rows table.
+        AllZip (T.keeps beside version) rows table.rows.items };
 
     fn form(beside: &B) -> FileForm {
         T::form(beside)

@@ -1,7 +1,8 @@
 // A table of rows that were read ahead, part by part.
-ghost use Rattle.std.specs.Prelude.{◌≡◌, ◌≤◌, ◌<◌, ◌+◌, ◌++◌, ◌∷◌, [], List, length, IfOk, ⊤};
+ghost use Rattle.std.specs.Prelude.{◌≡◌, ◌≤◌, ◌<◌, ◌+◌, ◌++◌, ◌∷◌, [], ℕ, List, length, IfOk, ⊤};
 ghost use Rattle.std.specs.List.{AllZip, flat_map};
 ghost use Rattle.record_files.specs.FirstFaults.{first_fault};
+ghost use Rattle.record_files.specs.Form.{version_in};
 ghost use Rattle.record_files.specs.ReadTo.{IsFileRead, IsRowTaken};
 ghost use Rattle.record_files.specs.Rows.{Row, data_rows};
 ghost use Rattle.piece_reader.specs.Ahead.{AreReadAhead};
@@ -28,9 +29,10 @@ pub fn read_table<R: Threads + Sync, B: Sync, A: Send + Drop, T: TakesAhead<B, A
 ) -> Result<T, TableStop>
     requires size { length bytes.now ≤ LARGEST_FILE }
     requires pieces { (1 ≤ pieces) × (pieces ≤ MOST_PIECES) }
-    requires empty { T.has_rows beside.now [] table }
+    requires empty { (version : ℕ) → T.has_rows beside.now version [] table }
     ensures { IsFileRead (first_fault (T.rules beside.now) bytes.now)
-        (T.has_rows beside.now (data_rows bytes.now)) result }
+        (T.has_rows beside.now (version_in (T.rules beside.now).form bytes.now)
+        (data_rows bytes.now)) result }
 {
     match read_parts::<R, B, AheadRows<A, T>>(rt, alloc, bytes, pieces, beside)? {
         Some(parts) => join(alloc, bytes, parts, beside, table),
@@ -47,11 +49,13 @@ fn join<B, A: Drop, T: TakesAhead<B, A> + Drop>(
     beside: &B,
     table: T,
 ) -> Result<T, TableStop>
-    requires empty { T.has_rows beside.now [] table }
+    requires empty { (version : ℕ) → T.has_rows beside.now version [] table }
     requires parts { AreReadAhead (by_themselves (T.rules beside.now))
-        (λ rows part. AllZip (T.keeps beside.now) rows part.rows.items) bytes.now parts.items }
+        (λ version rows part. AllZip (T.keeps beside.now version) rows part.rows.items)
+        bytes.now parts.items }
     ensures { IsFileRead (first_fault (T.rules beside.now) bytes.now)
-        (T.has_rows beside.now (data_rows bytes.now)) result }
+        (T.has_rows beside.now (version_in (T.rules beside.now).form bytes.now)
+        (data_rows bytes.now)) result }
 {
     let mut table = table;
     let mut left = parts.into_iter();
@@ -70,14 +74,15 @@ fn take_part<B, A: Drop, T: TakesAhead<B, A>>(
     beside: &B,
     table: &mut T,
 ) -> Result<Option<FileFault>, AllocError>
-    requires { (earlier : List Row) × (more : List Row) × T.has_rows beside.now earlier table.old
-        × AllZip (T.keeps beside.now) more rows.items
+    requires { (version : ℕ) × (earlier : List Row) × (more : List Row)
+        × T.has_rows beside.now version earlier table.old
+        × AllZip (T.keeps beside.now version) more rows.items
         × (length earlier + length more ≤ (T.rules beside.now).form.most_rows) }
-    ensures { IfOk result (λ found. (earlier : List Row) (more : List Row)
-        → T.has_rows beside.now earlier table.old
-        → AllZip (T.keeps beside.now) more rows.items
-        → IsRowTaken (meanings (T.rules beside.now) earlier more) ⊤
-        (T.has_rows beside.now (earlier ++ more) table.new) found) }
+    ensures { IfOk result (λ found. (version : ℕ) (earlier : List Row) (more : List Row)
+        → T.has_rows beside.now version earlier table.old
+        → AllZip (T.keeps beside.now version) more rows.items
+        → IsRowTaken (meanings (T.rules beside.now) version earlier more) ⊤
+        (T.has_rows beside.now version (earlier ++ more) table.new) found) }
 {
     let mut left = rows.into_iter();
     'rows: while let Some(row) = left.next() {

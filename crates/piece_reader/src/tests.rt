@@ -98,12 +98,13 @@ impl RowTable<()> for RowCount {
     ghost rules = { λ _. record {
       form = one_header Programmes (codes "h") 3;
       reading = λ version row. None;
-      meaning = λ earlier row. fault_if (row.0 == 9) (duplicate_at Programmes 9 1 (length earlier));
+      meaning = λ version earlier row.
+          fault_if (row.0 == 9) (duplicate_at Programmes 9 1 (length earlier));
     } };
 
-    ghost says = { λ row line. line.0 ≡ row.0 };
+    ghost says = { λ version row line. line.0 ≡ row.0 };
 
-    ghost has_rows = { λ _ rows table. table.0 ≡ length rows };
+    ghost has_rows = { λ _ version rows table. table.0 ≡ length rows };
 
     fn form(_beside: &()) -> FileForm {
         FileForm::new(FileKind::Programmes, &[b"h"], 3)
@@ -126,7 +127,7 @@ impl RowTable<()> for RowCount {
 impl TakesAhead<(), Line> for RowCount {
     ghost use Rattle.std.specs.Prelude.{◌≡◌};
 
-    ghost keeps = { λ _ row line. line.0 ≡ row.0 };
+    ghost keeps = { λ _ version row line. line.0 ≡ row.0 };
 
     fn most_rows(_beside: &()) -> u32 {
         3

@@ -1,5 +1,11 @@
 //! What the program meets of the outside: shelves, from which files are read, and sinks, to which
 //! texts are written.
+//!
+//! What a stream of the system gave or took is bound to what std tells of its reader or writer: a
+//! read answers the bytes that it gave, and none only at the end; a put answers the bytes that were
+//! written. No clause says that a stream was flushed, that `RealShelf` and `RealSink` call what is
+//! so bound, that a file is opened to be read and is not made anew, or with which status a program
+//! ends: tests and runs of the built programs show these.
 #![tactic(auto)]
 
 // Which calls are told to fail.

@@ -1,7 +1,8 @@
 // The files and streams of the system. What they hold is not told.
 
-ghost use Rattle.std.specs.Prelude.{◌≡◌, ℕ, None, true};
+ghost use Rattle.std.specs.Prelude.{◌≡◌, ◌<◌, ℕ, None, true, IfOk, length, take};
 ghost use Rattle.std.specs.Io.{ReadsAtMost, WritesAtMost};
+ghost use Rattle.std.specs.Io.KnownBytes.{Appends, Keeps, ReadConsumes, WriteAppends};
 ghost use Rattle.place_edges.specs.Causes.{HasCause, faults_after};
 ghost use Rattle.place_edges.specs.Shelf.{tally_after};
 ghost use Rattle.place_edges.specs.Sink.{Puts};
@@ -91,7 +92,7 @@ impl<R: Files + Drop> Shelf for RealShelf<R> {
     }
 }
 
-// Reads once, and counts what was read, or the fault.
+// Reads once, and counts what was read, or the fault. It gives none only at the reader's end.
 pub(crate) fn take_from<R: Read>(
     reader: &mut R,
     into: &mut [u8],
@@ -100,6 +101,7 @@ pub(crate) fn take_from<R: Read>(
 ) -> Result<usize, Failed>
     ensures bound { ReadsAtMost result into.new }
     ensures cause { HasCause faults.old faults.new result }
+    ensures bytes { ReadConsumes (R.remaining reader.old) (R.remaining reader.new) result into.new }
     ensures faults { faults.new ≡ faults_after faults.old result }
     ensures tally { tally.new ≡ tally_after tally.old result }
 {
@@ -154,20 +156,35 @@ impl<W: Write> Sink for RealSink<W> {
         if bytes.is_empty() {
             return Ok(0);
         }
-        if let Ok(count) = write_once(&mut self.inner, bytes)
-            && count > 0
-            && flush_once(&mut self.inner).is_ok()
-        {
-            return Ok(count);
-        }
-        self.faults = self.faults.saturating_add(1);
-        Err(Failed)
+        put_into(&mut self.inner, bytes, &mut self.faults)
     }
 }
 
+// Writes once and flushes, and counts the fault where one of them fails.
+fn put_into<W: Write>(inner: &mut W, bytes: &[u8], faults: &mut u64) -> Result<usize, Failed>
+    requires { 0 < length bytes.now }
+    ensures bound { WritesAtMost result bytes.now }
+    ensures some { IfOk result (λ n. 0 < n) }
+    ensures bytes { IfOk result (λ n.
+        Appends (W.contents inner.old) (W.contents inner.new) (take n bytes.now)) }
+    ensures faults { faults.new ≡ faults_after faults.old result }
+    ensures cause { HasCause faults.old faults.new result }
+{
+    if let Ok(count) = write_once(inner, bytes)
+        && count > 0
+        && flush_once(inner).is_ok()
+    {
+        return Ok(count);
+    }
+    *faults = faults.saturating_add(1);
+    Err(Failed)
+}
+
 // Reads once, and again where the system interrupted the read.
+#[tactic(auto, using(crate::proofs::Known::keeps_same, crate::proofs::Known::keeps_keeps, crate::proofs::Known::keeps_read))]
 fn read_once<R: Read>(reader: &mut R, into: &mut [u8]) -> io::Result<usize>
-    ensures { ReadsAtMost result into.new }
+    ensures bound { ReadsAtMost result into.new }
+    ensures bytes { ReadConsumes (R.remaining reader.old) (R.remaining reader.new) result into.new }
 {
     for _ in 0..u64::MAX {
         match reader.read(into) {
@@ -179,8 +196,10 @@ fn read_once<R: Read>(reader: &mut R, into: &mut [u8]) -> io::Result<usize>
 }
 
 // Writes once, and again where the system interrupted the write.
+#[tactic(auto, using(crate::proofs::Known::keeps_same, crate::proofs::Known::keeps_keeps, crate::proofs::Known::keeps_write))]
 fn write_once<W: Write>(writer: &mut W, bytes: &[u8]) -> io::Result<usize>
-    ensures { WritesAtMost result bytes.now }
+    ensures bound { WritesAtMost result bytes.now }
+    ensures bytes { WriteAppends (W.contents writer.old) (W.contents writer.new) result bytes.now }
 {
     for _ in 0..u64::MAX {
         match writer.write(bytes) {
@@ -192,7 +211,10 @@ fn write_once<W: Write>(writer: &mut W, bytes: &[u8]) -> io::Result<usize>
 }
 
 // Flushes once, and again where the system interrupted the flush.
-fn flush_once<W: Write>(writer: &mut W) -> io::Result<()> {
+#[tactic(auto, using(crate::proofs::Known::keeps_same, crate::proofs::Known::keeps_keeps))]
+fn flush_once<W: Write>(writer: &mut W) -> io::Result<()>
+    ensures { Keeps (W.contents writer.old) (W.contents writer.new) }
+{
     for _ in 0..u64::MAX {
         match writer.flush() {
             Err(error) if error.kind() == ErrorKind::Interrupted => {}

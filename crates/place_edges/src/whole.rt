@@ -64,9 +64,10 @@ pub fn read_whole<H: Shelf>(alloc: Global, shelf: &mut H, name: &str) -> Result<
     // Whatever is answered, no more was taken than the file has.
     ensures within { IsWithin (H.files shelf.old) name.now (H.tally shelf.old) (H.tally shelf.new) }
 
-    // A read fails only where the shelf failed.
+    // A read fails only where the shelf failed, and no failure is passed over.
     ensures failed { IsErrOf result ReadStop.Failed
         → Rose (H.faults shelf.old) (H.faults shelf.new) }
+    ensures quiet { IfOk result (λ _. H.faults shelf.new ≡ H.faults shelf.old) }
     ensures later { H.faults shelf.old ≤ H.faults shelf.new }
 
     // What is held and granted stays.
@@ -89,6 +90,7 @@ pub fn read_whole<H: Shelf>(alloc: Global, shelf: &mut H, name: &str) -> Result<
 }
 
 /// Appends all the bytes. Where a put fails, those before it stay appended.
+#[tactic(auto, using(crate::proofs::Pieces::appended_none, crate::proofs::Pieces::appended_more_slice))]
 pub fn write_whole<K: Sink>(sink: &mut K, bytes: &[u8]) -> Result<(), Failed>
     ensures { IsWritten bytes.now result (K.written sink.old) (K.written sink.new)
         (K.faults sink.old) (K.faults sink.new) }

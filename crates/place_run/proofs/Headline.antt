@@ -1,15 +1,15 @@
 -- What files say that were read: they have no fault, and their tables are those of the files. So
 -- what is known of the market of the tables is known of the market of the files.
-use Rattle.std.proofs.Common.{◌≡◌, ℕ, ◌≤◌, List, refl, sym, subst, ap, ◌∙◌, Option, Some, None, Result, Ok, Err}
+use Rattle.std.proofs.Common.{◌≡◌, ℕ, ◌≤◌, List, refl, sym, subst, ap, ◌∙◌, Option, Some, None, Ok}
 use Rattle.std.specs.Prelude.{length, ◌↔◌}
 use Rattle.place_base.specs.declared.fault.FileKind.TheVariants as file
+use Rattle.fixed_seats.specs.Reports.{IsOfEveryStable, seats_in}
 use Rattle.market.specs.Comparisons.{IsWorstStable}
 use Rattle.market.specs.Mechanism.{mechanism_placement}
-use Rattle.market.specs.Problems.{IsValid}
+use Rattle.market.specs.Problems.{IsValid, Problem}
 use Rattle.place_edges.specs.Shelf.{file_limit}
 use Rattle.placement_file.specs.Rows.{placement_fault}
 use Rattle.placement_file.specs.Table.{placement_in}
-use Rattle.command_words.specs.declared.words.WordsFault.{WordsFault}
 use Rattle.programme_table.specs.Rows.{programmes_fault}
 use Rattle.programme_table.specs.Table.{Programmes, codes_of, programmes_table}
 use Rattle.candidate_table.specs.Table.{Candidates, candidates_table, numbers_of}
@@ -18,21 +18,22 @@ use Rattle.rank_lists.specs.Rows.{ranks_fault}
 use Rattle.rank_lists.specs.Table.{RankTable, ranks_table}
 use Rattle.run_frame.specs.Files.{Reads}
 use Rattle.run_frame.proofs.JudgedTables.{SaysTable, says-table}
-use Rattle.run_frame.proofs.Readings.{said-from}
+use Rattle.run_frame.specs.Plans.{said}
+use Rattle.run_frame.proofs.Plans.{answer-behind, said-from, said-then}
 use Rattle.reports.specs.FullEntries.{FullMeansFilled}
 use Rattle.stability_audit.specs.declared.verdict.Verdict.{Verdict}
 use Rattle.stability_audit.specs.declared.verdict.Verdict.TheVariants.{Stable, OverQuota, NotAcceptable, Blocking}
 use Rattle.place_run.specs.Answers.{Answer}
 use Rattle.place_run.specs.Audits.{IsAuditOf}
-use Rattle.place_run.specs.Says.{audited_said, behind_tables, tables_said}
+use Rattle.place_run.specs.Says.{audited_plan, held_plan, tables_plan}
 use Rattle.place_run.specs.Tables.{HasNoFault, Tables, ThreeFiles, candidates_said, codes_in, numbers_in, placement_said, problem_of, programmes_said, ranks_said, tables_in}
 use Rattle.placement_file.specs.Texts.{placement_text}
 use Rattle.place_run.specs.commands.Audit.{Audited, IsAudit, verdict_ending}
 use Rattle.place_run.specs.commands.Base.{IsBaseText, base_text, bases_of}
+use Rattle.place_run.specs.commands.Fixed.{IsFixedText, fixed_of, fixed_text}
 use Rattle.place_run.specs.commands.Place.{AreThree, IsOfWorstStable, IsWorstStableText, printed_placement}
 use Rattle.place_run.specs.commands.Reasons.{IsReasonsText, reasons_of, reasons_text}
 use Rattle.place_run.specs.declared.status.Ending.TheVariants.{Done}
-use Rattle.run_frame.specs.declared.stop.Stop.{Stop}
 
 says-programmes : (bytes : List ℕ) (said : Programmes) → programmes_said bytes ≡ Ok said
     → SaysTable (programmes_fault bytes) (programmes_table bytes) said bytes
@@ -67,7 +68,7 @@ record AreTablesRead (reads : Reads) (tables : Tables) : Type 0 where
   faultless : HasNoFault three
   tables_are : tables ≡ tables_in three
 
-are-read : (reads : Reads) (tables : Tables) → tables_said reads ≡ Some (Ok tables)
+are-read : (reads : Reads) (tables : Tables) → said tables_plan reads ≡ Some (Ok tables)
     → AreTablesRead reads tables
 unfolding tables_in codes_in numbers_in
 are-read reads tables e =
@@ -122,6 +123,12 @@ reasons-in : (three : ThreeFiles) → reasons_of (tables_in three)
 unfolding reasons_of tables_in codes_in numbers_in
 reasons-in three = refl
 
+fixed-in : (three : ThreeFiles) → fixed_of (tables_in three)
+    ≡ fixed_text (codes_in three) (numbers_in three) (seats_in (problem_of (tables_in three))
+    (mechanism_placement (problem_of (tables_in three))))
+unfolding fixed_of tables_in codes_in numbers_in
+fixed-in three = refl
+
 -- a text is made so of tables, in whose market the mechanism's placement is the worst of the stable
 -- ones
 pub record IsMade (make : Tables → List ℕ) (tables : Tables) (text : List ℕ) : Type 0 where
@@ -147,36 +154,51 @@ made-of make print same reads tables text made files =
 
 -- where files say these tables, the text of the placement is that of the worst stable one
 pub worst-text : (reads : Reads) (tables : Tables) (text : List ℕ)
-    → tables_said reads ≡ Some (Ok tables) → IsMade printed_placement tables text
+    → said tables_plan reads ≡ Some (Ok tables) → IsMade printed_placement tables text
     → IsWorstStableText reads text
-worst-text reads tables text said made =
-    made-of printed_placement _ printed-in reads tables text made (are-read reads tables said)
+worst-text reads tables text says made =
+    made-of printed_placement _ printed-in reads tables text made (are-read reads tables says)
 
 -- and the text of the base ranks is that of its base ranks
 pub bases-text : (reads : Reads) (tables : Tables) (text : List ℕ)
-    → tables_said reads ≡ Some (Ok tables) → IsMade bases_of tables text → IsBaseText reads text
+    → said tables_plan reads ≡ Some (Ok tables) → IsMade bases_of tables text
+    → IsBaseText reads text
 bases-text reads tables text said made =
     made-of bases_of _ bases-in reads tables text made (are-read reads tables said)
 
--- and so is that of the reasons, where the programme of each full entry is filled
+-- so is what else is known of the market of the tables
+known-of : (Known : Problem → Type 0) (reads : Reads) (tables : Tables)
+    → (files : AreTablesRead reads tables) → Known (problem_of tables)
+    → Known (problem_of (tables_in files.three))
+known-of Known reads tables files known =
+    subst (λ (v : Tables). Known (problem_of v)) files.tables_are known
+
+-- the text of the reasons is that of its reasons, where the programme of each full entry is filled
 pub reasons-text : (reads : Reads) (tables : Tables) (text : List ℕ)
-    → tables_said reads ≡ Some (Ok tables) → IsMade reasons_of tables text
+    → said tables_plan reads ≡ Some (Ok tables) → IsMade reasons_of tables text
     → FullMeansFilled (problem_of tables) (mechanism_placement (problem_of tables))
     → IsReasonsText reads text
-reasons-text reads tables text said made filled =
-    let files = are-read reads tables said in
-    let of_files = subst (λ (v : Tables). IsMade reasons_of v text) files.tables_are made in
+unfolding made-of
+reasons-text reads tables text says made filled =
+    let files = are-read reads tables says in
     record {
-      explained = record {
-        three = files.three;
-        read = files.read;
-        no_fault = files.faultless;
-        market = of_files.market;
-        worst = of_files.worst;
-        printed = of_files.made ∙ reasons-in files.three;
-      };
-      filled = subst (λ (v : Tables). FullMeansFilled (problem_of v)
-          (mechanism_placement (problem_of v))) files.tables_are filled;
+      explained = made-of reasons_of _ reasons-in reads tables text made files;
+      filled = known-of (λ m. FullMeansFilled m (mechanism_placement m)) reads tables files filled;
+    }
+
+-- and that of what it leaves and fills is that of every stable placement
+pub fixed-text : (reads : Reads) (tables : Tables) (text : List ℕ)
+    → said tables_plan reads ≡ Some (Ok tables) → IsMade fixed_of tables text
+    → IsOfEveryStable (problem_of tables)
+    (seats_in (problem_of tables) (mechanism_placement (problem_of tables)))
+    → IsFixedText reads text
+unfolding made-of
+fixed-text reads tables text says made every =
+    let files = are-read reads tables says in
+    record {
+      told = made-of fixed_of _ fixed-in reads tables text made files;
+      every = known-of (λ m. IsOfEveryStable m (seats_in m (mechanism_placement m))) reads tables
+          files every;
     }
 
 -- a placement file that says its placement has no fault
@@ -211,21 +233,40 @@ ends-well verdict answer is P both = (
   λ p. is ∙ ap verdict_ending (both.1 p),
 )
 
--- four files, one behind the others
-behind-said : {T : Type 0} (said : Option (Result Tables (Stop WordsFault)))
-    (next : Tables → Option (Result T (Stop WordsFault))) (end : T)
-    → behind_tables said next ≡ Some (Ok end)
-    → (tables : Tables) × (said ≡ Some (Ok tables)) × (next tables ≡ Some (Ok end))
-behind-said None next end e = cc e
-behind-said (Some (Err stop)) next end e = cc e
-behind-said (Some (Ok tables)) next end e = (tables, refl, e)
+-- what is said of four files is said of the three, and of the placement file behind them
+behind-tables : (reads : Reads) (audited : Audited)
+    → said audited_plan reads ≡ Some (Ok audited)
+    → (tables : Tables) × (said tables_plan reads ≡ Some (Ok tables))
+    × (said (held_plan tables) reads ≡ Some (Ok audited))
+behind-tables reads audited says =
+    answer-behind (said tables_plan reads) _ audited
+    (sym (said-then tables_plan held_plan reads) ∙ says)
+
+-- the audit of a placement file beside three files that were read
+audit-beside : {reads : Reads} {tables : Tables} {bytes : List ℕ} {answer : Answer}
+    → (files : AreTablesRead reads tables) → reads file.Placement ≡ Some bytes
+    → HasAudit (tables_in files.three) bytes answer → IsAudit reads answer
+unfolding tables_in codes_in numbers_in
+audit-beside {bytes = bytes} {answer = answer} files read all = record {
+  three = files.three;
+  read = files.read;
+  no_fault = files.faultless;
+  bytes = bytes;
+  placement_read = read;
+  placement_few = all.few;
+  placement_no_fault = all.none;
+  verdict = all.audit.verdict;
+  first = all.audit.first;
+  stable = ends-well all.audit.verdict answer (ap (λ (v : Answer). v.ending) all.audit.printed) _
+      all.audit.stable;
+  printed = ap (λ (v : Answer). v.text) all.audit.printed;
+}
 
 -- the audit of four files that were read
 pub audit-answer : (reads : Reads) (audited : Audited) (answer : Answer)
-    → audited_said reads ≡ Some (Ok audited) → IsAuditOf audited answer → IsAudit reads answer
-unfolding tables_in codes_in numbers_in
-audit-answer reads audited answer said is =
-    let behind = behind-said (tables_said reads) _ audited said in
+    → said audited_plan reads ≡ Some (Ok audited) → IsAuditOf audited answer → IsAudit reads answer
+audit-answer reads audited answer says is =
+    let behind = behind-tables reads audited says in
     let tables = behind.0 in
     let files = are-read reads tables behind.1 in
     let last = said-from (reads file.Placement)
@@ -235,23 +276,10 @@ audit-answer reads audited answer said is =
     (numbers_of tables.candidates.numbers) last.0 last.2 last.3 in
     let made : audited ≡ audited_with tables last.2 = cc last.4 in
     let mine = subst (λ (v : Audited). IsAuditOf v answer) made is in
-    let all = subst (λ (v : Tables). HasAudit v last.0 answer) files.tables_are (record {
+    audit-beside files last.1
+    (subst (λ (v : Tables). HasAudit v last.0 answer) files.tables_are (record {
       few = one.few;
       none = one.none;
       audit = subst (λ (v : List (Option ℕ)). IsAuditOf (audited_with tables v) answer) one.same
           mine;
-    }) in
-    record {
-      three = files.three;
-      read = files.read;
-      no_fault = files.faultless;
-      bytes = last.0;
-      placement_read = last.1;
-      placement_few = all.few;
-      placement_no_fault = all.none;
-      verdict = all.audit.verdict;
-      first = all.audit.first;
-      stable = ends-well all.audit.verdict answer (ap (λ (v : Answer). v.ending) all.audit.printed)
-          _ all.audit.stable;
-      printed = ap (λ (v : Answer). v.text) all.audit.printed;
-    }
+    }))

@@ -1,9 +1,5 @@
 -- no fault of a table is that its file is too long
-pub mod TableFaults
--- files that are read and judged one after the other
-pub mod Readings
--- a placement file behind three files
-pub mod FourFiles
+pub mod JudgedFiles
 -- an answer that is made of what was read
 pub mod Answering
 -- the summary of a made market

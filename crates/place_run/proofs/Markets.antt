@@ -2,14 +2,16 @@
 -- only to the others'
 -- entries; and what its placement gives each candidate is one of its programmes.
 use Rattle.std.proofs.Common.{◌≡◌, ℕ, ◌<◌, ◌≤◌, List, [], length, get_or, refl, sym, subst, ap, ◌∙◌, arith, Option, Some, Result, Ok, Err, IfOk, ⊎_elim}
-use Rattle.std.specs.Prelude.{All, map}
+use Rattle.std.specs.Prelude.{All, is_none, map}
+use Rattle.std.specs.List.{range_with_len}
 use Rattle.std.proofs.lemmas.Bool.{cases_lt}
 use Rattle.std.proofs.lemmas.List.{get_or_past, length-map}
-use Rattle.std.proofs.lemmas.List.Elements.{All-get_or}
-use Rattle.std.proofs.lemmas.List.FromFn.{length-map-range_with_len}
+use Rattle.std.proofs.lemmas.List.Elements.{All-filter, All-get_or}
+use Rattle.std.proofs.lemmas.List.FromFn.{get_or-range_with_len, length-map-range_with_len, length-range_with_len}
+use Rattle.fixed_seats.specs.Reports.{IsOfEveryStable, Seats, seats_in, unplaced_in}
 use Rattle.market.specs.Comparisons.{IsWorstStable}
 use Rattle.market.specs.Mechanism.{mechanism_placement}
-use Rattle.market.specs.Problems.{Problem, IsValid, no_programme, problem, kind_of, quota_of, list_of, order_of, ranks_of, place_of}
+use Rattle.market.specs.Problems.{IsBar, Problem, IsValid, bar_of, no_programme, problem, kind_of, quota_of, list_of, order_of, ranks_of, place_of}
 use Rattle.market.specs.Stability.{held_by, IsPlacement}
 use Rattle.market.specs.declared.programme.Prog.{Prog}
 use Rattle.market.proofs.Firsts.{place_get}
@@ -24,6 +26,7 @@ use Rattle.reports.specs.FullEntries.{FullMeansFilled}
 use Rattle.place_run.specs.Placings.{IsNamed, IsNamedPlacement, IsPlacedOf}
 use Rattle.place_run.specs.Problems.{IsProblemOf}
 use Rattle.place_run.specs.commands.Base.{base_text, bases_of}
+use Rattle.place_run.specs.commands.Fixed.{fixed_of, fixed_text}
 use Rattle.place_run.specs.commands.Place.{printed_placement}
 use Rattle.place_run.specs.commands.Reasons.{reasons_of, reasons_text}
 use Rattle.place_run.specs.declared.placing.Placed.{Placed}
@@ -40,11 +43,12 @@ valid-parts : (types : ℕ) (programmes : List Prog) (lists : List (List ℕ)) (
     → types ≤ MOST_TYPES → length programmes ≤ MOST_PROGRAMMES → length lists ≤ MOST_CANDIDATES
     → All (λ (one : Prog). one.kind < types) programmes
     → All (λ (one : Prog). one.quota ≤ LARGEST_QUOTA) programmes
+    → All (λ (one : Prog). IsBar one.bar) programmes
     → All (IsPreferenceList (length programmes)) lists
     → length table.orders ≡ types → table.candidates ≡ length lists → IsSound table
     → IsValid (problem types programmes lists table.orders table.ranks)
-unfolding kind_of quota_of list_of order_of ranks_of
-valid-parts types programmes lists table few_types few_programmes few_lists kinds quotas wishes
+unfolding kind_of quota_of bar_of list_of order_of ranks_of
+valid-parts types programmes lists table few_types few_programmes few_lists kinds quotas bars wishes
     orders candidates sound =
     record {
       types = omega (arith, few_types);
@@ -58,6 +62,7 @@ valid-parts types programmes lists table few_types few_programmes few_lists kind
           let few = All-get_or (λ (one : Prog). one.quota ≤ LARGEST_QUOTA) programmes p no_programme
           h
           quotas in omega (arith, few);
+      bars = λ p h. All-get_or (λ (one : Prog). IsBar one.bar) programmes p no_programme h bars;
       list_lengths = λ i h. let few = (wish i h).few in omega (arith, few);
       list_entries = λ i k h within. All-get_or (λ p. p < length programmes) (get_or lists i []) k
           0 within (wish i h).within;
@@ -82,16 +87,17 @@ pub valid-market : (types : ℕ) (programmes : List Prog) (lists orders ranks : 
     → types ≤ MOST_TYPES → length programmes ≤ MOST_PROGRAMMES → length lists ≤ MOST_CANDIDATES
     → All (λ (one : Prog). one.kind < types) programmes
     → All (λ (one : Prog). one.quota ≤ LARGEST_QUOTA) programmes
+    → All (λ (one : Prog). IsBar one.bar) programmes
     → All (IsPreferenceList (length programmes)) lists
     → length table.orders ≡ types → table.candidates ≡ length lists → IsSound table
     → orders ≡ table.orders → ranks ≡ table.ranks
     → IsValid (problem types programmes lists orders ranks)
 valid-market types programmes lists orders ranks table few_types few_programmes few_lists kinds
-    quotas wishes counted candidates sound same_orders same_ranks =
+    quotas bars wishes counted candidates sound same_orders same_ranks =
     subst (λ v. IsValid (problem types programmes lists v ranks)) (sym same_orders)
     (subst (λ v. IsValid (problem types programmes lists table.orders v)) (sym same_ranks)
     (valid-parts types programmes lists table few_types few_programmes few_lists kinds quotas
-    wishes counted candidates sound))
+    bars wishes counted candidates sound))
 
 -- a market that was built of the parts is theirs
 pub built-market : {E : Type 0} (result : Result Problem E) (programmes : Programmes)
@@ -222,6 +228,54 @@ pub reasons-made : (tables : Tables) (placed : Placed) (text : List ℕ) → IsP
 unfolding reasons_of
 reasons-made tables placed text is printed =
     made reasons_text reasons_of tables placed text is refl printed
+
+-- and that of what it leaves and fills, where every stable placement does the same
+pub fixed-made : (tables : Tables) (placed : Placed) (seats : Seats) (text : List ℕ)
+    → IsPlacedOf tables placed → IsOfEveryStable placed.problem.market seats
+    → text ≡ fixed_text (codes_of placed.problem.programmes.rows)
+    (numbers_of placed.problem.numbers) seats
+    → IsMade fixed_of tables text
+unfolding fixed_of
+fixed-made tables placed seats text is every printed =
+    made (λ programmes numbers m held. fixed_text programmes numbers (seats_in m held)) fixed_of
+    tables placed text is refl
+    (printed ∙ ap (fixed_text (codes_of placed.problem.programmes.rows)
+    (numbers_of placed.problem.numbers)) (every.every placed.placement is.worst.stable))
+
+pub fixed-every : (tables : Tables) (placed : Placed) (seats : Seats) → IsPlacedOf tables placed
+    → IsOfEveryStable placed.problem.market seats
+    → IsOfEveryStable (problem_of tables)
+    (seats_in (problem_of tables) (mechanism_placement (problem_of tables)))
+fixed-every tables placed seats is every =
+    subst (λ (v : Problem). IsOfEveryStable v (seats_in v (mechanism_placement v)))
+    is.problem.market
+    (subst (IsOfEveryStable placed.problem.market)
+    (every.every placed.placement is.worst.stable
+    ∙ ap (seats_in placed.problem.market) is.placement) every)
+
+-- those whom it leaves without a programme are candidates of the market
+pub fixed-candidates : (tables : Tables) (placed : Placed) (seats : Seats)
+    → IsPlacedOf tables placed → IsOfEveryStable placed.problem.market seats
+    → All (λ i. i < length (numbers_of placed.problem.numbers)) seats.unplaced
+unfolding unplaced_in
+fixed-candidates tables placed seats is every =
+    let held = placed.placement in
+    let count = length (numbers_of placed.problem.numbers) in
+    let named = named-placement tables placed is in
+    let size : length held ≡ count = named.candidates ∙ sym named.named.candidates in
+    subst (λ (v : Seats). All (λ i. i < count) v.unplaced)
+    (sym (every.every held is.worst.stable))
+    (All-filter (λ i. is_none (held_by held i)) (λ i. i < count) (range_with_len 0 (length held))
+    (λ k d within.
+    let few : k < length held = omega (arith, length-range_with_len 0 (length held), within) in
+    let at = get_or-range_with_len 0 (length held) k d few in
+    omega (arith, at, few, size)))
+
+pub fixed-programmes : (tables : Tables) (placed : Placed) (seats : Seats)
+    → IsPlacedOf tables placed → IsOfEveryStable placed.problem.market seats
+    → length seats.held ≡ length (codes_of placed.problem.programmes.rows)
+fixed-programmes tables placed seats is every =
+    every.programmes ∙ sym (named-placement tables placed is).named.programmes
 
 -- what holds of the mechanism's placement holds of that of the tables
 pub filled-in : (tables : Tables) (placed : Placed) → IsPlacedOf tables placed

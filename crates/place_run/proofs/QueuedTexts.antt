@@ -1,5 +1,5 @@
 -- Texts that pass through a buffer: what was queued, and what was written where a put failed.
-use Rattle.std.proofs.Common.{◌≡◌, ℕ, ◌+◌, ◌<◌, ◌≤◌, List, [], ◌++◌, take, drop, refl, sym, ap, ◌∙◌, append_assoc, append-nil, subst, Option, Result, Err}
+use Rattle.std.proofs.Common.{◌≡◌, ℕ, ◌+◌, ◌<◌, List, [], ◌++◌, take, drop, refl, sym, ap, ◌∙◌, append_assoc, append-nil, subst, Option, Result, Err}
 use Rattle.std.specs.List.{flat_map, range_with_len}
 use Rattle.std.proofs.lemmas.List.{take-append-drop}
 use Rattle.std.proofs.lemmas.List.Concat.{flat_map-append}
@@ -58,6 +58,7 @@ pub unwritten-of : {T E : Type 0} (text : List ℕ) (error : E) (held holds : Li
     → IsWritten {T = T} (held ++ text) (Err error) old new before now
 unwritten-of text error held holds old new before now queued = record {
   whole = tt;
+  quiet = tt;
   prefix = queued.prefix;
   failed = queued.failed;
   later = queued.later;
@@ -70,6 +71,7 @@ pub unqueued-of : {T E : Type 0} (text : List ℕ) (error : E) (held holds : Lis
     → IsQueued {T = T} text (Err error) held holds old new before now
 unqueued-of text error held holds old new before now written = record {
   whole = tt;
+  quiet = tt;
   prefix = written.prefix;
   failed = written.failed;
   later = written.later;
@@ -78,23 +80,23 @@ unqueued-of text error held holds old new before now written = record {
 -- where the rest of what was queued is written, all of it is
 pub queued-written : {T E : Type 0} (text : List ℕ) (result : Result T E) (held holds : List ℕ)
     (old mid new : Option (List ℕ)) (before between now : ℕ)
-    → AreQueued text held holds old mid → before ≤ between
+    → AreQueued text held holds old mid → between ≡ before
     → IsWritten holds result mid new between now
     → IsWritten (held ++ text) result old new before now
-queued-written text result held holds old mid new before between now queued later written =
+queued-written text result held holds old mid new before between now queued same written =
     subst (λ v. IsWritten v result old new before now) queued.rest
-    (written-two queued.bytes holds result old mid new before between now queued.written later
+    (written-two queued.bytes holds result old mid new before between now queued.written same
     written)
 
 -- where the text of a number was not queued whole, neither were all of them
 pub texts-unqueued : {T E : Type 0} (text : ℕ → List ℕ) (count n : ℕ) (error : E)
     (held between : List ℕ) (old mid new : Option (List ℕ)) (before later now : ℕ) → n < count
-    → AreQueued (texts_before text count n) held between old mid → before ≤ later
+    → AreQueued (texts_before text count n) held between old mid → later ≡ before
     → IsWritten {T = T} (between ++ text n) (Err error) mid new later now
     → IsWritten {T = T} (held ++ flat_map text (range_with_len 0 count)) (Err error) old new before
     now
 texts-unqueued {T} {E} text count n error held between old mid new before later now within queued
-    rose written =
+    same written =
     let xs = range_with_len 0 count in
     let more = texts_before text count (n + 1) in
     let rest = flat_map text (drop (n + 1) xs) in
@@ -104,7 +106,7 @@ texts-unqueued {T} {E} text count n error held between old mid new before later 
     let next = queued-put (texts_before text count n) (text n) held between (between ++ text n)
     old mid queued refl in
     let far = queued-written (texts_before text count n ++ text n) (Err error) held
-    (between ++ text n) old mid new before later now next rose written in
+    (between ++ text n) old mid new before later now next same written in
     subst (λ v. IsWritten {T = T} v (Err error) old new before now)
     (append_assoc held more rest ∙ ap (λ v. held ++ v) all)
     (unwritten-first (held ++ more) rest error old new before now

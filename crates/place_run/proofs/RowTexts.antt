@@ -1,6 +1,6 @@
 -- Texts that grow by a row: what was written so far is a front and the rows of the first numbers.
 use Rattle.std.proofs.Common.{◌≡◌, ℕ, ◌+◌, ◌^◌, ◌<◌, ◌≤◌, List, [], ◌∷◌, ◌++◌, length, take, get_or, sym, ap, ◌∙◌, arith, Option, Some}
-use Rattle.std.specs.Prelude.{decimal, slice_get}
+use Rattle.std.specs.Prelude.{codes, decimal, slice_get, slice_index}
 use Rattle.std.specs.List.{flat_map, range_with_len}
 use Rattle.std.proofs.lemmas.List.{flat_map_more, take_all, take_more}
 use Rattle.std.proofs.lemmas.List.FromFn.{get_or-range_with_len, length-range_with_len}
@@ -13,6 +13,7 @@ use Rattle.record_files.specs.Texts.{row_text}
 use Rattle.reports.specs.Reasons.{entry_at, reason_of}
 use Rattle.reports.specs.declared.reasons.Reason.{Reason}
 use Rattle.place_run.specs.commands.Base.{programme_row, rank_text}
+use Rattle.place_run.specs.commands.Fixed.{filled_row, unplaced_row}
 use Rattle.place_run.specs.commands.Reasons.{entry_row, reason_base, reason_row, reason_word}
 
 -- the texts of the numbers before n, of so many
@@ -44,6 +45,15 @@ texts-all text count n all =
     ap (flat_map text)
     (take_all n (range_with_len 0 count) (omega (arith, length-range_with_len 0 count)))
 
+-- one element of a list more
+pub list-more : (row : ℕ → List ℕ) (front xs : List ℕ) (n : ℕ) (old new : List ℕ) → n < length xs
+    → old ≡ front ++ flat_map row (take n xs) → new ≡ old ++ row (get_or xs n 0)
+    → new ≡ front ++ flat_map row (take (n + 1) xs)
+list-more row front xs n old new within before after =
+    after ∙ ap (λ v. v ++ row (get_or xs n 0)) before
+    ∙ flat_map_more row front (take n xs) (get_or xs n 0)
+    ∙ ap (λ v. front ++ flat_map row v) (sym (take_more xs n 0 within))
+
 -- the number that a table gives at an index
 pub number-at : (numbers : List ℕ) (index number : ℕ) → index < length numbers
     → slice_get numbers index ≡ Some number → number ≡ get_or numbers index 0
@@ -69,6 +79,27 @@ base-row programmes m held p code quota count text within given quotas counts te
     ∷ text ∷ [])) counts
     ∙ ap (λ v. row_text (decimal (get_or programmes p 0) ∷ decimal (quota_of m p)
     ∷ decimal (count_of p held) ∷ v ∷ [])) texts
+
+-- ---- the rows of what all stable placements share
+
+-- a row of a candidate's number and no seat is that of the candidate
+pub unplaced-row : (candidates : List ℕ) (i number : ℕ) → i < length candidates
+    → slice_get candidates i ≡ Some number
+    → row_text (codes "CANDIDATE" ∷ decimal number ∷ decimal 0 ∷ []) ≡ unplaced_row candidates i
+unplaced-row candidates i number within given =
+    ap (λ v. row_text (codes "CANDIDATE" ∷ decimal v ∷ decimal 0 ∷ []))
+    (number-at candidates i number within given)
+
+-- a row of a code and a number of holders is that of the programme
+pub filled-row : (programmes held : List ℕ) (p code count : ℕ) → p < length programmes
+    → slice_get programmes p ≡ Some code → count ≡ slice_index held p
+    → row_text (codes "PROGRAMME" ∷ decimal code ∷ decimal count ∷ [])
+    ≡ filled_row programmes held p
+filled-row programmes held p code count within given counts =
+    ap (λ v. row_text (codes "PROGRAMME" ∷ decimal v ∷ decimal count ∷ []))
+    (number-at programmes p code within given)
+    ∙ ap (λ v. row_text (codes "PROGRAMME" ∷ decimal (slice_index programmes p) ∷ decimal v ∷ []))
+    counts
 
 -- ---- the row of a list entry
 

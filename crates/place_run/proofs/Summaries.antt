@@ -1,7 +1,6 @@
 -- The summary of a made market: what is said of it, and how it answers the words.
 use Rattle.std.proofs.Common.{◌≡◌, ℕ, List, Option, Some, Result, Ok, Err, refl, sym, subst, ap, ◌∙◌, inl, IfOk}
-use Rattle.std.specs.Prelude.{IsErrAnd, IsErrOf, IsTrue}
-use Rattle.place_base.specs.declared.fault.FileFault.{FileFault}
+use Rattle.std.specs.Prelude.{IsErrAnd, IsTrue}
 use Rattle.case_maker.specs.MadeMarkets.{HasSizes, made_market}
 use Rattle.command_words.specs.declared.words.Command.{Command}
 use Rattle.command_words.specs.declared.words.Command.TheVariants.{Make}
@@ -12,16 +11,15 @@ use Rattle.market.specs.Problems.{IsValid, Problem}
 use Rattle.market.specs.declared.placement.Outcome.{Outcome}
 use Rattle.market_summary.specs.Summaries.{summary}
 use Rattle.place_edges.specs.Shelf.{Files}
-use Rattle.run_frame.specs.declared.stop.FileStop.TheVariants.{Fault, Memory, ReadFault}
+use Rattle.run_frame.specs.declared.stop.FileStop.TheVariants.{Memory}
+use Rattle.run_frame.specs.Files.{Moment}
 use Rattle.run_frame.specs.Meetings.{Meets}
-use Rattle.run_frame.specs.Stops.{too_long}
 use Rattle.run_frame.proofs.Parts.{at-error}
-use Rattle.run_frame.proofs.Readings.{none-read}
+use Rattle.run_frame.proofs.Readings.{NeedsNoCause, plan-ends}
 use Rattle.place_run.specs.Answers.{Answer, done}
 use Rattle.place_run.specs.Makings.{IsSummarised}
 use Rattle.place_run.specs.Placings.{IsOutcomeOf}
 use Rattle.place_run.specs.Runs.{IsAnswering}
-use Rattle.place_run.specs.Says.{named}
 use Rattle.run_frame.specs.Stops.{is_free_stop}
 use Rattle.place_run.specs.commands.Make.{IsSummaryOf, outcome_of, summary_of}
 use Rattle.run_frame.specs.declared.stop.Stop.{Stop}
@@ -74,21 +72,11 @@ no-summary seed candidates programmes types answer is =
     at-error (IsSummarised seed candidates programmes types) answer (File Memory) is refl
 
 -- no file is read for it
-pub no-read-fault : (seed candidates programmes types : ℕ)
-    (answer : Result Answer (Stop WordsFault))
-    → IsSummarised seed candidates programmes types answer → IsErrOf answer (File ReadFault) → ⊥
-no-read-fault seed candidates programmes types (Ok ready) is e = cc e
-no-read-fault seed candidates programmes types (Err stop) same e =
-    let found : stop ≡ File ReadFault = cc e in
-    let never : File Memory ≡ File ReadFault = sym same ∙ found in cc never
-
-never-long : (seed candidates programmes types : ℕ) (answer : Result Answer (Stop WordsFault))
-    (fault : FileFault) → IsSummarised seed candidates programmes types answer
-    → IsErrOf answer (File (Fault fault)) → ⊥
-never-long seed candidates programmes types (Ok ready) fault is e = cc e
-never-long seed candidates programmes types (Err stop) fault same e =
-    let found : stop ≡ File (Fault fault) = cc e in
-    let never : File Memory ≡ File (Fault fault) = sym same ∙ found in cc never
+needs-no-cause : (seed candidates programmes types : ℕ) (answer : Result Answer (Stop WordsFault))
+    → IsSummarised seed candidates programmes types answer → NeedsNoCause answer
+needs-no-cause seed candidates programmes types (Ok ready) is = tt
+needs-no-cause seed candidates programmes types (Err stop) same =
+    subst (λ v. NeedsNoCause {A = Answer} (Err v)) (sym same) tt
 
 -- it is what is said, or memory was refused
 meets-summary : (seed candidates programmes types : ℕ) (answer : Result Answer (Stop WordsFault))
@@ -108,16 +96,12 @@ keeps-summary seed candidates programmes types (Err stop) same = tt
 -- so a summary answers `make`, and nothing is read for it
 pub summarised : (told : Option Files) (words : List (List ℕ)) (command : Result Command WordsFault)
     (seed candidates programmes types workers : ℕ) (answer : Result Answer (Stop WordsFault))
-    (before tally_before : ℕ) → command ≡ Ok (Make seed candidates programmes types workers)
+    (now : Moment) → command ≡ Ok (Make seed candidates programmes types workers)
     → IsSummarised seed candidates programmes types answer
-    → IsAnswering told words command answer before before tally_before tally_before
-summarised told words command seed candidates programmes types workers answer before tally_before
-    accepted is =
-    subst (λ v. IsAnswering told words v answer before before tally_before tally_before)
-    (sym accepted) (record {
-      reading = none-read told (named words) _ answer before tally_before
-          (λ reads. meets-summary seed candidates programmes types answer is)
-          (no-read-fault seed candidates programmes types answer is)
-          (λ kind. never-long seed candidates programmes types answer (too_long kind) is);
+    → IsAnswering told words command answer now now
+summarised told words command seed candidates programmes types workers answer now accepted is =
+    subst (λ v. IsAnswering told words v answer now now) (sym accepted) (record {
+      reading = plan-ends _ answer now (meets-summary seed candidates programmes types answer is)
+          (needs-no-cause seed candidates programmes types answer is);
       promise = keeps-summary seed candidates programmes types answer is;
     })

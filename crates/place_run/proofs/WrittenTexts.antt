@@ -1,5 +1,5 @@
 -- A text that is written in two parts.
-use Rattle.std.proofs.Common.{ℕ, ◌+◌, ◌≤◌, List, ◌++◌, length, take, sym, subst, arith, Option, Result, Ok, Err, length-append}
+use Rattle.std.proofs.Common.{◌≡◌, ◌∙◌, ℕ, ◌+◌, List, ◌++◌, length, take, sym, subst, arith, Option, Result, Ok, Err, length-append}
 use Rattle.std.proofs.Math.Seq.{take-append-add}
 use Rattle.std.proofs.lemmas.List.{take-append-le}
 use Rattle.place_edges.specs.Sink.{Appended, IsWritten}
@@ -14,6 +14,7 @@ unwritten-first first second error old new before now written =
     let part = written.prefix in
     record {
       whole = tt;
+      quiet = tt;
       prefix = (
         part.0,
         omega (arith, part.1, length-append first second),
@@ -26,24 +27,26 @@ unwritten-first first second error old new before now written =
 -- behind the first part the second one was written
 pub written-two : {T E : Type 0} (first second : List ℕ) (result : Result T E)
     (old mid new : Option (List ℕ)) (before between now : ℕ) → Appended old mid first
-    → before ≤ between → IsWritten second result mid new between now
+    → between ≡ before → IsWritten second result mid new between now
     → IsWritten (first ++ second) result old new before now
-written-two first second (Ok value) old mid new before between now wrote later rest = record {
+written-two first second (Ok value) old mid new before between now wrote same rest = record {
   whole = appended-two old mid new first second wrote rest.whole;
+  quiet = rest.quiet ∙ same;
   prefix = tt;
   failed = tt;
-  later = omega (arith, later, rest.later);
+  later = omega (arith, same, rest.later);
 }
-written-two first second (Err error) old mid new before between now wrote later rest =
+written-two first second (Err error) old mid new before between now wrote same rest =
     let part = rest.prefix in
     record {
       whole = tt;
+      quiet = tt;
       prefix = (
         length first + part.0,
         omega (arith, part.1, length-append first second),
         subst (λ v. Appended old new v) (sym (take-append-add first second part.0))
             (appended-two old mid new first (take part.0 second) wrote part.2),
       );
-      failed = omega (arith, later, rest.failed);
-      later = omega (arith, later, rest.later);
+      failed = omega (arith, same, rest.failed);
+      later = omega (arith, same, rest.later);
     }

@@ -2,22 +2,24 @@
 use Rattle.std.specs.Prelude.{◌≡◌, ◌⊎◌, ℕ, List, IfOk, IfSome, IsErrOf, Option, None, Result, Ok}
 use Rattle.command_words.specs.Words.{command_of}
 use Rattle.command_words.specs.declared.words.Command.{Command}
-use Rattle.command_words.specs.declared.words.Command.TheVariants.{Place, Base, Reasons, Audit, Make}
+use Rattle.command_words.specs.declared.words.Command.TheVariants.{Place, Base, Reasons, Audit, Fixed, Make}
 use Rattle.command_words.specs.declared.words.WordsFault.{WordsFault}
 use Rattle.market.specs.Mechanism.{mechanism_placement}
 use Rattle.place_edges.specs.Shelf.{Files}
 use Rattle.place_edges.specs.Sink.{Appended}
-use Rattle.run_frame.specs.Files.{AreRead, AreReadOnce, Reads}
+use Rattle.run_frame.specs.Files.{AreReadOnce, Moment, Reads}
+use Rattle.run_frame.specs.Plans.{AreRead, files_read, first_file}
 use Rattle.run_frame.specs.Runs as frame
 use Rattle.run_frame.specs.Runs.{Endings, IsFinished, IsWhole}
 use Rattle.run_frame.specs.declared.stop.FileStop.TheVariants as file
 use Rattle.place_run.specs.Answers.{Answer}
-use Rattle.place_run.specs.Says.{KeepsPromise, files_read, first_file, named, says}
+use Rattle.place_run.specs.Says.{KeepsPromise, named, plan}
 use Rattle.place_run.specs.Statuses.{ended, status_of}
 use Rattle.place_run.specs.Tables.{HasNoFault, ThreeFiles, codes_in, numbers_in, problem_of, tables_in}
 use Rattle.placement_file.specs.Texts.{placement_text}
 use Rattle.place_run.specs.commands.Audit.{IsAudit}
 use Rattle.place_run.specs.commands.Base.{IsBaseText}
+use Rattle.place_run.specs.commands.Fixed.{IsFixedText}
 use Rattle.place_run.specs.commands.Make.{IsSummaryOf}
 use Rattle.place_run.specs.commands.Place.{AreThree, IsWorstStableText}
 use Rattle.place_run.specs.commands.Reasons.{IsReasonsText}
@@ -40,61 +42,51 @@ endings = record {
 -- promise.
 pub record IsAnswering (told : Option Files) (words : List (List ℕ))
     (command : Result Command WordsFault) (answer : Result Answer (Stop WordsFault))
-    (before now tally_before tally_now : ℕ) : Type 0 where
-  pub reading : AreRead told (named words) (first_file command) (says command) (files_read command)
-      answer before now tally_before tally_now
+    (before now : Moment) : Type 0 where
+  pub reading : AreRead told (named words) (plan command) answer before now
   pub promise : IfOk answer (KeepsPromise command reading.reads)
 
 -- where the words ask for no file the shelf is as it was, and there is no read fault
 abbrev pub ReadsNothing : {H T : Type 0} → Result Command WordsFault → Result T (Stop WordsFault)
     → H → H → Type 0
 ReadsNothing command result old new =
-    first_file command ≡ None → (new ≡ old) × (IsErrOf result (File file.ReadFault) → ⊥)
+    first_file (plan command) ≡ None → (new ≡ old) × (IsErrOf result (File file.ReadFault) → ⊥)
 
 -- The run: there is an answer to the words, and it was written.
 pub record IsAnsweredRun {K : Type 0} (written : K → Option (List ℕ)) (faults : K → ℕ)
     (told : Option Files) (words : List (List ℕ)) (status : Status) (old new : K)
-    (before now tally_before tally_now : ℕ) : Type 0 where
+    (before now : Moment) : Type 0 where
   pub answer : Result Answer (Stop WordsFault)
-  pub answers : IsAnswering told words (command_of words) answer before now tally_before tally_now
+  pub answers : IsAnswering told words (command_of words) answer before now
   pub finished : IsFinished endings written faults answer status old new
 
 -- these bytes were read: they are those held, if that is told, and each file of the command was
 -- read once
 abbrev pub AreFilesRead : Option Files → List (List ℕ) → Reads → ℕ → ℕ → Type 0
 AreFilesRead told words reads before now =
-    AreReadOnce told (named words) (files_read (command_of words)) reads before now
+    AreReadOnce told (named words) (files_read (plan (command_of words))) reads before now
 
--- where the words are `place` and the run is done, such a text of the files that were read was
--- appended, and nothing else
+-- where the words ask for this, by any number of workers, and the run is done, such a text of the
+-- files that were read was appended, and nothing else
+abbrev pub PrintsText : (ℕ → Command) → (Reads → List ℕ → Type 0) → Option Files → List (List ℕ)
+    → Status → Option (List ℕ) → Option (List ℕ) → ℕ → ℕ → Type 0
+PrintsText asked IsText told words status old new before now =
+    (workers : ℕ) → command_of words ≡ Ok (asked workers) → status ≡ ends.Done
+    → (reads : Reads) × AreFilesRead told words reads before now
+    × (text : List ℕ) × IsText reads text × Appended old new text
+
+-- `place` prints the worst stable placement
 abbrev pub PrintsWorstStable : Option Files → List (List ℕ) → Status
     → Option (List ℕ) → Option (List ℕ) → ℕ → ℕ → Type 0
-PrintsWorstStable told words status old new before now =
-    (workers : ℕ) → command_of words ≡ Ok (Place workers) → status ≡ ends.Done
-    → (reads : Reads) × AreFilesRead told words reads before now
-    × (text : List ℕ) × IsWorstStableText reads text × Appended old new text
+PrintsWorstStable = PrintsText Place IsWorstStableText
 
--- where the words are `base` and the run is done, the base ranks of that placement were appended
-abbrev pub PrintsBases : Option Files → List (List ℕ) → Status → Option (List ℕ)
-    → Option (List ℕ) → ℕ → ℕ → Type 0
-PrintsBases told words status old new before now =
-    (workers : ℕ) → command_of words ≡ Ok (Base workers) → status ≡ ends.Done
-    → (reads : Reads) × AreFilesRead told words reads before now
-    × (text : List ℕ) × IsBaseText reads text × Appended old new text
-
--- where the words are `reasons` and the run is done, the reasons in that placement were appended
-abbrev pub PrintsReasons : Option Files → List (List ℕ) → Status → Option (List ℕ)
-    → Option (List ℕ) → ℕ → ℕ → Type 0
-PrintsReasons told words status old new before now =
-    (workers : ℕ) → command_of words ≡ Ok (Reasons workers) → status ≡ ends.Done
-    → (reads : Reads) × AreFilesRead told words reads before now
-    × (text : List ℕ) × IsReasonsText reads text × Appended old new text
-
--- both, and nothing else was appended
+-- `base` prints the base ranks of that placement, `reasons` the reasons in it, and `fixed` what
+-- every stable placement shares with it
 pub record PrintsReports (told : Option Files) (words : List (List ℕ)) (status : Status)
     (old new : Option (List ℕ)) (before now : ℕ) : Type 0 where
-  pub bases : PrintsBases told words status old new before now
-  pub reasons : PrintsReasons told words status old new before now
+  pub bases : PrintsText Base IsBaseText told words status old new before now
+  pub reasons : PrintsText Reasons IsReasonsText told words status old new before now
+  pub fixed : PrintsText Fixed IsFixedText told words status old new before now
 
 -- where the words are `audit` and the run ends with the verdict, this is that of the audit of the
 -- files that were read, and nothing else was appended
@@ -129,9 +121,8 @@ PlacesWhole told words status old new = IfSome told (λ files.
 
 -- all that is said over the bytes that were read is done, and held files without a fault are placed
 pub record IsComplete (told : Option Files) (words : List (List ℕ)) (status : Status)
-    (old new : Option (List ℕ)) (before now : ℕ) : Type 0 where
-  pub whole : IsWhole endings told (named words) (says (command_of words))
-      (files_read (command_of words)) status old new before now
+    (old new : Option (List ℕ)) (before now : Moment) : Type 0 where
+  pub whole : IsWhole endings told (named words) (plan (command_of words)) status old new before now
   pub places : PlacesWhole told words status old new
 
 -- a run that ends with its text has no line
@@ -145,15 +136,13 @@ IsWordsRefusal status = (refused : WordsFault) × (status ≡ ends.Words refused
 -- the same of a run, by its status
 abbrev pub RunsWithoutFile : {H : Type 0} → Result Command WordsFault → Status → H → H → Type 0
 RunsWithoutFile command status old new =
-    first_file command ≡ None → (new ≡ old) × (status ≡ ends.ReadFault → ⊥)
+    first_file (plan command) ≡ None → (new ≡ old) × (status ≡ ends.ReadFault → ⊥)
 
 -- Each refusal has its cause: words by the grammar, and the others by the counts. Only an audit
 -- says that a placement is not stable.
 pub record HasStatusCause (command : Result Command WordsFault) (status : Status)
-    (before now tally_before tally_now out_before out_now : ℕ) : Type 0 where
-  pub refusal : frame.HasStatusCause endings command status before now tally_before tally_now
-      out_before
-      out_now
+    (before now : Moment) (out_before out_now : ℕ) : Type 0 where
+  pub refusal : frame.HasStatusCause endings command status before now out_before out_now
   pub unstable : status ≡ ends.AuditNo → (workers : ℕ) × (command ≡ Ok (Audit workers))
 
 -- after a refusal the sink is as it was

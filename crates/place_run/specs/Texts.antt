@@ -17,11 +17,12 @@ pub record AreQueued (text held holds : List ℕ) (old new : Option (List ℕ)) 
   pub written : Appended old new bytes
   pub rest : bytes ++ holds ≡ held ++ text
 
--- A text was queued; or a put failed, and a prefix of what the buffer had and of the text behind it
+-- A text was queued, and no put failed; or a put failed, and a prefix of what the buffer had and of the text behind it
 -- was written.
 pub record IsQueued {T E : Type 0} (text : List ℕ) (result : Result T E) (held holds : List ℕ)
     (old new : Option (List ℕ)) (before now : ℕ) : Type 0 where
   pub whole : OnOk result (AreQueued text held holds old new)
+  pub quiet : OnOk result (now ≡ before)
   pub prefix : OnErr result (AppendedPrefix old new (held ++ text))
   pub failed : OnErr result (Rose before now)
   pub later : before ≤ now

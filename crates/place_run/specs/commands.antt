@@ -5,6 +5,8 @@ pub mod Place
 pub mod Base
 -- the reason of each list entry in the same placement
 pub mod Reasons
+-- what all stable placements share
+pub mod Fixed
 -- the audit of a placement file beside three files
 pub mod Audit
 -- the summary of a market that is made from numbers

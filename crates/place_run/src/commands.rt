@@ -2,15 +2,19 @@
 ghost use Rattle.std.specs.Prelude.{◌≡◌, Err, IsErrOf};
 ghost use Rattle.command_words.specs.declared.words.WordsFault.{WordsFault};
 ghost use Rattle.command_words.specs.Words.{command_of, texts};
+ghost use Rattle.run_frame.specs.Files.{moment};
+ghost use Rattle.run_frame.specs.Plans.{MayOpen};
 ghost use Rattle.run_frame.specs.Stops.{IsWordsStop};
 ghost use Rattle.run_frame.specs.declared.stop.Stop.TheVariants.{Words};
 ghost use Rattle.place_run.specs.Runs.{IsAnswering, ReadsNothing};
-ghost use Rattle.place_run.specs.Says.{MayOpen};
+ghost use Rattle.place_run.specs.Says.{named, plan};
 
 // The audit of a placement file beside three files.
 mod audit;
 // The base ranks of the placement of three files.
 mod base;
+// What all stable placements of three files share.
+mod fixed;
 // The summary of a market that is made from numbers.
 mod make;
 // The placement of three files.
@@ -20,6 +24,7 @@ mod reasons;
 
 use self::audit::audit;
 use self::base::base;
+use self::fixed::fixed;
 use self::make::make;
 use self::place::place;
 use self::reasons::reasons;
@@ -39,11 +44,11 @@ pub(crate) fn answer_words<R: Threads + Sync, H: Shelf, G: Gate>(
     shelf: &mut H,
     gate: &G,
 ) -> Result<Answer, Stop>
-    requires { MayOpen (H.files shelf.old) (H.grants shelf.old) (command_of (texts words.now))
-        (texts words.now) }
+    requires { MayOpen (H.files shelf.old) (H.grants shelf.old) (named (texts words.now))
+        (plan (command_of (texts words.now))) }
     ensures answers { IsAnswering (H.files shelf.old) (texts words.now)
         (command_of (texts words.now)) result
-        (H.faults shelf.old) (H.faults shelf.new) (H.tally shelf.old) (H.tally shelf.new) }
+        (moment H.faults H.tally shelf.old) (moment H.faults H.tally shelf.new) }
     ensures refused { (refused : WordsFault) → command_of (texts words.now) ≡ Err refused
         → IsErrOf result (Words refused) }
     ensures unopened { IsWordsStop result → shelf.new ≡ shelf.old }
@@ -56,6 +61,7 @@ pub(crate) fn answer_words<R: Threads + Sync, H: Shelf, G: Gate>(
         Ok(Command::Base(workers)) => base(rt, alloc, words, shelf, workers, gate),
         Ok(Command::Reasons(workers)) => reasons(rt, alloc, words, shelf, workers, gate),
         Ok(Command::Audit(workers)) => audit(rt, alloc, words, shelf, workers),
+        Ok(Command::Fixed(workers)) => fixed(rt, alloc, words, shelf, workers, gate),
         Ok(
             Command::Make {
                 seed,

@@ -1,7 +1,6 @@
 // The three tables of a market, read from their files, and a placement file beside them.
 ghost use Rattle.std.specs.Prelude.{◌≡◌, ◌≤◌, ◌<◌, ℕ, All, IfOk, IsTrue, Some, length};
 ghost use Rattle.command_words.specs.Words.{texts};
-ghost use Rattle.place_base.specs.declared.fault.FileKind.TheVariants as file;
 ghost use Rattle.place_base.specs.declared.limits.TheConstants.{MOST_PIECES};
 ghost use Rattle.programme_table.specs.Table.{codes_of};
 ghost use Rattle.candidate_table.specs.Table.{IsPreferenceList, numbers_of};
@@ -10,8 +9,9 @@ ghost use Rattle.place_edges.specs.Shelf.{file_limit};
 ghost use Rattle.placement_file.specs.Rows.{placement_fault};
 ghost use Rattle.placement_file.specs.Table.{placement_in};
 ghost use Rattle.record_files.specs.ReadTo.{IsTableRead};
-ghost use Rattle.run_frame.specs.Files.{AreRead, IsJudged};
-ghost use Rattle.place_run.specs.Says.{MayOpenTables, named, tables_read, tables_said, word_at};
+ghost use Rattle.run_frame.specs.Files.{IsJudged, moment};
+ghost use Rattle.run_frame.specs.Plans.{AreRead, MayOpen};
+ghost use Rattle.place_run.specs.Says.{named, tables_plan, word_at};
 ghost use Rattle.place_run.specs.Tables.{programmes_said, candidates_said, placement_said, ranks_said};
 
 use crate::status::Stop;
@@ -75,12 +75,11 @@ impl Inputs {
         pieces: u32,
     ) -> Result<Inputs, Stop>
         requires words { 4 ≤ length words.now }
-        requires granted { MayOpenTables (H.files shelf.old) (H.grants shelf.old)
-            (texts words.now) }
+        requires granted { MayOpen (H.files shelf.old) (H.grants shelf.old)
+            (named (texts words.now)) tables_plan }
         requires pieces { (1 ≤ pieces) × (pieces ≤ MOST_PIECES) }
-        ensures reading { AreRead (H.files shelf.old) (named (texts words.now))
-            (Some file.Programmes) tables_said tables_read result
-            (H.faults shelf.old) (H.faults shelf.new) (H.tally shelf.old) (H.tally shelf.new) }
+        ensures reading { AreRead (H.files shelf.old) (named (texts words.now)) tables_plan result
+            (moment H.faults H.tally shelf.old) (moment H.faults H.tally shelf.new) }
         ensures files { H.files shelf.new ≡ H.files shelf.old }
         ensures grants { H.grants shelf.new ≡ H.grants shelf.old }
     {
@@ -106,7 +105,7 @@ impl Inputs {
         ensures judged { IsJudged (H.files shelf.old) name.now
             (placement_said (codes_of self.now.programmes.rows)
             (numbers_of self.now.candidates.numbers)) result
-            (H.faults shelf.old) (H.faults shelf.new) (H.tally shelf.old) (H.tally shelf.new) }
+            (moment H.faults H.tally shelf.old) (moment H.faults H.tally shelf.new) }
         ensures candidates { IfOk result (λ held.
             length held ≡ length self.now.candidates.numbers) }
         ensures programmes { IfOk result (λ held. (i p : ℕ) → held_by held i ≡ Some p
@@ -177,7 +176,7 @@ fn read_programmes<R: Threads + Sync, H: Shelf>(
     requires granted { IsTrue (H.grants shelf.old name.now) }
     requires pieces { (1 ≤ pieces) × (pieces ≤ MOST_PIECES) }
     ensures judged { IsJudged (H.files shelf.old) name.now programmes_said result
-        (H.faults shelf.old) (H.faults shelf.new) (H.tally shelf.old) (H.tally shelf.new) }
+        (moment H.faults H.tally shelf.old) (moment H.faults H.tally shelf.new) }
     ensures files { H.files shelf.new ≡ H.files shelf.old }
     ensures grants { H.grants shelf.new ≡ H.grants shelf.old }
 {
@@ -198,7 +197,7 @@ fn read_candidates<R: Threads + Sync, H: Shelf>(
     requires pieces { (1 ≤ pieces) × (pieces ≤ MOST_PIECES) }
     ensures judged { IsJudged (H.files shelf.old) name.now
         (candidates_said (codes_of programmes.now.rows)) result
-        (H.faults shelf.old) (H.faults shelf.new) (H.tally shelf.old) (H.tally shelf.new) }
+        (moment H.faults H.tally shelf.old) (moment H.faults H.tally shelf.new) }
     ensures lists { IfOk result (λ table.
         All (IsPreferenceList (length (codes_of programmes.now.rows))) table.lists) }
     ensures files { H.files shelf.new ≡ H.files shelf.old }
@@ -222,7 +221,7 @@ fn read_ranks<R: Threads + Sync, H: Shelf>(
     requires pieces { (1 ≤ pieces) × (pieces ≤ MOST_PIECES) }
     ensures judged { IsJudged (H.files shelf.old) name.now
         (ranks_said programmes.now.names (numbers_of candidates.now.numbers)) result
-        (H.faults shelf.old) (H.faults shelf.new) (H.tally shelf.old) (H.tally shelf.new) }
+        (moment H.faults H.tally shelf.old) (moment H.faults H.tally shelf.new) }
     ensures types { IfOk result (λ lists. length lists.orders ≡ length programmes.now.names) }
     ensures candidates { IfOk result (λ lists. lists.candidates ≡ length candidates.now.numbers) }
     ensures files { H.files shelf.new ≡ H.files shelf.old }

@@ -184,17 +184,19 @@ fn reason_word(reason: Reason) -> &'static str
         Reason::Placed => "PLACED",
         Reason::Below => "BELOW",
         Reason::NoRank => "NORANK",
+        Reason::Bar(_) => "BAR",
         Reason::Full(_) => "FULL",
     }
 }
 
-// The base rank that stands beside a reason, a dash for none.
+// The bar or the base rank that stands beside a reason, a dash for none.
 fn reason_base(reason: Reason) -> Field<'static>
     ensures text { text_of result ≡ base_of reason }
     ensures short { IsShort result }
     ensures len { length (text_of result) ≤ 20 }
 {
     match reason {
+        Reason::Bar(bar) => rank_field(Some(bar)),
         Reason::Full(base) => rank_field(base),
         Reason::Placed | Reason::Below | Reason::NoRank => Field::Text(b"-"),
     }

@@ -2,10 +2,12 @@
 ghost use Rattle.std.specs.Prelude.{◌≡◌, ◌≤◌};
 ghost use Rattle.command_words.specs.Words.{command_of, texts};
 ghost use Rattle.place_edges.specs.Causes.{Rose};
+ghost use Rattle.run_frame.specs.Files.{moment};
 ghost use Rattle.run_frame.specs.Lines.{IsNoted};
-ghost use Rattle.run_frame.specs.Runs.{IsConstant, IsFinished};
+ghost use Rattle.run_frame.specs.Plans.{MayOpen};
+ghost use Rattle.run_frame.specs.Runs.{IsConstant, IsFinished, IsQuiet};
 ghost use Rattle.place_run.specs.Runs.{HasStatusCause, IsComplete, IsAnsweredRun, IsWordsRefusal, LeavesSink, HasNoLine, PrintsReports, PrintsSummary, PrintsVerdict, PrintsWorstStable, RunsWithoutFile, endings};
-ghost use Rattle.place_run.specs.Says.{MayOpen};
+ghost use Rattle.place_run.specs.Says.{named, plan};
 ghost use Rattle.place_run.specs.Statuses.{status_line};
 
 use crate::answer::Answer;
@@ -38,38 +40,24 @@ pub fn run_words<R: Threads + Sync, H: Shelf, K: Sink, N: Sink, G: Gate>(
     gate: &G,
 ) -> Status
     // Each file of the command may be opened where those before it have no fault.
-    requires { MayOpen (H.files shelf.old) (H.grants shelf.old) (command_of (texts words.now))
-        (texts words.now) }
+    requires { MayOpen (H.files shelf.old) (H.grants shelf.old) (named (texts words.now))
+        (plan (command_of (texts words.now))) }
 
-    // Over the bytes that were read, which are those held where the shelf tells them, the status,
-    // the text and its promise are those of the words. Each file up to the one that decides is read
-    // once.
+    // There are bytes, those held where the shelf tells them, over which the status, the text and
+    // its promise are those of the plan of the words, and each file of the plan is read once.
     ensures run { IsAnsweredRun K.written K.faults (H.files shelf.old) (texts words.now) result
-        out.old out.new (H.faults shelf.old) (H.faults shelf.new)
-        (H.tally shelf.old) (H.tally shelf.new) }
+        out.old out.new (moment H.faults H.tally shelf.old) (moment H.faults H.tally shelf.new) }
 
-    // Where the words are `place` and the run is done, each of the three files was read once, and
-    // the text is that of the mechanism's placement in the market of what was read. It is stable
-    // there, and in every stable placement there each candidate holds the printed programme or one
-    // listed higher.
+    // What each command prints is the mechanism's placement in the market of the files that were
+    // read, or is told of it: it is stable there, and in every stable placement there each
+    // candidate holds the printed programme or one listed higher. A verdict is the first one on the
+    // placement that is audited, and the status is Done exactly where that one is stable.
     ensures worst { PrintsWorstStable (H.files shelf.old) (texts words.now) result
         (K.written out.old) (K.written out.new) (H.tally shelf.old) (H.tally shelf.new) }
-
-    // Where the words are `base` or `reasons` and the run is done, each of the three files was read
-    // once, and the text is that of the same placement. A programme that the reasons call full has
-    // as many holders as its quota, each with a better rank than the candidate.
     ensures reports { PrintsReports (H.files shelf.old) (texts words.now) result
         (K.written out.old) (K.written out.new) (H.tally shelf.old) (H.tally shelf.new) }
-
-    // Where the words are `audit` and the run ends with its text, each of the four files was read
-    // once, and the text is the first verdict on the placement of the fourth in the market of the
-    // three. The status is Done exactly where that placement is stable there, and else AuditNo.
     ensures verdict { PrintsVerdict (H.files shelf.old) (texts words.now) result
         (K.written out.old) (K.written out.new) (H.tally shelf.old) (H.tally shelf.new) }
-
-    // Where the words are `make` and the run is done, the text is the summary of the market of
-    // these numbers and of the mechanism's placement in it. That is stable there, and in every
-    // stable placement there each candidate holds the same programme or one listed higher.
     ensures summary { PrintsSummary (texts words.now) result
         (K.written out.old) (K.written out.new) }
 
@@ -79,25 +67,27 @@ pub fn run_words<R: Threads + Sync, H: Shelf, K: Sink, N: Sink, G: Gate>(
         (N.faults notes.old) (N.faults notes.new) }
     ensures unnoted { HasNoLine result → notes.new ≡ notes.old }
 
-    // Each refusal has its cause, whether or not the shelf and the sinks tell their bytes.
+    // Each refusal has its cause, and where the run ends with its text no failed read or write was
+    // passed over, whether or not the shelf and the sinks tell their bytes.
     ensures causes { HasStatusCause (command_of (texts words.now)) result
-        (H.faults shelf.old) (H.faults shelf.new) (H.tally shelf.old) (H.tally shelf.new)
+        (moment H.faults H.tally shelf.old) (moment H.faults H.tally shelf.new)
+        (K.faults out.old) (K.faults out.new) }
+    ensures quiet { IsQuiet endings result
+        (moment H.faults H.tally shelf.old) (moment H.faults H.tally shelf.new)
         (K.faults out.old) (K.faults out.new) }
 
-    // Where no read and no write failed, all that is said is done and each file up to the one that
-    // decides was read once, or memory was refused. So files without a fault are placed; and over a
-    // shelf and a sink that never fail it is always so.
+    // Where no read and no write failed, all that is said is done, or memory was refused: so files
+    // without a fault are placed. Over a shelf and a sink that never fail it is always so.
     ensures complete { ¬ Rose (H.faults shelf.old) (H.faults shelf.new)
         → ¬ Rose (K.faults out.old) (K.faults out.new) → IsComplete (H.files shelf.old)
         (texts words.now) result (K.written out.old) (K.written out.new)
-        (H.tally shelf.old) (H.tally shelf.new) }
+        (moment H.faults H.tally shelf.old) (moment H.faults H.tally shelf.new) }
     ensures sure { IsConstant H.faults → IsConstant K.faults → IsComplete (H.files shelf.old)
         (texts words.now) result (K.written out.old) (K.written out.new)
-        (H.tally shelf.old) (H.tally shelf.new) }
+        (moment H.faults H.tally shelf.old) (moment H.faults H.tally shelf.new) }
 
     // What is held and granted stays. Where the words are refused, or ask for a made market, no
-    // file is opened and no read fails: only memory and a failed write can keep a summary from
-    // being done.
+    // file is opened and no read fails.
     ensures files { H.files shelf.new ≡ H.files shelf.old }
     ensures grants { H.grants shelf.new ≡ H.grants shelf.old }
     ensures unopened { IsWordsRefusal result → shelf.new ≡ shelf.old }

@@ -27,7 +27,7 @@ use self::faulty_files::FAULTY;
 use self::gates::{Draws, DrawsInPairs};
 use self::worked_markets::{
     CHAIN_BASE, CHAIN_CANDIDATES, CHAIN_PLACED, CHAIN_PROGRAMMES, CHAIN_RANKS, CHAIN_REASONS,
-    MARKETS, Worked,
+    MARKETS, SHARED, Worked,
 };
 use crate::inputs::Inputs;
 use crate::problem::Problem;
@@ -90,9 +90,12 @@ const RANKS: &[u8] = b"candidate,type,rank\n1,SAY,1\n2,SAY,2\n1,EA,1\n2,EA,2\n";
 const PLACED: &[u8] = b"candidate,programme\n1,101\n2,201\n";
 
 const TWENTY_FIVE_PROGRAMMES: &[u8] =
-    b"programme,type,quota\n1,A,1\n2,A,1\n3,A,1\n4,A,1\n5,A,1\n6,A,1\n7,A,1\n8,A,1\n9,A,1\n10,A,1\n\
-    11,A,1\n12,A,1\n13,A,1\n14,A,1\n15,A,1\n16,A,1\n17,A,1\n18,A,1\n19,A,1\n20,A,1\n21,A,1\n\
-    22,A,1\n23,A,1\n24,A,1\n25,A,1\n";
+    b"programme,type,quota\n1,SAY,1\n2,SAY,1\n3,SAY,1\n4,SAY,1\n5,SAY,1\n6,SAY,1\n7,SAY,1\n8,SAY,1\n\
+    9,SAY,1\n10,SAY,1\n11,SAY,1\n12,SAY,1\n13,SAY,1\n14,SAY,1\n15,SAY,1\n16,SAY,1\n17,SAY,1\n\
+    18,SAY,1\n19,SAY,1\n20,SAY,1\n21,SAY,1\n22,SAY,1\n23,SAY,1\n24,SAY,1\n25,SAY,1\n";
+
+// The only candidate of theirs has a rank.
+const ONE_RANK: &[u8] = b"candidate,type,rank\n1,SAY,1\n";
 
 // What a run came to.
 #[derive(Drop)]
@@ -319,6 +322,34 @@ fn the_same_placement_is_reported_by_any_number_of_workers(rt: HostRuntime) -> R
     }
     for texts in REASONS_BY {
         have_reasons(&rt, rt.alloc(), texts, &MARKETS)?;
+    }
+    Ok(())
+}
+
+const FIXED_BY: [&[&str]; 2] = [
+    &["fixed", "p", "c", "r", "--workers", "1"],
+    &["fixed", "p", "c", "r", "--workers", "64"],
+];
+
+// What all stable placements of a market share.
+fn is_shared(
+    rt: &(impl Threads + Sync + Abort),
+    alloc: Global,
+    texts: &[&str],
+    markets: &[Worked],
+    shared: &[(usize, &[u8])],
+) -> Result<(), Fail> {
+    for (market, text) in shared {
+        assert!(rt; *market < markets.len());
+        prints(rt, alloc, texts, &markets[*market], text)?;
+    }
+    Ok(())
+}
+
+#[test]
+fn what_all_stable_placements_share_is_printed(rt: HostRuntime) -> Result<(), Fail> {
+    for texts in FIXED_BY {
+        is_shared(&rt, rt.alloc(), texts, &MARKETS, &SHARED)?;
     }
     Ok(())
 }

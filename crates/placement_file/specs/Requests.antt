@@ -26,7 +26,7 @@ abbrev pub requests_rules : FileRules
 requests_rules = record {
   form = requests_form;
   reading = λ version. requests_reading;
-  meaning = λ earlier row. None;
+  meaning = λ version earlier row. None;
 }
 
 -- the first fault of a registrations file

@@ -1,13 +1,12 @@
 -- The placement file: what its rows hold, and what is wrong with them.
-use Rattle.std.specs.Prelude.{ℕ, List, ◌==◌, bytes_eq, codes, is_none, nat_eq, position, if◌then◌else◌, Option, Some, None, Result, Ok, Err}
-use Rattle.place_base.specs.declared.fault.FaultKind.{FaultKind}
+use Rattle.std.specs.Prelude.{ℕ, List, ◌==◌, codes, is_none, nat_eq, position, Option, Some, None}
 use Rattle.place_base.specs.declared.fault.FaultKind.TheVariants.{UnknownCandidate, UnknownProgramme}
 use Rattle.place_base.specs.declared.fault.FileFault.{FileFault}
 use Rattle.place_base.specs.declared.fault.FileKind.TheVariants.{Placement}
 use Rattle.place_base.specs.declared.limits.TheConstants.{LARGEST_CODE, LARGEST_NUMBER, MOST_CANDIDATES}
 use Rattle.record_files.specs.FirstFaults.{FileRules, fault_at, fault_if, first_fault, first_of, reading_fault, repeat_fault}
 use Rattle.record_files.specs.Form.{Form, one_header}
-use Rattle.record_files.specs.Numbers.{number_of, value}
+use Rattle.record_files.specs.Numbers.{number_of, optional_number_of, optional_value, value}
 use Rattle.record_files.specs.Rows.{Row, field_at}
 
 -- its header and its limit of rows
@@ -18,25 +17,15 @@ placement_form = one_header Placement (codes "candidate,programme") MOST_CANDIDA
 abbrev pub number_in : Row → ℕ
 number_in row = value (field_at row 0)
 
--- a code that is read
-abbrev pub some_code : Result ℕ FaultKind → Result (Option ℕ) FaultKind
-some_code (Ok code) = Ok (Some code)
-some_code (Err kind) = Err kind
-
--- the code in a field, none for `-`, or what is wrong with it
-abbrev pub code_read : List ℕ → Result (Option ℕ) FaultKind
-code_read field =
-    if bytes_eq field (codes "-") then Ok None else some_code (number_of field 1 LARGEST_CODE)
-
 -- the code in a row, or none
 abbrev pub code_in : Row → Option ℕ
-code_in row = if bytes_eq (field_at row 1) (codes "-") then None else Some (value (field_at row 1))
+code_in row = optional_value (field_at row 1)
 
 -- what is wrong with the fields of a row by themselves
 abbrev pub reading : Row → Option FileFault
 reading row =
     first_of (reading_fault Placement row.0 1 (number_of (field_at row 0) 1 LARGEST_NUMBER))
-    (reading_fault Placement row.0 2 (code_read (field_at row 1)))
+    (reading_fault Placement row.0 2 (optional_number_of (field_at row 1) 1 LARGEST_CODE))
 
 -- a code of a row of this line that is none of the programmes'
 abbrev pub unknown_fault : List ℕ → ℕ → Option ℕ → Option FileFault
@@ -60,7 +49,7 @@ abbrev pub placement_rules : List ℕ → List ℕ → FileRules
 placement_rules programmes candidates = record {
   form = placement_form;
   reading = λ version. reading;
-  meaning = meaning programmes candidates;
+  meaning = λ version. meaning programmes candidates;
 }
 
 -- the first fault of a placement file

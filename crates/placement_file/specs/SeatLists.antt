@@ -42,8 +42,11 @@ meaning_alone earlier row =
 
 -- what may be wrong with a placement file that is read alone
 abbrev pub seats_rules : FileRules
-seats_rules =
-    record { form = seats_form; reading = reading_alone; meaning = meaning_alone }
+seats_rules = record {
+  form = seats_form;
+  reading = reading_alone;
+  meaning = λ version. meaning_alone;
+}
 
 -- the first fault of a placement file that is read alone
 abbrev pub seats_fault : List ℕ → Option FileFault

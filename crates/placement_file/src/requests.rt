@@ -41,9 +41,9 @@ impl RowTable<()> for Requests {
 
     ghost rules = { λ _. requests_rules };
 
-    ghost says = { λ row candidate. candidate ≡ candidate_in row };
+    ghost says = { λ version row candidate. candidate ≡ candidate_in row };
 
-    ghost has_rows = { λ _ rows table. HasRequests rows table.candidates.items };
+    ghost has_rows = { λ _ version rows table. HasRequests rows table.candidates.items };
 
     fn form(_beside: &()) -> FileForm {
         FileForm::new(FileKind::Registrations, &[b"candidate"], MOST_REQUESTS)

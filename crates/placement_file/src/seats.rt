@@ -98,9 +98,9 @@ impl RowTable<()> for ReadSeats {
 
     ghost rules = { λ _. seats_rules };
 
-    ghost says = { IsFieldsOf };
+    ghost says = { λ version. IsFieldsOf };
 
-    ghost has_rows = { λ _ rows table. HasSeats rows table.held.entries table.lines.items };
+    ghost has_rows = { λ _ version rows table. HasSeats rows table.held.entries table.lines.items };
 
     fn form(_beside: &()) -> FileForm {
         FileForm::new(

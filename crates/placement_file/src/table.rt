@@ -69,9 +69,9 @@ impl<'a, P: Finder, C: Finder> RowTable<Tables<'a, P, C>> for Entries {
     ghost rules = { λ tables.
         placement_rules (P.numbers tables.programmes.now) (C.numbers tables.candidates.now) };
 
-    ghost says = { IsFieldsOf };
+    ghost says = { λ version. IsFieldsOf };
 
-    ghost has_rows = { λ tables rows table.
+    ghost has_rows = { λ tables version rows table.
         HasRows (P.numbers tables.programmes.now) (C.numbers tables.candidates.now) rows
         table.items.items };
 

@@ -12,6 +12,7 @@ use Rattle.std.proofs.lemmas.List.{map-append}
 use Rattle.std.proofs.lemmas.List.Elements.{All-push, All-weaker}
 use Rattle.programme_table.specs.declared.row.ProgrammeRow.{ProgrammeRow}
 use Rattle.indexmap.specs.IndexSet.{insert_key}
+use Rattle.market.specs.Problems.{IsBar}
 use Rattle.place_base.specs.declared.fault.FaultKind.TheVariants.{OutOfRange}
 use Rattle.place_base.specs.declared.fault.FileKind.TheVariants.{Programmes as programmes}
 use Rattle.place_base.specs.declared.limits.TheConstants.{LARGEST_QUOTA, MOST_PROGRAMMES, MOST_TYPES}
@@ -20,8 +21,9 @@ use Rattle.record_files.specs.FirstFaults.{duplicate_at, fault_at, fault_if, fir
 use Rattle.record_files.specs.Keys.{line_of, with_line}
 use Rattle.record_files.specs.Rows.{Row}
 use Rattle.programme_table.proofs.FirstAppearances.{any-first, any-insert_key_added, length-insert_key, first_appearances-snoc, place-insert_key_other, place-within}
+use Rattle.programme_table.proofs.Bars.{IsBar-from}
 use Rattle.programme_table.specs.Growth.{IsFieldsOf, clash, with_programme, is_full_for}
-use Rattle.programme_table.specs.Rows.{code_of, first_appearances, is_type_too_many, meaning, quota_of, type_of, types_of}
+use Rattle.programme_table.specs.Rows.{bar_of, code_of, first_appearances, is_type_too_many, meaning, quota_of, type_of, types_of}
 use Rattle.programme_table.specs.Table.{IsTable, Programmes, kind_named, programme_row_in, table_of}
 use Rattle.programme_table.specs.declared.row.Fields.{Fields}
 
@@ -45,64 +47,80 @@ typed (row ∷ rows) = (
 )
 
 -- a type that is added leaves the programmes of the others as they were
-map-programme_row_in : (names : List (List ℕ)) (added : List ℕ) (rows : List Row)
+map-programme_row_in : (version : ℕ) (names : List (List ℕ)) (added : List ℕ) (rows : List Row)
     → AllByRecursion (IsTyped names) rows
-    → map (programme_row_in (insert_key bytes_eq names added)) rows
-    ≡ map (programme_row_in names) rows
-map-programme_row_in names added [] all = refl
-map-programme_row_in names added (row ∷ rows) all =
-    let same : programme_row_in (insert_key bytes_eq names added) row ≡ programme_row_in names row =
-    ap (λ kind. record { code = code_of row; kind = kind; quota = quota_of row })
+    → map (programme_row_in version (insert_key bytes_eq names added)) rows
+    ≡ map (programme_row_in version names) rows
+map-programme_row_in version names added [] all = refl
+map-programme_row_in version names added (row ∷ rows) all =
+    let same : programme_row_in version (insert_key bytes_eq names added) row
+    ≡ programme_row_in version names row =
+    ap (λ kind. record {
+      code = code_of row;
+      kind = kind;
+      quota = quota_of row;
+      bar = bar_of version row;
+    })
     (place-insert_key_other names (type_of row) added all.0) in
-    let later = map-programme_row_in names added rows all.1 in
+    let later = map-programme_row_in version names added rows all.1 in
     cc
 
 -- the table of one more row
-pub table_of-snoc : (rows : List Row) (row : Row) (fields : Fields) → IsFieldsOf row fields
-    → with_programme (table_of rows) fields ≡ table_of (rows ++ row ∷ [])
-table_of-snoc rows row fields f =
+pub table_of-snoc : (version : ℕ) (rows : List Row) (row : Row) (fields : Fields)
+    → IsFieldsOf version row fields
+    → with_programme (table_of version rows) fields ≡ table_of version (rows ++ row ∷ [])
+table_of-snoc version rows row fields f =
     let line = f.line in
     let code = f.code in
     let name = f.name in
     let quota = f.quota in
+    let bar = f.bar in
     let before = types_of rows in
     let after = insert_key bytes_eq before (type_of row) in
     let names : types_of (rows ++ row ∷ []) ≡ after =
     ap first_appearances (map-append type_of rows (row ∷ []))
     ∙ first_appearances-snoc (map type_of rows) (type_of row) in
-    let programmes_are : map (programme_row_in (types_of (rows ++ row ∷ []))) (rows ++ row ∷ [])
-    ≡ map (programme_row_in before) rows ++ programme_row_in after row ∷ [] =
-    ap (λ types. map (programme_row_in types) (rows ++ row ∷ [])) names
-    ∙ map-append (programme_row_in after) rows (row ∷ [])
-    ∙ ap (λ earlier. earlier ++ programme_row_in after row ∷ [])
-    (map-programme_row_in before (type_of row) rows (typed rows)) in
+    let in_row = programme_row_in version in
+    let programmes_are : map (in_row (types_of (rows ++ row ∷ []))) (rows ++ row ∷ [])
+    ≡ map (in_row before) rows ++ in_row after row ∷ [] =
+    ap (λ types. map (in_row types) (rows ++ row ∷ [])) names
+    ∙ map-append (in_row after) rows (row ∷ [])
+    ∙ ap (λ earlier. earlier ++ in_row after row ∷ [])
+    (map-programme_row_in version before (type_of row) rows (typed rows)) in
     let codes = map-append (with_line code_of) rows (row ∷ []) in
-    let grown : with_programme (table_of rows) fields ≡ record {
-      rows = map (programme_row_in before) rows ++ programme_row_in after row ∷ [];
+    let grown : with_programme (table_of version rows) fields ≡ record {
+      rows = map (in_row before) rows ++ in_row after row ∷ [];
       codes = map (with_line code_of) rows ++ with_line code_of row ∷ [];
       names = after;
     } = λ j.
     let all = insert_key bytes_eq before (name j) in
     record {
-      rows = map (programme_row_in before) rows
-          ++ record { code = code j; kind = kind_named all (name j); quota = quota j } ∷ [];
+      rows = map (in_row before) rows
+          ++ record {
+            code = code j;
+            kind = kind_named all (name j);
+            quota = quota j;
+            bar = bar j;
+          }
+          ∷ [];
       codes = map (with_line code_of) rows ++ (code j, line j) ∷ [];
       names = all;
     } in
     grown ∙ sym (λ j. record { rows = programmes_are j; codes = codes j; names = names j })
 
 -- what is wrong with a row beside the earlier rows is what is wrong with it beside their table
-pub clash-table_of : (rows : List Row) (row : Row) (fields : Fields) → IsFieldsOf row fields
-    → clash (table_of rows) fields ≡ meaning rows row
-clash-table_of rows row fields f =
+pub clash-table_of : (version : ℕ) (rows : List Row) (row : Row) (fields : Fields)
+    → IsFieldsOf version row fields
+    → clash (table_of version rows) fields ≡ meaning rows row
+clash-table_of version rows row fields f =
     let line = f.line in
     let code = f.code in
     let name = f.name in
     let repeated = repeat_fault-line_of programmes 1 row.0 code_of (code_of row) rows in
     let full = fault_if (is_type_too_many rows row) (fault_at programmes row.0 2 OutOfRange) in
     (λ j. first_of
-    (option_map (duplicate_at programmes (line j) 1) (line_of (table_of rows).codes (code j)))
-    (fault_if (is_full_for (table_of rows) (name j)) (fault_at programmes (line j) 2 OutOfRange)))
+    (option_map (duplicate_at programmes (line j) 1) (line_of (table_of version rows).codes (code j)))
+    (fault_if (is_full_for (table_of version rows) (name j)) (fault_at programmes (line j) 2 OutOfRange)))
     ∙ (λ j. first_of (repeated j) full)
 
 -- where nothing clashes, no earlier programme has the code
@@ -148,8 +166,12 @@ pub IsTable-with : (table : Programmes) (fields : Fields) → IsTable table
     → IsTable (with_programme table fields)
 IsTable-with table fields fits room none =
     let names = insert_key bytes_eq table.names fields.name in
-    let row : ProgrammeRow =
-    record { code = fields.code; kind = kind_named names fields.name; quota = fields.quota } in
+    let row : ProgrammeRow = record {
+      code = fields.code;
+      kind = kind_named names fields.name;
+      quota = fields.quota;
+      bar = fields.bar;
+    } in
     let grown : length table.names ≤ length names = length-insert_key table.names fields.name in
     let kind : kind_named names fields.name < length names =
     place-within (bytes_eq fields.name) names (any-insert_key_added table.names fields.name) in
@@ -163,6 +185,8 @@ IsTable-with table fields fits room none =
           fits.kinds) kind;
       quotas = All-push (λ (one : ProgrammeRow). one.quota ≤ LARGEST_QUOTA) table.rows row
           fits.quotas fields.limit;
+      bars = All-push (λ (one : ProgrammeRow). IsBar one.bar) table.rows row fits.bars
+          (IsBar-from fields.bar fields.bar_limit);
       few_rows = omega (arith, length-append table.rows (row ∷ []));
       few_names = clash-room table fields none fits.few_names;
     }

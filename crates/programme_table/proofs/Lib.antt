@@ -1,2 +1,3 @@
+pub mod Bars
 pub mod FirstAppearances
 pub mod Growing

@@ -9,16 +9,17 @@ use Rattle.place_base.specs.declared.limits.TheConstants.{MOST_TYPES}
 use Rattle.record_files.specs.FirstFaults.{duplicate_at, fault_at, fault_if, first_of}
 use Rattle.record_files.specs.Keys.{line_of}
 use Rattle.record_files.specs.Rows.{Row}
-use Rattle.programme_table.specs.Rows.{code_of, type_of, quota_of}
+use Rattle.programme_table.specs.Rows.{bar_of, code_of, type_of, quota_of}
 use Rattle.programme_table.specs.Table.{Programmes, kind_named}
 use Rattle.programme_table.specs.declared.row.Fields.{Fields}
 
--- these are the fields of the row
-pub record IsFieldsOf (row : Row) (fields : Fields) : Type 0 where
+-- these are the fields of the row, under a header with bars or without
+pub record IsFieldsOf (version : ℕ) (row : Row) (fields : Fields) : Type 0 where
   pub line : fields.line ≡ row.0
   pub code : fields.code ≡ code_of row
   pub name : fields.name ≡ type_of row
   pub quota : fields.quota ≡ quota_of row
+  pub bar : fields.bar ≡ bar_of version row
 
 -- the name is new to the table, which has as many as it may
 abbrev pub is_full_for : Programmes → List ℕ → Bool
@@ -43,6 +44,7 @@ with_programme table fields =
             code = fields.code;
             kind = kind_named names fields.name;
             quota = fields.quota;
+            bar = fields.bar;
           }
           ∷ [];
       codes = table.codes ++ (fields.code, fields.line) ∷ [];

@@ -1,5 +1,5 @@
-//! The table of a programmes file: its programmes with their codes, score types and quotas, or the
-//! file's first fault.
+//! The table of a programmes file: its programmes with their codes, score types, quotas and bars, or
+//! the file's first fault.
 #![tactic(auto)]
 
 // What a row of the file says, and the programme that it makes.

@@ -1,5 +1,6 @@
 // The table, its reading and its look-ups.
-ghost use Rattle.std.specs.Prelude.{◌≡◌, ◌≤◌, ◌<◌, [], All, length, map, slice_get, Some, None, IfOk, OnOk};
+ghost use Rattle.std.specs.Prelude.{◌≡◌, ◌≤◌, ◌<◌, ℕ, [], All, length, map, slice_get, Some, None, IfOk, OnOk};
+ghost use Rattle.market.specs.Problems.{IsBar};
 ghost use Rattle.record_files.specs.ReadTo.{IsTableRead};
 ghost use Rattle.programme_table.specs.Growth.{clash, with_programme};
 ghost use Rattle.programme_table.specs.Rows.{programmes_fault};
@@ -80,7 +81,7 @@ impl ProgrammeTable {
         self.rows[index as usize]
     }
 
-    /// The types and quotas of the programmes, as a market takes them.
+    /// The types, quotas and bars of the programmes, as a market takes them.
     pub fn programmes(&self, alloc: Global) -> Result<Vec<Prog>, AllocError>
         ensures programmes { IfOk result (λ programmes.
             programmes.items ≡ map prog_of self.now.rows) }
@@ -90,6 +91,8 @@ impl ProgrammeTable {
             All (λ one. one.kind < length self.now.names) programmes.items) }
         ensures quotas { IfOk result (λ programmes.
             All (λ one. one.quota ≤ LARGEST_QUOTA) programmes.items) }
+        ensures bars { IfOk result (λ programmes.
+            All (λ one. IsBar one.bar) programmes.items) }
         ensures few_programmes { length self.now.rows ≤ MOST_PROGRAMMES }
         ensures few_types { length self.now.names ≤ MOST_TYPES }
     {
@@ -98,13 +101,14 @@ impl ProgrammeTable {
             .map(|row| Prog {
                 kind: row.kind,
                 quota: row.quota,
+                bar: row.bar,
             })
             .collect(alloc)
     }
 
     // A table of no programmes.
     fn new(alloc: Global) -> ProgrammeTable
-        ensures { result ≡ table_of [] }
+        ensures { (version : ℕ) → result ≡ table_of version [] }
     {
         ProgrammeTable {
             rows: Vec::new(alloc),
@@ -145,6 +149,7 @@ impl ProgrammeTable {
                 code: fields.code,
                 kind: kind as u32,
                 quota: fields.quota,
+                bar: fields.bar,
             })
             .unwrap();
         Ok(())
@@ -163,22 +168,18 @@ impl RowTable<()> for ProgrammeTable {
 
     ghost says = { IsFieldsOf };
 
-    ghost has_rows = { λ _ rows table. table ≡ table_of rows };
+    ghost has_rows = { λ _ version rows table. table ≡ table_of version rows };
 
     fn form(_beside: &()) -> FileForm {
         FileForm::new(
             FileKind::Programmes,
-            &[b"programme,type,quota"],
+            &[b"programme,type,quota", b"programme,type,quota,bar"],
             MOST_PROGRAMMES,
         )
     }
 
-    fn read_fields(
-        _beside: &(),
-        _header: Header,
-        row: &RecordRow<'_>,
-    ) -> Result<Fields, FileFault> {
-        read_fields(row)
+    fn read_fields(_beside: &(), header: Header, row: &RecordRow<'_>) -> Result<Fields, FileFault> {
+        read_fields(header, row)
     }
 
     fn take(

@@ -26,12 +26,18 @@ fn read<R: Threads + Sync>(
 }
 
 // Whether the table has this programme at an index, and finds its code there.
-fn has_programme(table: &ProgrammeTable, index: u32, code: u32, kind: u32, quota: u32) -> bool {
+fn has_programme(
+    table: &ProgrammeTable,
+    index: u32,
+    (code, kind, quota): (u32, u32, u32),
+    bar: Option<u32>,
+) -> bool {
     if index >= table.count() {
         return false;
     }
     let row = table.row(index);
     (row.code.get(), row.kind, row.quota) == (code, kind, quota)
+        && row.bar == bar
         && table.number_at(index) == u64::from(code)
         && table.find(u64::from(code)) == Some(index)
 }
@@ -52,14 +58,26 @@ fn has_type(table: &ProgrammeTable, kind: u32, name: &[u8]) -> bool {
 fn codes_and_types_stand_in_file_order(rt: HostRuntime) -> Result<(), Fail> {
     let bytes = b"programme,type,quota\n0202,EA,0\r\n\n101,SAY,2\n999999999,EA,100000";
     let table = read(&rt, rt.alloc(), bytes, 4)?;
-    holds_all(&table)
+    holds_all(&table, None, None)
 }
 
-// Fails where the table is another than that of the test's file.
-fn holds_all(table: &ProgrammeTable) -> Result<(), Fail> {
-    let programmes = has_programme(table, 0, 202, 0, 0)
-        && has_programme(table, 1, 101, 1, 2)
-        && has_programme(table, 2, 999_999_999, 0, 100_000);
+#[test]
+fn bars_are_read_in_each_number_of_pieces(rt: HostRuntime) -> Result<(), Fail> {
+    let bytes = b"\xEF\xBB\xBF\r\nprogramme,type,quota,bar\r\n\n0202,EA,0,-\r\n\r\n\
+        101,SAY,2,0050\n999999999,EA,100000,99999999";
+    for pieces in [1, 2, 7, 64] {
+        let table = read(&rt, rt.alloc(), bytes, pieces)?;
+        holds_all(&table, Some(50), Some(99_999_999))?;
+    }
+    Ok(())
+}
+
+// Fails where the table is another than that of the tests' files, of which two programmes may have
+// a bar.
+fn holds_all(table: &ProgrammeTable, second: Option<u32>, third: Option<u32>) -> Result<(), Fail> {
+    let programmes = has_programme(table, 0, (202, 0, 0), None)
+        && has_programme(table, 1, (101, 1, 2), second)
+        && has_programme(table, 2, (999_999_999, 0, 100_000), third);
     let types = has_type(table, 0, b"EA") && has_type(table, 1, b"SAY");
     let unknown = table.find(303).is_none() && table.find(1 << 32).is_none();
     if !programmes || !types || !unknown || table.count() != 3 || table.type_count() != 2 {
@@ -74,7 +92,7 @@ const MANY_TYPES: &str =
     10,J,1\n11,K,1\n12,L,1\n13,M,1\n14,N,1\n15,O,1\n16,P,1\n17,A,1\n18,Q,1\n";
 
 // A file, and its fault's line, field, kind and earlier line.
-const FILES: [(&str, u32, u8, FaultKind, u32); 12] = [
+const FILES: [(&str, u32, u8, FaultKind, u32); 24] = [
     ("", 1, 0, Header, 0),
     ("\nprogramme,type\n", 2, 0, Header, 0),
     (
@@ -117,6 +135,30 @@ const FILES: [(&str, u32, u8, FaultKind, u32); 12] = [
     ("programme,type,quota\n1,SAY,\n", 2, 3, NotNumber, 0),
     ("programme,type,quota\n1,SAY,2,\n", 2, 0, FieldCount, 0),
     (MANY_TYPES, 19, 2, OutOfRange, 0),
+    ("programme,type,quota,bar\n1,SAY,2,\n", 2, 4, NotNumber, 0),
+    ("programme,type,quota,bar\n1,SAY,2,5x\n", 2, 4, NotNumber, 0),
+    ("programme,type,quota,bar\n1,SAY,2,--\n", 2, 4, NotNumber, 0),
+    ("programme,type,quota,bar\n1,SAY,2,0\n", 2, 4, OutOfRange, 0),
+    (
+        "programme,type,quota,bar\n1,SAY,2,99999999\n2,SAY,2,100000000\n",
+        3,
+        4,
+        OutOfRange,
+        0,
+    ),
+    ("programme,type,quota,bar\n1,SAY,x,0\n", 2, 3, NotNumber, 0),
+    (
+        "programme,type,quota,bar\n1,SAY,2,7\n1,EA,2,0\n",
+        3,
+        4,
+        OutOfRange,
+        0,
+    ),
+    ("programme,type,quota,bar\n1,SAY,2\n", 2, 0, FieldCount, 0),
+    ("programme,type,quota\n1,SAY,2,-\n", 2, 0, FieldCount, 0),
+    ("programme,type,quota,Bar\n1,SAY,2,-\n", 1, 0, Header, 0),
+    ("programme,type,bar,quota\n1,SAY,2,-\n", 1, 0, Header, 0),
+    ("programme,type,quota,bar,\n1,SAY,2,-\n", 1, 0, Header, 0),
 ];
 
 #[test]

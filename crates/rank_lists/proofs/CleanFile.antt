@@ -58,7 +58,7 @@ known-of_parts names numbers (rows ∷ lists) (part ∷ parts) each clear =
 
 module _ (names : List (List ℕ)) (numbers bytes : List ℕ) (few : length numbers ≤ INDEXES)
     (parts : List PartRanks)
-    (read : AreReadAhead own_rules (HasStandings names numbers) bytes parts)
+    (read : AreReadAhead own_rules (λ version. HasStandings names numbers) bytes parts)
     (clear : All (λ part. part.unknown ≡ false) parts) (orders ranks : List (List ℕ))
     (turns : AreAllCleanTurns (length names) parts orders ranks) where
   abbrev body : List Row

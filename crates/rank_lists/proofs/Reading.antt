@@ -39,7 +39,7 @@ first_of-behind None None c f h = absurd (cc)
 
 module _ (names : List (List ℕ)) (numbers : List ℕ) (bytes : List ℕ) (read : RowsRead RankRows)
     (g : AreRowsTaken own_rules (first_row_fault ranks_form (rows bytes))
-    (header_in ranks_form (rows bytes)) (HasRows names) (data_rows bytes) read) where
+    (header_in ranks_form (rows bytes)) (λ version. HasRows names) (data_rows bytes) read) where
   abbrev body : List Row
   body = data_rows bytes
 
@@ -175,7 +175,7 @@ module _ (names : List (List ℕ)) (numbers : List ℕ) (bytes : List ℕ) (read
 
 -- what is known where the rows were read and their duplicates looked for
 module _ (names : List (List ℕ)) (numbers : List ℕ) (bytes : List ℕ) (read : RowsRead RankRows)
-    (duplicate : Option Duplicate) (are : AreRowsRead own_rules bytes (HasRows names) read)
+    (duplicate : Option Duplicate) (are : AreRowsRead own_rules bytes (λ version. HasRows names) read)
     (looked : IsFirstDuplicate read.table.candidates read.table.ranks duplicate) where
   -- a duplicate has the first fault
   pub fault-of-duplicate : (d : Duplicate) → duplicate ≡ Some d → ranks_fault bytes ≡ Some

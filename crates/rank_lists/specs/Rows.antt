@@ -49,7 +49,8 @@ meaning earlier row =
 
 -- what may be wrong with a ranks file
 abbrev pub ranks_rules : FileRules
-ranks_rules = record { form = ranks_form; reading = λ version. reading; meaning = meaning }
+ranks_rules =
+    record { form = ranks_form; reading = λ version. reading; meaning = λ version. meaning }
 
 -- the first fault of a ranks file
 abbrev pub ranks_fault : List ℕ → Option FileFault
@@ -57,8 +58,11 @@ ranks_fault bytes = first_fault ranks_rules bytes
 
 -- what may be wrong with its rows by themselves, where none means anything beside the earlier ones
 abbrev pub own_rules : FileRules
-own_rules =
-    record { form = ranks_form; reading = λ version. reading; meaning = λ earlier row. None }
+own_rules = record {
+  form = ranks_form;
+  reading = λ version. reading;
+  meaning = λ version earlier row. None;
+}
 
 -- the data row at an index
 abbrev pub row_at : List Row → ℕ → Row

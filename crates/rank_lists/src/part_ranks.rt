@@ -52,9 +52,9 @@ impl<'a, T: TypeFinder, C: Finder> RowTable<Known<'a, T, C>> for PartRanks {
 
     ghost rules = { λ _. own_rules };
 
-    ghost says = { IsFieldsOf };
+    ghost says = { λ version. IsFieldsOf };
 
-    ghost has_rows = { λ known rows table.
+    ghost has_rows = { λ known version rows table.
         HasStandings (T.names known.types.now) (C.numbers known.candidates.now) rows table };
 
     fn form(_known: &Known<'a, T, C>) -> FileForm {

@@ -70,9 +70,9 @@ impl<T: TypeFinder> RowTable<T> for RankRows {
 
     ghost rules = { λ _. own_rules };
 
-    ghost says = { IsFieldsOf };
+    ghost says = { λ version. IsFieldsOf };
 
-    ghost has_rows = { λ types rows table. HasRows (T.names types) rows table };
+    ghost has_rows = { λ types version rows table. HasRows (T.names types) rows table };
 
     fn form(_types: &T) -> FileForm {
         ranks_form()

@@ -9,7 +9,7 @@ use Rattle.std.proofs.lemmas.Option.{slice_get-get_or, slice_get_past}
 use Rattle.place_base.specs.declared.fault.FaultKind.TheVariants.{TooManyRows}
 use Rattle.place_base.specs.declared.fault.FileFault.{FileFault}
 use Rattle.record_files.specs.FirstFaults.{FileRules, fault_at, fault_if, first_of, first_row_fault, long_fault, shape_fault, fault_behind, fault_in, row_fault, least_fault}
-use Rattle.record_files.specs.Form.{header_in}
+use Rattle.record_files.specs.Form.{header_in, version_in}
 use Rattle.record_files.specs.ReadTo.{AreRowsRead, AreRowsTaken, IsRowTaken}
 use Rattle.record_files.specs.Rows.{Row, rows, data_rows}
 use Rattle.record_files.specs.declared.form.Header.{Header}
@@ -97,17 +97,17 @@ least_fault-found fault n (suc m) f lt before here =
     rw none (subst (λ k. fault k ≡ Some f) same here))
     (cases_lt n m)
 
-module _ {T : Type 0} (rules : FileRules) (header : Header) (HasRows : List Row → T → Type 0)
-    (all : List Row) where
+module _ {T : Type 0} (rules : FileRules) (header : Header)
+    (HasRows : ℕ → List Row → T → Type 0) (all : List Row) where
   -- the first rows have no fault and are in the table, and these are left
   pub record TakesTo (count : ℕ) (table : T) (left : List Row) : Type 0 where
     pub within : count ≤ length all
     pub left_is : left ≡ drop count all
     pub none : least_fault (fault_in rules header all) count ≡ None
-    pub has : HasRows (take count all) table
+    pub has : HasRows header.version (take count all) table
 
   -- before the first row none was taken, and all are left
-  pub TakesTo-begin : (table : T) → HasRows [] table → TakesTo 0 table all
+  pub TakesTo-begin : (table : T) → HasRows header.version [] table → TakesTo 0 table all
   TakesTo-begin table empty = record {
     within = omega arith;
     left_is = refl;
@@ -118,17 +118,19 @@ module _ {T : Type 0} (rules : FileRules) (header : Header) (HasRows : List Row 
   -- what taking the next row comes to
   module _ (count : ℕ) (table new : T) (row : Row) (left : List Row) (found : Option FileFault)
       (t : TakesTo count table (row ∷ left))
-      (taken : (earlier : List Row) → HasRows earlier table → length earlier ≡ count
-      → IsRowTaken (fault_behind rules header earlier row) (HasRows earlier new)
-      (HasRows (earlier ++ row ∷ []) new) found) where
+      (taken : (earlier : List Row) → HasRows header.version earlier table → length earlier ≡ count
+      → IsRowTaken (fault_behind rules header earlier row) (HasRows header.version earlier new)
+      (HasRows header.version (earlier ++ row ∷ []) new) found) where
     size : length (take count all) ≡ count
     size = length-take-le count all t.within
 
     told : (f : Option FileFault) → found ≡ f
-        → IsRowTaken (fault_behind rules header (take count all) row) (HasRows (take count all) new)
-        (HasRows (take count all ++ row ∷ []) new) f
+        → IsRowTaken (fault_behind rules header (take count all) row)
+        (HasRows header.version (take count all) new)
+        (HasRows header.version (take count all ++ row ∷ []) new) f
     told f e = subst (IsRowTaken (fault_behind rules header (take count all) row)
-        (HasRows (take count all) new) (HasRows (take count all ++ row ∷ []) new)) e
+        (HasRows header.version (take count all) new)
+        (HasRows header.version (take count all ++ row ∷ []) new)) e
         (taken (take count all) t.has size)
 
     head : HasHead all count row left
@@ -150,7 +152,7 @@ module _ {T : Type 0} (rules : FileRules) (header : Header) (HasRows : List Row 
             within = omega arith;
             left_is = head.behind;
             none = least_fault-next _ count t.none (fault-here ∙ passed.0);
-            has = subst (λ rows. HasRows rows new) (sym head.taken) passed.1;
+            has = subst (λ rows. HasRows header.version rows new) (sym head.taken) passed.1;
           },
         )
 
@@ -205,12 +207,14 @@ module _ {T : Type 0} (rules : FileRules) (header : Header) (HasRows : List Row 
   -- where none was told the table is that of all rows
   pub AreRowsTaken-whole : (of_header : Option FileFault) (read : RowsRead T)
       → AreRowsTaken rules of_header header HasRows all read → read.fault ≡ None
-      → HasRows all read.table
+      → HasRows header.version all read.table
   AreRowsTaken-whole of_header read t none =
       let size = t.whole none in
-      subst (λ rows. HasRows rows read.table) (take_all read.count all (omega arith)) t.has
+      subst (λ rows. HasRows header.version rows read.table)
+      (take_all read.count all (omega arith)) t.has
 
-module _ {T : Type 0} (rules : FileRules) (bytes : List ℕ) (HasRows : List Row → T → Type 0) where
+module _ {T : Type 0} (rules : FileRules) (bytes : List ℕ)
+    (HasRows : ℕ → List Row → T → Type 0) where
   -- the rows behind a header without a fault
   pub AreRowsRead-taken : (header : Header) (read : RowsRead T)
       → first_row_fault rules.form (rows bytes) ≡ None → header ≡ header_in rules.form (rows bytes)
@@ -227,7 +231,8 @@ module _ {T : Type 0} (rules : FileRules) (bytes : List ℕ) (HasRows : List Row
 
   -- a fault of the first row
   pub AreRowsRead-refused : (table : T) (f : FileFault)
-      → first_row_fault rules.form (rows bytes) ≡ Some f → HasRows [] table
+      → first_row_fault rules.form (rows bytes) ≡ Some f
+      → HasRows (version_in rules.form bytes) [] table
       → AreRowsRead rules bytes HasRows (record { table = table; count = 0; fault = Some f })
   AreRowsRead-refused table f told empty = record {
     first = first_of-some _ _ f told;

@@ -62,20 +62,20 @@ shape_fault form fields index row =
     (first_of (fault_if (nat_le form.most_rows index) (fault_at form.file row.0 0 TooManyRows))
     (fault_if (not (length (fields_of row) == fields)) (fault_at form.file row.0 0 FieldCount)))
 
--- what a kind of file may have: its form, what is wrong with the fields of a row by themselves
--- under one of its headers, and what is wrong with a row beside the earlier rows and the other
+-- what a kind of file may have: its form, and under each of its headers what is wrong with the
+-- fields of a row by themselves, and what is wrong with a row beside the earlier rows and the other
 -- files
 pub record FileRules : Type 0 where
   pub form : Form
   pub reading : ℕ → Row → Option FileFault
-  pub meaning : List Row → Row → Option FileFault
+  pub meaning : ℕ → List Row → Row → Option FileFault
 
 -- the fault of a data row behind the earlier ones: its shape, then its fields by themselves, then
 -- what it means
 abbrev pub fault_behind : FileRules → Header → List Row → Row → Option FileFault
 fault_behind rules header earlier row =
     first_of (shape_fault rules.form header.fields (length earlier) row)
-    (first_of (rules.reading header.version row) (rules.meaning earlier row))
+    (first_of (rules.reading header.version row) (rules.meaning header.version earlier row))
 
 -- the fault of the row of a list at an index, under a header
 abbrev pub fault_in : FileRules → Header → List Row → ℕ → Option FileFault

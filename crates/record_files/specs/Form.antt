@@ -2,7 +2,7 @@
 use Rattle.std.specs.Prelude.{◌≡◌, ◌<◌, ℕ, List, [], ◌∷◌, length, bytes_eq, position, slice_index_or, unwrap_or, Option}
 use Rattle.place_base.specs.declared.fault.FileKind.{FileKind}
 use Rattle.place_base.specs.declared.limits.TheConstants.{COMMA}
-use Rattle.record_files.specs.Rows.{Row, fields_of, split}
+use Rattle.record_files.specs.Rows.{Row, fields_of, rows, split}
 use Rattle.record_files.specs.declared.form.Header.{Header}
 
 -- which file it is, the headers that it may have, and how many data rows
@@ -25,6 +25,10 @@ abbrev pub header_in : Form → List Row → Header
 header_in form rows =
     let row = slice_index_or rows 0 (0, []) in
     record { version = unwrap_or (version_of form row) 0; fields = length (fields_of row) }
+
+-- which of its form's headers a file has, counted from 0
+abbrev pub version_in : Form → List ℕ → ℕ
+version_in form bytes = (header_in form (rows bytes)).version
 
 -- a header of a form
 pub record IsHeaderOf (form : Form) (header : Header) : Type 0 where

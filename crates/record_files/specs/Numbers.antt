@@ -1,5 +1,5 @@
 -- Numbers in decimal digits, and names of score types in a field.
-use Rattle.std.specs.Prelude.{ℕ, List, [], ◌∷◌, Bool, false, ◌&&◌, nat_le, if◌then◌else◌, Result, Ok, Err}
+use Rattle.std.specs.Prelude.{ℕ, List, [], ◌∷◌, Bool, false, ◌&&◌, bytes_eq, codes, nat_le, if◌then◌else◌, Option, Some, None, Result, Ok, Err}
 use Rattle.std.specs.Char.{is_ascii_digit}
 use Rattle.std.specs.List.{list_all}
 use Rattle.std.specs.Str.Parse.{digits_value}
@@ -28,6 +28,20 @@ number_of field low high =
     then Ok (value field)
     else Err OutOfRange)
     else Err NotNumber
+
+-- what was read, as a value that may be none
+abbrev pub some_of : Result ℕ FaultKind → Result (Option ℕ) FaultKind
+some_of (Ok read) = Ok (Some read)
+some_of (Err kind) = Err kind
+
+-- the value of a field that is `-` for none or a number between two limits, or what is wrong with it
+abbrev pub optional_number_of : List ℕ → ℕ → ℕ → Result (Option ℕ) FaultKind
+optional_number_of field low high =
+    if bytes_eq field (codes "-") then Ok None else some_of (number_of field low high)
+
+-- the number in such a field, none for `-`
+abbrev pub optional_value : List ℕ → Option ℕ
+optional_value field = if bytes_eq field (codes "-") then None else Some (value field)
 
 -- the name in a field, or what is wrong with it
 abbrev pub type_name_of : List ℕ → Result (List ℕ) FaultKind

@@ -27,22 +27,22 @@ IsRowTaken fault before grown None = (fault ≡ None) × grown
 IsRowTaken fault before grown (Some found) = (fault ≡ Some found) × before
 
 -- what reading a list of rows comes to, behind a header that may have a fault: the first so many
--- have no fault, and this holds of them; the fault that is told is the header's, and then no row
--- was read, or that of the row behind them; where none is told all were read
+-- have no fault, and this holds of them under the header; the fault that is told is the header's,
+-- and then no row was read, or that of the row behind them; where none is told all were read
 pub record AreRowsTaken {T : Type 0} (rules : FileRules) (of_header : Option FileFault)
-    (header : Header) (HasRows : List Row → T → Type 0) (all : List Row) (read : RowsRead T)
+    (header : Header) (HasRows : ℕ → List Row → T → Type 0) (all : List Row) (read : RowsRead T)
     : Type 0 where
   pub within : read.count ≤ length all
-  pub has : HasRows (take read.count all) read.table
+  pub has : HasRows header.version (take read.count all) read.table
   pub passed : 0 < read.count → of_header ≡ None
   pub none : least_fault (fault_in rules header all) read.count ≡ None
   pub here : first_of of_header (fault_in rules header all read.count) ≡ read.fault
   pub whole : read.fault ≡ None → read.count ≡ length all
 
 -- what reading the rows of a file comes to: its first fault is told, where it has one, and this
--- holds of the rows before that
+-- holds of the rows before that under its header
 pub record AreRowsRead {T : Type 0} (rules : FileRules) (bytes : List ℕ)
-    (HasRows : List Row → T → Type 0) (read : RowsRead T) : Type 0 where
+    (HasRows : ℕ → List Row → T → Type 0) (read : RowsRead T) : Type 0 where
   pub first : first_fault rules bytes ≡ read.fault
   pub taken : AreRowsTaken rules (first_row_fault rules.form (rows bytes))
       (header_in rules.form (rows bytes)) HasRows (data_rows bytes) read

@@ -1,6 +1,7 @@
 // Numbers and type names in fields.
-ghost use Rattle.std.specs.Prelude.{◌≡◌, ◌≤◌, length, min, MatchOption, true, false};
-ghost use Rattle.record_files.specs.Numbers.{number_of, all_digits, type_name_of, value};
+ghost use Rattle.std.specs.Prelude.{◌≡◌, ◌≤◌, length, min, IfOk, MatchOption, true, false};
+ghost use Rattle.std.specs.Option.{ForSome};
+ghost use Rattle.record_files.specs.Numbers.{number_of, optional_number_of, optional_value, all_digits, type_name_of, value};
 
 use place_base::{FaultKind, TypeName};
 
@@ -27,6 +28,20 @@ pub fn number(field: &[u8], low: u64, high: u64) -> Result<u64, FaultKind>
         return Err(FaultKind::OutOfRange);
     }
     Ok(value as u64)
+}
+
+/// The value of a field that is `-` for none, or else a number field between two limits, with the
+/// faults of [`number`].
+pub fn optional_number(field: &[u8], low: u64, high: u64) -> Result<Option<u64>, FaultKind>
+    ensures result { result ≡ optional_number_of field.now low high }
+    ensures value { IfOk result (λ read. read ≡ optional_value field.now) }
+    ensures within { IfOk result (λ read. ForSome read (λ n. (low ≤ n) × (n ≤ high))) }
+{
+    if field == b"-".as_slice() {
+        return Ok(None);
+    }
+    let value = number(field, low, high)?;
+    Ok(Some(value))
 }
 
 // The value of digits, or 2^64 where it is larger; `None` where a byte is no digit.

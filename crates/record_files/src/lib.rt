@@ -22,7 +22,7 @@ mod rows;
 mod table_stop;
 
 pub use faults::{duplicate_at, fault_at, in_field};
-pub use fields::{number, type_name};
+pub use fields::{number, optional_number, type_name};
 pub use form::{FileForm, Header};
 pub use reading::{RowsRead, read_rows, read_table, take_rows};
 pub use row_buffer::RowBuffer;

@@ -1,7 +1,7 @@
 // The reading of all rows of a file.
-ghost use Rattle.std.specs.Prelude.{◌≡◌, ◌≤◌, ◌++◌, ◌∷◌, [], List, length, None, Some, IfOk, MatchResult};
+ghost use Rattle.std.specs.Prelude.{◌≡◌, ◌≤◌, ◌++◌, ◌∷◌, [], ℕ, List, length, None, Some, IfOk, MatchResult};
 ghost use Rattle.record_files.specs.FirstFaults.{fault_behind, first_fault};
-ghost use Rattle.record_files.specs.Form.{IsHeaderOf};
+ghost use Rattle.record_files.specs.Form.{IsHeaderOf, version_in};
 ghost use Rattle.record_files.specs.ReadTo.{AreRowsRead, AreRowsTaken, IsFileRead, IsRowTaken};
 ghost use Rattle.record_files.specs.Rows.{Row, data_rows};
 
@@ -33,7 +33,7 @@ pub fn read_rows<B, T: RowTable<B> + Drop>(
     table: T,
 ) -> Result<RowsRead<T>, AllocError>
     requires size { length bytes.now ≤ LARGEST_FILE }
-    requires empty { T.has_rows beside.now [] table }
+    requires empty { (version : ℕ) → T.has_rows beside.now version [] table }
     ensures { IfOk result
         (AreRowsRead (T.rules beside.now) bytes.now (T.has_rows beside.now)) }
 {
@@ -57,7 +57,7 @@ pub fn take_rows<B, T: RowTable<B> + Drop>(
     mut table: T,
 ) -> Result<RowsRead<T>, AllocError>
     requires header { IsHeaderOf (T.rules beside.now).form header }
-    requires empty { T.has_rows beside.now [] table }
+    requires empty { (version : ℕ) → T.has_rows beside.now version [] table }
     ensures { IfOk result (AreRowsTaken (T.rules beside.now) None header (T.has_rows beside.now)
         records.entry) }
 {
@@ -88,9 +88,10 @@ pub fn read_table<B, T: RowTable<B> + Drop>(
     table: T,
 ) -> Result<T, TableStop>
     requires size { length bytes.now ≤ LARGEST_FILE }
-    requires empty { T.has_rows beside.now [] table }
+    requires empty { (version : ℕ) → T.has_rows beside.now version [] table }
     ensures { IsFileRead (first_fault (T.rules beside.now) bytes.now)
-        (T.has_rows beside.now (data_rows bytes.now)) result }
+        (T.has_rows beside.now (version_in (T.rules beside.now).form bytes.now)
+        (data_rows bytes.now)) result }
 {
     let read = read_rows(alloc, bytes, beside, table)?;
     match read.fault {
@@ -111,14 +112,15 @@ fn take_row<B, T: RowTable<B>>(
 ) -> Result<Option<FileFault>, AllocError>
     requires form { form.now ≡ (T.rules beside.now).form }
     requires header { IsHeaderOf (T.rules beside.now).form header }
-    requires rows { (earlier : List Row) × T.has_rows beside.now earlier table.old
+    requires rows { (earlier : List Row)
+        × T.has_rows beside.now header.version earlier table.old
         × (length earlier ≡ count) }
     ensures { IfOk result (λ found. (earlier : List Row)
-        → T.has_rows beside.now earlier table.old
+        → T.has_rows beside.now header.version earlier table.old
         → length earlier ≡ count
         → IsRowTaken (fault_behind (T.rules beside.now) header earlier row.now)
-        (T.has_rows beside.now earlier table.new)
-        (T.has_rows beside.now (earlier ++ row.now ∷ []) table.new) found) }
+        (T.has_rows beside.now header.version earlier table.new)
+        (T.has_rows beside.now header.version (earlier ++ row.now ∷ []) table.new) found) }
 {
     if let Some(fault) = form.shape_fault(header.fields, count, row) {
         return Ok(Some(fault));

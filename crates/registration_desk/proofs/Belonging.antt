@@ -1,18 +1,8 @@
 -- The views of a desk's table: each is spent, or a seat of this desk.
-use Rattle.std.proofs.Common.{◌≡◌, ◌⊎◌, ℕ, zero, suc, ◌<◌, List, [], ◌∷◌, None, Some, sym, ap, inl, inr, ⊎_elim, arith}
-use Rattle.std.specs.Prelude.{slice_get}
-use mathlib.Core.Option.{some, some-injective, some-ne-none}
-use lib.ListN.{get_elem?}
+use Rattle.std.proofs.Common.{◌≡◌, ◌⊎◌, ℕ, ◌<◌, None, Some, ap, inl, inr, ⊎_elim, arith}
 use Rattle.registration_desk.specs.Clerks.{ClerkKnows, spent_clerk}
 use Rattle.registration_desk.specs.Rule.{share_of, some_bit, hold_bit, IsClerk}
 use Rattle.registration_desk.specs.declared.rule.DeskKey.{DeskKey}
-
--- a table's list is read by `get_elem?`
-pub there : {A : Type 0} (l : List A) (i : ℕ) (x : A) → get_elem? l i ≡ some x
-    → slice_get l i ≡ Some x
-there [] i x e = absurd (some-ne-none x (sym e))
-there (y ∷ ys) zero x e = ap Some (some-injective y x e)
-there (y ∷ ys) (suc i) x e = there ys i x e
 
 -- where the bit of a holder is 0 no number is held
 pub not_holding : (x : ClerkKnows) → hold_bit x ≡ 0 → (n : ℕ) → x.holds ≡ Some n → ⊥

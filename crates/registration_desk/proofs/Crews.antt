@@ -3,12 +3,12 @@
 use Rattle.std.proofs.Common.{◌≡◌, ℕ, ◌<◌, List, [], ◌∷◌, ◌++◌, length, take, drop, get_or, Some, sym, refl, ap, subst, ◌∙◌, arith, append-nil}
 use Rattle.std.specs.Prelude.{slice_get}
 use Rattle.std.proofs.Math.ListN.{drop_of_length-le}
+use Rattle.std.proofs.lemmas.List.Sums.{sum_by-le}
 use Rattle.std.proofs.lemmas.Option.{slice_get-get_or, slice_get_within, get_or_from_slice_get}
 use Rattle.registration_desk.specs.Desks.{knows, key_of, left_by, AreAllClerksOf, IsNew, AllNew}
 use Rattle.registration_desk.specs.Crew.{HasWorked}
 use Rattle.registration_desk.specs.declared.desk.Desk.{Desk}
 use Rattle.registration_desk.specs.declared.desk.Clerk.{Clerk}
-use Rattle.interleaving_core.proofs.Places.{sum_zero}
 use Rattle.registration_desk.proofs.Clerks.{sum_ones}
 
 module _ {A : Type 0} where
@@ -52,4 +52,8 @@ module _ (desk : Desk) (xs ys : List Clerk) (new : AllNew desk xs) (same : lengt
 
   -- and none has a request left
   pub none_left : left_by ys ≡ 0
-  none_left = sum_zero (λ clerk. (knows clerk).left) ys (λ k clerk is. (one k clerk is).1.none_left)
+  none_left =
+      let le = sum_by-le (λ clerk. (knows clerk).left) 0 ys (λ k clerk inside.
+      let none = (one k (get_or ys k clerk) (slice_get-get_or ys k clerk inside)).1.none_left in
+      omega arith) in
+      omega arith

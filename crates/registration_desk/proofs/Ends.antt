@@ -1,19 +1,19 @@
 -- A table meets the rule at its opening; and at its end, where one seat has every share, the slot
 -- is at home with as many replies as that seat served.
 use Rattle.std.proofs.Common.{◌≡◌, ◌≢◌, ℕ, zero, suc, ◌+◌, ◌<◌, ◌≤◌, List, [], ◌∷◌, length, set, Option, None, Some, sym, refl, ap, subst, inr, ⊎_elim, ◌∙◌, arith}
-use Rattle.std.specs.Prelude.{slice_get}
 use Rattle.std.specs.List.{sum_by}
 use Rattle.place_base.specs.declared.limits.TheConstants.{MOST_REQUESTS}
-use mathlib.Core.Option.{some, some-injective}
+use mathlib.Core.Option.{some, some-injective, some-ne-none}
 use lib.ListN.{get_elem?}
 use Rattle.atomic_table.specs.Table.{Seen, Final, opening}
+use Rattle.atomic_table.proofs.Lists.{at_set}
 use Rattle.registration_desk.specs.declared.reply.Reply.{Reply}
 use Rattle.registration_desk.specs.States.{DeskValue}
 use Rattle.registration_desk.specs.Clerks.{ClerkKnows, spent_clerk}
 use Rattle.registration_desk.specs.Rule.{DeskTable, share_of, left_of, served_of, hold_bit, served_number, HasReplies, IsClerk, IsOrderly, first_clerk_of}
 use Rattle.registration_desk.specs.declared.rule.DeskKey.{DeskKey}
-use Rattle.interleaving_core.proofs.Places.{at_set, sum_set, terms_le, sum_zero}
-use Rattle.registration_desk.proofs.Belonging.{there, is_none, Belongs}
+use Rattle.registration_desk.proofs.Views.{sum_set, terms_le, sum_zero}
+use Rattle.registration_desk.proofs.Belonging.{is_none, Belongs}
 
 module _ (key : DeskKey) where
   -- the table at the opening
@@ -46,10 +46,10 @@ module _ (key : DeskKey) where
             };
       }
     where
-      one : (i : ℕ) (z : ClerkKnows) → slice_get (first_clerk_of key ∷ []) i ≡ Some z
+      one : (i : ℕ) (z : ClerkKnows) → get_elem? (first_clerk_of key ∷ []) i ≡ some z
           → Belongs key 0 z
       one zero z is =
-          let same : first_clerk_of key ≡ z = cc (is) in
+          let same : first_clerk_of key ≡ z = some-injective _ z is in
           subst (Belongs key 0) same
           (inr record {
             some = staffed;
@@ -58,7 +58,7 @@ module _ (key : DeskKey) where
             same_clerks = refl;
             held = λ n e. absurd (cc (e));
           })
-      one (suc i) z is = absurd (cc (is))
+      one (suc i) z is = absurd (some-ne-none z (sym is))
 
 -- what the last seat of a desk finds: the slot is at home, its state has as many replies as the
 -- seats served together, and these with the requests left are all requests
@@ -70,11 +70,11 @@ pub record DeskEnd (key : DeskKey) (x : ClerkKnows) (slots : List (Option DeskVa
 
 module _ (key : DeskKey) (s : DeskTable) (h : IsOrderly key s) (id : ℕ) (x : ClerkKnows) where
   -- a seat with every share has no other beside it that is not spent
-  others_spent : slice_get s.views id ≡ Some x → 0 < x.share → x.share ≡ key.clerks
+  others_spent : get_elem? s.views id ≡ some x → 0 < x.share → x.share ≡ key.clerks
       → (i : ℕ) (z : ClerkKnows)
-      → i ≢ id → slice_get s.views i ≡ Some z → z ≡ spent_clerk
+      → i ≢ id → get_elem? s.views i ≡ some z → z ≡ spent_clerk
   others_spent here live every i z other at_z =
-      let two = terms_le share_of s.views id i x z other here at_z in
+      let two = terms_le share_of s.views id i x z refl other here at_z in
       let all = h.shares in
       ⊎_elim
       (λ (spent : z ≡ spent_clerk). spent)
@@ -82,14 +82,14 @@ module _ (key : DeskKey) (s : DeskTable) (h : IsOrderly key s) (id : ℕ) (x : C
       (h.each i z at_z)
 
   -- so a sum over the views is its own number
-  alone : (g : ClerkKnows → ℕ) → g spent_clerk ≡ 0 → slice_get s.views id ≡ Some x → 0 < x.share
+  alone : (g : ClerkKnows → ℕ) → g spent_clerk ≡ 0 → get_elem? s.views id ≡ some x → 0 < x.share
       → x.share ≡ key.clerks → sum_by g s.views ≡ g x
   alone g nothing here live every =
       let without = sum_set g s.views id x spent_clerk here in
       let rest_zero = sum_zero g (set s.views id spent_clerk) (λ i z is.
       ⊎_elim
       (λ (t : (i ≡ id) × (spent_clerk ≡ z)). ap g (sym t.1) ∙ nothing)
-      (λ (t : (i ≢ id) × (slice_get s.views i ≡ Some z)).
+      (λ (t : (i ≢ id) × (get_elem? s.views i ≡ some z)).
       ap g (others_spent here live every i z t.0 t.1) ∙ nothing)
       (at_set s.views id i spent_clerk z is)) in
       omega arith
@@ -103,7 +103,7 @@ pub desk_ends : (key : DeskKey) (id : ℕ) (x : ClerkKnows) (words : List ℕ)
 desk_ends key id x words slots f live every free =
     let s = f.0 in
     let h = f.1.0 in
-    let here = there s.views id x f.1.1 in
+    let here = f.1.1 in
     let held = alone key s h id x hold_bit refl here live every in
     let served = alone key s h id x served_of refl here live every in
     let left = alone key s h id x left_of refl here live every in

@@ -1,4 +1,4 @@
--- What a run leaves of a sink, and what follows where no read and no write failed.
+-- What follows of a run of the desk, from its report and how that was written.
 use Rattle.std.proofs.Common.{◌≡◌, ◌∙◌, ◌≤◌, ℕ, List, refl, sym, ap, subst, inl, inr, Option, Some, None, Result, Ok, Err, ⊎_elim}
 use Rattle.place_base.specs.declared.fault.FileKind.TheVariants as file
 use Rattle.place_edges.specs.Causes.{Rose}
@@ -6,18 +6,19 @@ use Rattle.place_edges.specs.Shelf.{Files}
 use Rattle.place_edges.specs.Sink.{Appended}
 use Rattle.placement_file.specs.Requests.{requests_in}
 use Rattle.placement_file.specs.SeatLists.{seats_in}
-use Rattle.run_frame.proofs.Answering.{answered-stop, opened-no-words}
 use Rattle.run_frame.proofs.Endings as frame
 use Rattle.run_frame.proofs.Endings.{AreApart, answered-finished, whole-run}
-use Rattle.run_frame.specs.Files.{Reads}
+use Rattle.run_frame.proofs.Plans.{answer-behind, ends-so, said-then, said_behind}
+use Rattle.run_frame.specs.Files.{Moment, Reads}
+use Rattle.run_frame.specs.Plans.{ends as ends_with, said}
 use Rattle.run_frame.specs.Lines.{IsNoted}
 use Rattle.run_frame.specs.Meetings.{IsDecided, Meets}
-use Rattle.run_frame.specs.Runs.{IsDone, IsFinished, IsWhole}
+use Rattle.run_frame.specs.Runs.{HasStatusCause, IsDone, IsQuiet, IsWhole, LeavesSink}
 use Rattle.run_frame.specs.Stops.{is_free_stop}
 use Rattle.run_frame.specs.declared.stop.FileStop.TheVariants.{Fault, ReadFault, Memory}
 use Rattle.registration_desk.specs.Reports.{DeskReport, report_on}
-use Rattle.registration_desk.specs.Runs.{AreTwo, HasStatusCause, IsAnswering, IsComplete, LeavesSink, PrintsRegistered, ServesWhole, endings, line_in}
-use Rattle.registration_desk.specs.Says.{DeskFiles, both_said, files_read, named, numbers_said, reported, says}
+use Rattle.registration_desk.specs.Runs.{AreTwo, IsComplete, IsDeskRun, PrintsRegistered, ServesWhole, endings, line_in}
+use Rattle.registration_desk.specs.Says.{DeskFiles, both_plan, named, numbers_said, plan, reported}
 use Rattle.registration_desk.specs.Statuses.{status_line, status_of}
 use Rattle.registration_desk.specs.Words.{clerks_of}
 use Rattle.registration_desk.specs.declared.status.DeskStatus.{DeskStatus}
@@ -54,34 +55,25 @@ are-apart = record {
 
 -- words are said to be refused only where they are
 says-refused : (clerks : Result ℕ DeskWords) (reads : Reads) (refused : DeskWords)
-    → says clerks reads ≡ Some (Err (Words refused)) → clerks ≡ Err refused
+    → said (plan clerks) reads ≡ Some (Err (Words refused)) → clerks ≡ Err refused
 says-refused (Err other) reads refused e = ap (λ v. Err v) (cc e)
 says-refused (Ok clerks) reads refused e = absurd
-    (opened-no-words (reads file.Placement) _ _ refused
-    (λ seats. opened-no-words (reads file.Registrations) _ _ refused (λ requests never. cc never))
-    (answered-stop _ (both_said reads) (Words refused) e))
+    (ends-so (λ result. result ≡ Err (Words refused) → ⊥) (plan (Ok clerks)) reads _
+    (λ stop e. cc e) (λ s r e. cc e) e refl)
 
--- a report that is said is that of two files without a fault
-said-report : (said : Option (Result DeskFiles (Stop DeskWords))) (report : DeskReport)
-    → reported said ≡ Some (Ok report)
-    → (files : DeskFiles) × (said ≡ Some (Ok files))
-    × (report ≡ report_on files.seats files.requests)
-said-report None report e = cc e
-said-report (Some (Err stop)) report e = cc e
-said-report (Some (Ok files)) report e =
-    let same : report_on files.seats files.requests ≡ report = cc e in (files, refl, sym same)
-
+-- a report that is said is that of two files
 says-report : (clerks : Result ℕ DeskWords) (reads : Reads) (report : DeskReport)
-    → says clerks reads ≡ Some (Ok report)
-    → (files : DeskFiles) × (both_said reads ≡ Some (Ok files))
-    × (report ≡ report_on files.seats files.requests)
+    → said (plan clerks) reads ≡ Some (Ok report)
+    → (files : DeskFiles) × (said both_plan reads ≡ Some (Ok files)) × (report ≡ reported files)
 says-report (Err refused) reads report e = cc e
-says-report (Ok clerks) reads report e = said-report (both_said reads) report e
+says-report (Ok clerks) reads report e =
+    let found = answer-behind (said both_plan reads) (λ files. Some (Ok (reported files))) report
+    (sym (said-then both_plan (λ files. ends_with (Ok (reported files))) reads) ∙ e) in
+    (found.0, found.1, sym (cc found.2))
 
 serves-whole : (told : Option Files) (words : List (List ℕ)) (status : DeskStatus)
-    (old new : Option (List ℕ)) (before now : ℕ)
-    → IsWhole endings told (named words) (says (clerks_of words)) (files_read (clerks_of words))
-    status old new before now
+    (old new : Option (List ℕ)) (before now : Moment)
+    → IsWhole endings told (named words) (plan (clerks_of words)) status old new before now
     → ServesWhole told words status old new
 serves-whole None words status old new before now whole = tt
 serves-whole (Some files) words status old new before now (reads, held, whole) =
@@ -91,74 +83,80 @@ serves-whole (Some files) words status old new before now (reads, held, whole) =
       requests = sym (held file.Registrations) ∙ read.requests;
     } in
     let report = report_on (seats_in two.placement) (requests_in two.requests) in
-    let said : says (clerks_of words) reads ≡ Some (Ok report) =
-    ap (λ v. says v reads) accepted ∙ ap reported (two-said reads two seen faultless) in
+    let says : said (plan (clerks_of words)) reads ≡ Some (Ok report) =
+    ap (λ v. said (plan v) reads) accepted
+    ∙ said-then both_plan (λ files. ends_with (Ok (reported files))) reads
+    ∙ ap (λ v. said_behind v (λ files. Some (Ok (reported files))))
+    (two-said reads two seen faultless) in
     ⊎_elim (λ refused. inl refused)
-    (λ other. let same : other.1 ≡ Ok report = cc (other.2, said) in
+    (λ other. let same : other.1 ≡ Ok report = cc (other.2, says) in
     inr (subst (λ v. IsDone endings v status old new) same other.3))
     whole
 
--- the clauses of a run, from its report and how that was written
-module _ {K : Type 0} (written : K → Option (List ℕ)) (faults : K → ℕ) (told : Option Files)
-    (words : List (List ℕ)) (answer : Result DeskReport (Stop DeskWords)) (status : DeskStatus)
-    (old new : K) (before now tally_before tally_now : ℕ)
-    (answers : IsAnswering told words (clerks_of words) answer before now tally_before tally_now)
-    (finished : IsFinished endings written faults answer status old new) where
+-- the clauses of a run
+module _ {K N : Type 0} {written : K → Option (List ℕ)} {faults : K → ℕ}
+    {noted : N → Option (List ℕ)} {note_faults : N → ℕ} {told : Option Files}
+    {words : List (List ℕ)} {status : DeskStatus} {old new : K} {notes_old notes_new : N}
+    {before now : Moment}
+    (run : IsDeskRun written faults noted note_faults told words status old new notes_old notes_new
+    before now) where
   -- a run that is done has read two faultless files, printed their text and noted their line
-  pub registered-run : (notes_old notes_new : Option (List ℕ)) (notes_before notes_now : ℕ)
-      → IsNoted
-      (status_line (numbers_said answer) status) notes_old notes_new notes_before notes_now
-      → PrintsRegistered told words status (written old) (written new) notes_old notes_new
-      notes_before notes_now tally_before tally_now
+  pub registered-run : PrintsRegistered told words status (written old) (written new)
+      (noted notes_old) (noted notes_new) (note_faults notes_old) (note_faults notes_new)
+      before.tally now.tally
   unfolding are-apart
-  registered-run notes_old notes_new notes_before notes_now noted = λ well.
-      let done = answered-finished are-apart written faults answer status old new finished
+  registered-run = λ well.
+      let reading = run.answers in
+      let done = answered-finished are-apart written faults run.answer status old new run.finished
       (ap stop_in well) (λ is. cc (sym well ∙ is)) in
-      let report = done.0 in
-      let said = says-report (clerks_of words) answers.reads report
-      (subst (Meets is_free_stop (says (clerks_of words) answers.reads)) done.1 answers.meets) in
-      let served = are-served answers.reads said.0 said.1 in
-      let is : report
+      let says = says-report (clerks_of words) reading.reads done.0
+      (subst (Meets is_free_stop (said (plan (clerks_of words)) reading.reads)) done.1
+      reading.meets) in
+      let served = are-served reading.reads says.0 says.1 in
+      let is : done.0
       ≡ report_on (seats_in served.two.placement) (requests_in served.two.requests) =
-      said.2 ∙ (λ j. report_on (served.seats j) (served.requests j)) in
-      let line : status_line (numbers_said answer) status ≡ line_in served.two =
+      says.2 ∙ (λ j. report_on (served.placement j) (served.requests j)) in
+      let line : status_line (numbers_said run.answer) status ≡ line_in served.two =
       (λ j. status_line (numbers_said (done.1 j)) (well j))
       ∙ (λ j. status_line (is j).numbers ends.Done) in
       record {
-        reads = answers.reads;
+        reads = reading.reads;
         once = record {
-          held = answers.held;
-          taken = answers.taken (subst (λ v. IsDecided is_free_stop v) (sym done.1) tt);
+          held = reading.held;
+          taken = reading.taken (subst (λ v. IsDecided is_free_stop v) (sym done.1) tt);
         };
         two = served.two;
         read = served.read;
         no_fault = served.no_fault;
         printed = subst (λ (v : DeskReport). Appended (written old) (written new) v.text) is done.3;
-        noted = subst (λ v. IsNoted v notes_old notes_new notes_before notes_now) line noted;
+        noted = subst (λ v. IsNoted v (noted notes_old) (noted notes_new) (note_faults notes_old)
+            (note_faults notes_new)) line run.line;
       }
 
   -- where no read and no write failed, all that is said over the bytes read was done
-  pub complete-run : (Rose before now → ⊥) → (Rose (faults old) (faults new) → ⊥)
-      → IsComplete told words status (written old) (written new) tally_before tally_now
+  pub complete-run : (Rose before.faults now.faults → ⊥) → (Rose (faults old) (faults new) → ⊥)
+      → IsComplete told words status (written old) (written new) before now
   complete-run no_read no_write =
-      let whole = whole-run are-apart written faults status old new answers finished no_read
+      let whole = whole-run are-apart written faults status old new run.answers run.finished no_read
       no_write in
       record {
         whole = whole;
-        serves = serves-whole told words status (written old) (written new) tally_before tally_now
-            whole;
+        serves = serves-whole told words status (written old) (written new) before now whole;
       }
+
+  -- where it ends with its text no failed read or write was passed over
+  pub quiet-run : IsQuiet endings status before now (faults old) (faults new)
+  quiet-run = frame.quiet-run are-apart written faults status old new run.answers run.finished
 
   -- each refusal has its cause, where words that give no number of clerks are refused
   pub causes-run : ((refused : DeskWords) → clerks_of words ≡ Err refused
-      → answer ≡ Err (Words refused))
-      → HasStatusCause (clerks_of words) status before now tally_before tally_now (faults old)
-      (faults new)
+      → run.answer ≡ Err (Words refused))
+      → HasStatusCause endings (clerks_of words) status before now (faults old) (faults new)
   causes-run exact =
-      frame.causes-run are-apart written faults (clerks_of words) status old new answers finished
-      (says-refused (clerks_of words) answers.reads) exact
+      frame.causes-run are-apart written faults (clerks_of words) status old new run.answers
+      run.finished (says-refused (clerks_of words) run.answers.reads) exact
 
   -- what was written before stays in front, and after a refusal the sink is as it was
-  pub leaves-sink : faults old ≤ faults new → LeavesSink written faults status old new
+  pub leaves-sink : faults old ≤ faults new → LeavesSink status_of written faults status old new
   leaves-sink later =
-      frame.leaves-sink are-apart written faults answer status old new finished later
+      frame.leaves-sink are-apart written faults run.answer status old new run.finished later

@@ -10,7 +10,7 @@ use Rattle.registration_desk.specs.declared.reply.Reply.TheVariants.{Registered}
 use Rattle.placement_file.specs.SeatLists.{SeatRows}
 use Rattle.registration_desk.specs.Replies.{is_registration, WasRegistered, IsReply, IsHistory, IsPlaced, IsOnceEach, IsOnlyPlaced}
 use Rattle.registration_desk.specs.States.{NumberFits}
-use Rattle.interleaving_core.proofs.Places.{at_snoc, at_longer}
+use Rattle.registration_desk.proofs.Pushes.{at_snoc, at_longer}
 
 module _ (requests : List ℕ) (history : List Reply) (reply : Reply) where
   -- a registration stays one

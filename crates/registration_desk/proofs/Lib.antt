@@ -2,6 +2,8 @@ pub mod Lookups
 pub mod Histories
 pub mod Replying
 pub mod LockWord
+pub mod Views
+pub mod Pushes
 pub mod Belonging
 pub mod Takes
 pub mod Releases
@@ -16,5 +18,5 @@ pub mod BothFiles
 pub mod Answering
 pub mod Finishing
 pub mod NoteLines
-pub mod DeskFaults
+pub mod JudgedFiles
 pub mod Counts

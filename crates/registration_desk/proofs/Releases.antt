@@ -1,18 +1,17 @@
 -- The release of the slot keeps the rule.
 use Rattle.std.proofs.Common.{◌≡◌, ◌≢◌, ℕ, ◌+◌, ◌*◌, ◌/◌, ◌%◌, ◌<◌, List, [], ◌∷◌, set, Option, Some, sym, refl, ap, subst, inr, ⊎_elim, ◌∙◌, arith, length-set}
-use Rattle.std.specs.Prelude.{slice_get}
 use mathlib.Core.Option.{some}
 use lib.ListN.{get_elem?}
 use Rattle.atomic_table.specs.Table.{gives, put_back, Allows}
-use Rattle.atomic_table.proofs.Lists.{set_here}
+use Rattle.atomic_table.proofs.Lists.{at_set, set_here}
 use Rattle.registration_desk.specs.States.{DeskValue}
 use Rattle.registration_desk.specs.Clerks.{ClerkKnows, released}
 use Rattle.registration_desk.specs.Rule.{share_of, left_of, served_of, hold_bit, served_number, held_bit, HasReplies, IsOrderly}
 use Rattle.registration_desk.specs.Steps.{ClerkMe, ReleaseTold}
 use Rattle.registration_desk.specs.declared.rule.DeskKey.{DeskKey}
-use Rattle.interleaving_core.proofs.Places.{at_set, sum_set, term_le, terms_le}
+use Rattle.registration_desk.proofs.Views.{sum_set, term_le, terms_le}
 use Rattle.registration_desk.proofs.LockWord.{word_now}
-use Rattle.registration_desk.proofs.Belonging.{there, is_one, Belongs, is_clerk, moved}
+use Rattle.registration_desk.proofs.Belonging.{is_one, Belongs, is_clerk, moved}
 
 module _ (key : DeskKey) where
   -- a release
@@ -24,8 +23,7 @@ module _ (key : DeskKey) where
   release_allowed slots id me number word state one live hold carried replies is s h homes at fits =
       let x : ClerkKnows = me.0 in
       let y = released x in
-      let here = there s.views id x at in
-      let c = is_clerk key (served_number s.words) x live (h.each id x here) in
+      let c = is_clerk key (served_number s.words) x live (h.each id x at) in
       let mine = c.held number hold in
       let at_number = mine.0 in
       let some_left = mine.1 in
@@ -34,16 +32,16 @@ module _ (key : DeskKey) where
       ap (λ (z : ℕ). z / 2) now ∙ (let e : word / 2 ≡ number + 1 = omega arith in e) in
       let bit : held_bit (set s.words 0 word) ≡ 0 =
       ap (λ (z : ℕ). z % 2) now ∙ (let e : word % 2 ≡ 0 = omega arith in e) in
-      let shares = sum_set share_of s.views id x y here in
-      let served = sum_set served_of s.views id x y here in
-      let lefts = sum_set left_of s.views id x y here in
-      let holds = sum_set hold_bit s.views id x y here in
+      let shares = sum_set share_of s.views id x y at in
+      let served = sum_set served_of s.views id x y at in
+      let lefts = sum_set left_of s.views id x y at in
+      let holds = sum_set hold_bit s.views id x y at in
       let was_one = is_one x number hold in
       let was_shares = h.shares in
       let was_served = h.served in
       let was_all = h.all in
       let was_holders = h.holders in
-      let bit_one = term_le hold_bit s.views id x here in
+      let bit_one = term_le hold_bit s.views id x at in
       let low : held_bit s.words < 2 = omega arith in
       let there_now : get_elem? (set s.homes 0 (some (Some state))) 0 ≡ some (some (Some state)) =
       set_here s.homes 0 (some (Some state)) (omega arith) in
@@ -66,9 +64,9 @@ module _ (key : DeskKey) where
                 same_clerks = c.same_clerks;
                 held = λ n e. absurd (cc (e));
               }))
-              (λ (t : (i ≢ id) × (slice_get s.views i ≡ Some z)).
+              (λ (t : (i ≢ id) × (get_elem? s.views i ≡ some z)).
               moved key (served_number s.words) (served_number (set s.words 0 word)) z
-              (let two = terms_le hold_bit s.views id i x z t.0 here t.1 in omega arith)
+              (let two = terms_le hold_bit s.views id i x z refl t.0 at t.1 in omega arith)
               (h.each i z t.1))
               (at_set s.views id i y z at_z);
           shares = omega arith;

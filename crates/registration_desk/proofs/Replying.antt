@@ -14,7 +14,7 @@ use Rattle.registration_desk.specs.declared.reply.Reply.TheVariants.{Registered,
 use Rattle.placement_file.specs.SeatLists.{SeatRows, candidates_of, code_held}
 use Rattle.registration_desk.specs.Replies.{is_registration, registrations, IsReply, IsPlaced}
 use Rattle.registration_desk.specs.States.{DeskValue, replied, NumberFits, IsDesk, Numbered}
-use Rattle.interleaving_core.proofs.Places.{at_last}
+use Rattle.registration_desk.proofs.Pushes.{at_last}
 use Rattle.registration_desk.proofs.Lookups.{found, missing, same_candidate}
 use Rattle.registration_desk.proofs.Histories.{was_plain, was_other, fits_more, fits_now, history_more}
 

@@ -1,14 +1,16 @@
 -- Seats that are split and joined keep the rule.
-use Rattle.std.proofs.Common.{◌≡◌, ◌≢◌, ℕ, ◌+◌, ◌<◌, ◌≤◌, List, [], ◌∷◌, ◌++◌, length, set, None, Some, sym, refl, subst, inl, inr, ⊎_elim, ◌∙◌, arith}
-use Rattle.std.specs.Prelude.{slice_get}
+use Rattle.std.proofs.Common.{◌≡◌, ◌≢◌, ℕ, ◌+◌, ◌<◌, ◌≤◌, List, [], ◌∷◌, ◌++◌, set, None, sym, refl, subst, inl, inr, ⊎_elim, ◌∙◌, arith}
 use Rattle.std.specs.List.{sum_by}
 use Rattle.std.proofs.lemmas.List.Sums.{sum_by-append, sum_by-cons}
+use mathlib.Core.Option.{some}
+use lib.ListN.{get_elem?}
 use Rattle.atomic_table.specs.Table.{Splits, Joins}
+use Rattle.atomic_table.proofs.Lists.{at_set, at_snoc}
 use Rattle.registration_desk.specs.Clerks.{ClerkKnows, spent_clerk, next_part, kept_part, new_part, joined}
 use Rattle.registration_desk.specs.Rule.{share_of, left_of, served_of, hold_bit, served_number, IsOrderly}
 use Rattle.registration_desk.specs.declared.rule.DeskKey.{DeskKey}
-use Rattle.interleaving_core.proofs.Places.{at_set, at_snoc, sum_set}
-use Rattle.registration_desk.proofs.Belonging.{there, not_holding, is_none, Belongs, is_clerk}
+use Rattle.registration_desk.proofs.Views.{sum_set}
+use Rattle.registration_desk.proofs.Belonging.{not_holding, is_none, Belongs, is_clerk}
 
 module _ (key : DeskKey) where
   -- a seat that does not hold may be split, where its part is at most what it has left
@@ -17,14 +19,13 @@ module _ (key : DeskKey) where
   split_keeps id x more free part s h at =
       let left = kept_part x in
       let right = new_part x in
-      let here = there s.views id x at in
-      let c = is_clerk key (served_number s.words) x (omega arith) (h.each id x here) in
+      let c = is_clerk key (served_number s.words) x (omega arith) (h.each id x at) in
       let sums : (g : ClerkKnows → ℕ) → sum_by g (set s.views id left ++ right ∷ []) + g x
       ≡ sum_by g s.views + (g left + g right) =
       λ g.
       let a = sum_by-append g (set s.views id left) (right ∷ []) in
       let b = sum_by-cons g right [] in
-      let e = sum_set g s.views id x left here in
+      let e = sum_set g s.views id x left at in
       omega arith in
       let shares = sums share_of in
       let served = sums served_of in
@@ -51,15 +52,15 @@ module _ (key : DeskKey) where
         wide = h.wide;
         each = λ i z is.
             ⊎_elim
-            (λ (p : slice_get (set s.views id left) i ≡ Some z).
+            (λ (p : get_elem? (set s.views id left) i ≡ some z).
             ⊎_elim
             (λ (t : (i ≡ id) × (left ≡ z)).
             subst (Belongs key (served_number s.words)) t.1
             (of_part left (omega arith) free refl refl refl))
-            (λ (t : (i ≢ id) × (slice_get s.views i ≡ Some z)). h.each i z t.1)
+            (λ (t : (i ≢ id) × (get_elem? s.views i ≡ some z)). h.each i z t.1)
             (at_set s.views id i left z p))
-            (λ (p : (i ≡ length (set s.views id left)) × (right ≡ z)).
-            subst (Belongs key (served_number s.words)) p.1
+            (λ (p : right ≡ z).
+            subst (Belongs key (served_number s.words)) p
             (of_part right (omega arith) free refl refl refl))
             (at_snoc (set s.views id left) right z i is);
         shares = omega arith;
@@ -76,14 +77,12 @@ module _ (key : DeskKey) where
   join_keeps id x other y live free other_free s h at apart at_other =
       let both = joined x y in
       let mid : List ClerkKnows = set s.views id both in
-      let here = there s.views id x at in
-      let c = is_clerk key (served_number s.words) x live (h.each id x here) in
-      let in_mid : slice_get mid other ≡ Some y = there mid other y at_other in
+      let c = is_clerk key (served_number s.words) x live (h.each id x at) in
       let sums : (g : ClerkKnows → ℕ) → sum_by g (set mid other spent_clerk) + (g x + g y)
       ≡ sum_by g s.views + (g both + g spent_clerk) =
       λ g.
-      let a = sum_set g mid other y spent_clerk in_mid in
-      let e = sum_set g s.views id x both here in
+      let a = sum_set g mid other y spent_clerk at_other in
+      let e = sum_set g s.views id x both at in
       omega arith in
       let shares = sums share_of in
       let served = sums served_of in
@@ -101,7 +100,7 @@ module _ (key : DeskKey) where
         each = λ i z is.
             ⊎_elim
             (λ (t : (i ≡ other) × (spent_clerk ≡ z)). inl (sym t.1))
-            (λ (t : (i ≢ other) × (slice_get mid i ≡ Some z)).
+            (λ (t : (i ≢ other) × (get_elem? mid i ≡ some z)).
             ⊎_elim
             (λ (u : (i ≡ id) × (both ≡ z)).
             subst (Belongs key (served_number s.words)) u.1
@@ -112,7 +111,7 @@ module _ (key : DeskKey) where
               same_clerks = c.same_clerks;
               held = λ n e. absurd (not_holding x was_free n e);
             }))
-            (λ (u : (i ≢ id) × (slice_get s.views i ≡ Some z)). h.each i z u.1)
+            (λ (u : (i ≢ id) × (get_elem? s.views i ≡ some z)). h.each i z u.1)
             (at_set s.views id i both z t.1))
             (at_set mid other i spent_clerk z is);
         shares = omega arith;

@@ -1,19 +1,18 @@
 -- A try to take the slot keeps the rule.
 use Rattle.std.proofs.Common.{◌≡◌, ◌≢◌, ℕ, ◌/◌, ◌%◌, ◌<◌, Bool, true, false, List, ◌∷◌, length, set, get_or, bit_or, Option, None, Some, MatchBool, sym, refl, ap, subst, inr, ⊎_elim, ◌∙◌, arith, length-set}
-use Rattle.std.specs.Prelude.{slice_get}
 use Rattle.std.proofs.lemmas.List.{set-get_or}
 use mathlib.Core.Option.{some}
 use lib.ListN.{get_elem?}
 use Rattle.atomic_table.specs.Table.{Act, Valid, stepped, carried_after, keeps, takes, Allows}
-use Rattle.atomic_table.proofs.Lists.{set_again}
+use Rattle.atomic_table.proofs.Lists.{at_set, set_again}
 use Rattle.registration_desk.specs.States.{DeskValue}
 use Rattle.registration_desk.specs.Clerks.{ClerkKnows, holding}
 use Rattle.registration_desk.specs.Rule.{DeskTable, share_of, left_of, served_of, hold_bit, served_number, held_bit, IsOrderly}
 use Rattle.registration_desk.specs.Steps.{ClerkMe, is_odd, HasTakenSlot, TakeTold}
 use Rattle.registration_desk.specs.declared.rule.DeskKey.{DeskKey}
-use Rattle.interleaving_core.proofs.Places.{at_set, sum_set, term_le}
+use Rattle.registration_desk.proofs.Views.{sum_set, term_le}
 use Rattle.registration_desk.proofs.LockWord.{or_one, or_odd, odd_word, even_word, word_now}
-use Rattle.registration_desk.proofs.Belonging.{there, is_none, Belongs, is_clerk}
+use Rattle.registration_desk.proofs.Belonging.{is_none, Belongs, is_clerk}
 
 module _ (key : DeskKey) where
   -- the seat can take the slot, or leave all as it is
@@ -41,7 +40,6 @@ module _ (key : DeskKey) where
   try_by id me s h at live left free false odd =
       let x : ClerkKnows = me.0 in
       let found = get_or s.words 0 0 in
-      let here = there s.views id x at in
       let even = even_word found odd in
       let y = holding x (found / 2) in
       let word = bit_or found 1 in
@@ -50,17 +48,17 @@ module _ (key : DeskKey) where
       ap (λ (z : ℕ). z / 2) now ∙ (or_one found).0 in
       let bit : held_bit (set s.words 0 word) ≡ 1 = ap (λ (z : ℕ). z % 2) now ∙ (or_one found).1 in
       let home = h.home even in
-      let c = is_clerk key (served_number s.words) x live (h.each id x here) in
-      let shares = sum_set share_of s.views id x y here in
-      let served = sum_set served_of s.views id x y here in
-      let lefts = sum_set left_of s.views id x y here in
-      let holds = sum_set hold_bit s.views id x y here in
+      let c = is_clerk key (served_number s.words) x live (h.each id x at) in
+      let shares = sum_set share_of s.views id x y at in
+      let served = sum_set served_of s.views id x y at in
+      let lefts = sum_set left_of s.views id x y at in
+      let holds = sum_set hold_bit s.views id x y at in
       let was_free = is_none x free in
       let was_shares = h.shares in
       let was_served = h.served in
       let was_all = h.all in
       let was_holders = h.holders in
-      let mine = term_le left_of s.views id x here in (
+      let mine = term_le left_of s.views id x at in (
         y,
         takes 0 (Some home.state),
         home.there,
@@ -78,7 +76,7 @@ module _ (key : DeskKey) where
                 same_clerks = c.same_clerks;
                 held = λ n e. (let q : found / 2 ≡ n = cc (e) in sym q ∙ sym half, left);
               }))
-              (λ (t : (i ≢ id) × (slice_get s.views i ≡ Some z)).
+              (λ (t : (i ≢ id) × (get_elem? s.views i ≡ some z)).
               subst (λ (n : ℕ). Belongs key n z) (sym half) (h.each i z t.1))
               (at_set s.views id i y z is);
           shares = omega arith;

@@ -1,5 +1,5 @@
 -- The one rule of a desk's table.
-use Rattle.std.specs.Prelude.{◌≡◌, ◌⊎◌, ℕ, ◌+◌, ◌/◌, ◌%◌, ◌≤◌, List, length, slice_get, slice_index, Option, None, Some}
+use Rattle.std.specs.Prelude.{◌≡◌, ◌⊎◌, ℕ, ◌+◌, ◌/◌, ◌%◌, ◌≤◌, List, length, slice_index, Option, None, Some}
 use Rattle.std.specs.List.{sum_by}
 use Rattle.place_base.specs.declared.limits.TheConstants.{MOST_REQUESTS}
 use mathlib.Core.Option.{some}
@@ -68,7 +68,7 @@ pub record IsOrderly (key : DeskKey) (s : DeskTable) : Type 0 where
   pub few : length key.desk.value.requests ≤ MOST_REQUESTS
   pub wide : length s.words ≡ 1
   -- each view is one of this desk's, or spent
-  pub each : (i : ℕ) (x : ClerkKnows) → slice_get s.views i ≡ Some x
+  pub each : (i : ℕ) (x : ClerkKnows) → get_elem? s.views i ≡ some x
       → (x ≡ spent_clerk) ⊎ IsClerk key (served_number s.words) x
   -- the shares add up to the clerks, the numbers served to the number in the word, and those served
   -- and left to the requests

@@ -5,12 +5,12 @@ use Rattle.place_edges.specs.Shelf.{Files, file_limit}
 use Rattle.place_edges.specs.Sink.{Appended}
 use Rattle.placement_file.specs.Requests.{requests_fault, requests_in}
 use Rattle.placement_file.specs.SeatLists.{seats_fault, seats_in}
-use Rattle.run_frame.specs.Files.{AreRead, AreReadOnce, Reads}
+use Rattle.run_frame.specs.Files.{AreReadOnce, Moment, Reads}
 use Rattle.run_frame.specs.Lines.{IsNoted}
-use Rattle.run_frame.specs.Runs as frame
+use Rattle.run_frame.specs.Plans.{AreRead, files_read}
 use Rattle.run_frame.specs.Runs.{Endings, IsFinished, IsWhole}
 use Rattle.registration_desk.specs.Reports.{DeskReport, desk_numbers, registered_text}
-use Rattle.registration_desk.specs.Says.{files_read, first_file, named, numbers_said, says}
+use Rattle.registration_desk.specs.Says.{named, numbers_said, plan}
 use Rattle.registration_desk.specs.Statuses.{numbers_line, status_line, status_of}
 use Rattle.registration_desk.specs.Words.{clerks_of}
 use Rattle.registration_desk.specs.declared.status.DeskStatus.{DeskStatus}
@@ -20,10 +20,9 @@ use Rattle.registration_desk.specs.declared.words.DeskWords.{DeskWords}
 
 -- the report that the words ask for meets what is said over the bytes that were read
 abbrev pub IsAnswering : Option Files → List (List ℕ) → Result ℕ DeskWords
-    → Result DeskReport (Stop DeskWords) → ℕ → ℕ → ℕ → ℕ → Type 0
-IsAnswering told words clerks answer before now tally_before tally_now =
-    AreRead told (named words) (first_file clerks) (says clerks) (files_read clerks) answer before
-    now tally_before tally_now
+    → Result DeskReport (Stop DeskWords) → Moment → Moment → Type 0
+IsAnswering told words clerks answer before now =
+    AreRead told (named words) (plan clerks) answer before now
 
 -- the text of a report, and the status of each end
 abbrev pub endings : Endings DeskReport DeskWords DeskStatus
@@ -39,9 +38,9 @@ endings = record {
 pub record IsDeskRun {K N : Type 0} (written : K → Option (List ℕ)) (faults : K → ℕ)
     (noted : N → Option (List ℕ)) (note_faults : N → ℕ)
     (told : Option Files) (words : List (List ℕ)) (status : DeskStatus) (old new : K)
-    (notes_old notes_new : N) (before now tally_before tally_now : ℕ) : Type 0 where
+    (notes_old notes_new : N) (before now : Moment) : Type 0 where
   pub answer : Result DeskReport (Stop DeskWords)
-  pub answers : IsAnswering told words (clerks_of words) answer before now tally_before tally_now
+  pub answers : IsAnswering told words (clerks_of words) answer before now
   pub finished : IsFinished endings written faults answer status old new
   pub line : IsNoted (status_line (numbers_said answer) status) (noted notes_old)
       (noted notes_new) (note_faults notes_old) (note_faults notes_new)
@@ -76,7 +75,7 @@ pub record IsRegistered (told : Option Files) (words : List (List ℕ))
     (old new notes_old notes_new : Option (List ℕ)) (before now tally_before tally_now : ℕ)
     : Type 0 where
   pub reads : Reads
-  pub once : AreReadOnce told (named words) (files_read (clerks_of words)) reads tally_before
+  pub once : AreReadOnce told (named words) (files_read (plan (clerks_of words))) reads tally_before
       tally_now
   pub two : TwoFiles
   pub read : AreTwo reads two
@@ -103,22 +102,10 @@ ServesWhole told words status old new = IfSome told (λ files.
 
 -- all that is said over the bytes that were read is done, and held files without a fault are served
 pub record IsComplete (told : Option Files) (words : List (List ℕ)) (status : DeskStatus)
-    (old new : Option (List ℕ)) (before now : ℕ) : Type 0 where
-  pub whole : IsWhole endings told (named words) (says (clerks_of words))
-      (files_read (clerks_of words)) status old new before now
+    (old new : Option (List ℕ)) (before now : Moment) : Type 0 where
+  pub whole : IsWhole endings told (named words) (plan (clerks_of words)) status old new before now
   pub serves : ServesWhole told words status old new
 
 -- the words were refused
 abbrev pub IsWordsRefusal : DeskStatus → Type 0
 IsWordsRefusal status = (refused : DeskWords) × (status ≡ ends.Words refused)
-
--- each refusal has its cause: words by their rules, and the others by the counts
-abbrev pub HasStatusCause : Result ℕ DeskWords → DeskStatus → ℕ → ℕ → ℕ → ℕ → ℕ → ℕ → Type 0
-HasStatusCause clerks status before now tally_before tally_now out_before out_now =
-    frame.HasStatusCause endings clerks status before now tally_before tally_now out_before out_now
-
--- after a refusal the sink is as it was
-abbrev pub LeavesSink : {K : Type 0} → (K → Option (List ℕ)) → (K → ℕ) → DeskStatus → K → K
-    → Type 0
-LeavesSink written faults status old new =
-    frame.LeavesSink status_of written faults status old new

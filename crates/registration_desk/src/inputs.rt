@@ -4,8 +4,9 @@ ghost use Rattle.std.specs.Prelude.{◌≡◌, ◌≤◌, ◌<◌, IsTrue, Some,
 ghost use Rattle.place_base.specs.declared.fault.FileKind.TheVariants as file;
 ghost use Rattle.placement_file.specs.Requests.{requests_fault, requests_in};
 ghost use Rattle.record_files.specs.ReadTo.{IsTableRead};
-ghost use Rattle.run_frame.specs.Files.{AreRead, IsJudged};
-ghost use Rattle.registration_desk.specs.Says.{MayOpenBoth, both_read, both_said, named, requests_said, seats_said};
+ghost use Rattle.run_frame.specs.Files.{IsJudged, moment};
+ghost use Rattle.run_frame.specs.Plans.{AreRead, MayOpen};
+ghost use Rattle.registration_desk.specs.Says.{both_plan, named, placement_said, requests_said};
 ghost use Rattle.registration_desk.specs.Words.{texts, word_at};
 
 use crate::status::Stop;
@@ -38,7 +39,7 @@ impl Model for RequestList {
 // The placement and the requests.
 #[derive(Drop)]
 pub(crate) struct Inputs {
-    seats: SeatList,
+    placement: SeatList,
     requests: RequestList,
 }
 
@@ -47,7 +48,7 @@ impl Model for Inputs {
 
     ghost Value = { DeskFiles };
 
-    ghost view = { λ i. record { seats = i.seats; requests = i.requests } };
+    ghost view = { λ i. record { placement = i.placement; requests = i.requests } };
 }
 
 impl Inputs {
@@ -59,25 +60,28 @@ impl Inputs {
         shelf: &mut H,
     ) -> Result<Inputs, Stop>
         requires words { 2 ≤ length words.now }
-        requires granted { MayOpenBoth (H.files shelf.old) (H.grants shelf.old) (texts words.now) }
-        ensures reading { AreRead (H.files shelf.old) (named (texts words.now))
-            (Some file.Placement) both_said both_read result
-            (H.faults shelf.old) (H.faults shelf.new) (H.tally shelf.old) (H.tally shelf.new) }
+        requires granted { MayOpen (H.files shelf.old) (H.grants shelf.old)
+            (named (texts words.now)) both_plan }
+        ensures reading { AreRead (H.files shelf.old) (named (texts words.now)) both_plan result
+            (moment H.faults H.tally shelf.old) (moment H.faults H.tally shelf.new) }
         ensures files { H.files shelf.new ≡ H.files shelf.old }
         ensures grants { H.grants shelf.new ≡ H.grants shelf.old }
     {
-        let seats = read_seats(alloc, shelf, word(words, 0))?;
+        let placement = read_placement(alloc, shelf, word(words, 0))?;
         let requests = read_request_list(alloc, shelf, word(words, 1))?;
-        Ok(Inputs { seats, requests })
+        Ok(Inputs {
+            placement,
+            requests,
+        })
     }
 
     // The placement and the requests, which are not copied.
     pub(crate) fn into_parts(self) -> (SeatList, Vec<CandidateNo>)
-        ensures seats { result.0 ≡ self.seats }
+        ensures placement { result.0 ≡ self.placement }
         ensures requests { result.1.items ≡ self.requests }
         ensures few { length self.requests ≤ MOST_REQUESTS }
     {
-        (self.seats, self.requests.into_vec())
+        (self.placement, self.requests.into_vec())
     }
 }
 
@@ -100,10 +104,10 @@ fn word(words: &[String], place: usize) -> &str
 }
 
 // Reads the placement file.
-fn read_seats<H: Shelf>(alloc: Global, shelf: &mut H, name: &str) -> Result<SeatList, FileStop>
+fn read_placement<H: Shelf>(alloc: Global, shelf: &mut H, name: &str) -> Result<SeatList, FileStop>
     requires { IsTrue (H.grants shelf.old name.now) }
-    ensures judged { IsJudged (H.files shelf.old) name.now seats_said result
-        (H.faults shelf.old) (H.faults shelf.new) (H.tally shelf.old) (H.tally shelf.new) }
+    ensures judged { IsJudged (H.files shelf.old) name.now placement_said result
+        (moment H.faults H.tally shelf.old) (moment H.faults H.tally shelf.new) }
     ensures files { H.files shelf.new ≡ H.files shelf.old }
     ensures grants { H.grants shelf.new ≡ H.grants shelf.old }
 {
@@ -119,7 +123,7 @@ fn read_request_list<H: Shelf>(
 ) -> Result<RequestList, FileStop>
     requires { IsTrue (H.grants shelf.old name.now) }
     ensures judged { IsJudged (H.files shelf.old) name.now requests_said result
-        (H.faults shelf.old) (H.faults shelf.new) (H.tally shelf.old) (H.tally shelf.new) }
+        (moment H.faults H.tally shelf.old) (moment H.faults H.tally shelf.new) }
     ensures files { H.files shelf.new ≡ H.files shelf.old }
     ensures grants { H.grants shelf.new ≡ H.grants shelf.old }
 {

@@ -2,11 +2,14 @@
 
 ghost use Rattle.std.specs.Prelude.{◌≡◌, ◌≤◌, Err, IsErrOf, Ok, length};
 ghost use Rattle.place_edges.specs.Causes.{Rose};
-ghost use Rattle.run_frame.specs.Runs.{IsConstant, IsFinished};
+ghost use Rattle.run_frame.specs.Files.{moment};
+ghost use Rattle.run_frame.specs.Plans.{MayOpen};
+ghost use Rattle.run_frame.specs.Runs.{HasStatusCause, IsConstant, IsFinished, IsQuiet, LeavesSink};
 ghost use Rattle.run_frame.specs.Stops.{IsWordsStop};
 ghost use Rattle.run_frame.specs.declared.stop.Stop.TheVariants.{Words};
-ghost use Rattle.registration_desk.specs.Runs.{HasStatusCause, IsAnswering, IsComplete, IsDeskRun, IsWordsRefusal, LeavesSink, PrintsRegistered, endings};
-ghost use Rattle.registration_desk.specs.Says.{MayOpen, MayOpenBoth, numbers_said};
+ghost use Rattle.registration_desk.specs.Runs.{IsAnswering, IsComplete, IsDeskRun, IsWordsRefusal, PrintsRegistered, endings};
+ghost use Rattle.registration_desk.specs.Statuses.{status_of};
+ghost use Rattle.registration_desk.specs.Says.{both_plan, named, numbers_said, plan};
 ghost use Rattle.registration_desk.specs.Words.{clerks_of, texts};
 ghost use Rattle.registration_desk.specs.declared.words.DeskWords.{DeskWords};
 
@@ -43,8 +46,8 @@ pub fn run_desk<R: Threads + Wait + Sync, H: Shelf, K: Sink, N: Sink, G: DeskGat
     gate: &G,
 ) -> DeskStatus
     // Each of the two files may be opened where the one before it has no fault.
-    requires { MayOpen (H.files shelf.old) (H.grants shelf.old) (clerks_of (texts words.now))
-        (texts words.now) }
+    requires { MayOpen (H.files shelf.old) (H.grants shelf.old) (named (texts words.now))
+        (plan (clerks_of (texts words.now))) }
 
     // Over the bytes that were read, which are those held where the shelf tells them, the status,
     // the text and the line are those of the words. Where the run ends neither in want of memory
@@ -52,7 +55,7 @@ pub fn run_desk<R: Threads + Wait + Sync, H: Shelf, K: Sink, N: Sink, G: DeskGat
     // long at most one piece more than 2^30 bytes was taken.
     ensures run { IsDeskRun K.written K.faults N.written N.faults (H.files shelf.old)
         (texts words.now) result out.old out.new notes.old notes.new
-        (H.faults shelf.old) (H.faults shelf.new) (H.tally shelf.old) (H.tally shelf.new) }
+        (moment H.faults H.tally shelf.old) (moment H.faults H.tally shelf.new) }
 
     // Where the run is done, each of the two files was read once, and neither has a fault. The text
     // has a row for each placed candidate whom a request names, and the line has the numbers of the
@@ -62,11 +65,15 @@ pub fn run_desk<R: Threads + Wait + Sync, H: Shelf, K: Sink, N: Sink, G: DeskGat
         (N.faults notes.old) (N.faults notes.new) (H.tally shelf.old) (H.tally shelf.new) }
 
     // After a refusal `out` is as it was.
-    ensures sink { LeavesSink K.written K.faults result out.old out.new }
+    ensures sink { LeavesSink status_of K.written K.faults result out.old out.new }
 
-    // Each refusal has its cause, whether or not the shelf and the sinks tell their bytes.
-    ensures causes { HasStatusCause (clerks_of (texts words.now)) result
-        (H.faults shelf.old) (H.faults shelf.new) (H.tally shelf.old) (H.tally shelf.new)
+    // Each refusal has its cause, and where the run ends with its text no failed read or write was
+    // passed over, whether or not the shelf and the sinks tell their bytes.
+    ensures causes { HasStatusCause endings (clerks_of (texts words.now)) result
+        (moment H.faults H.tally shelf.old) (moment H.faults H.tally shelf.new)
+        (K.faults out.old) (K.faults out.new) }
+    ensures quiet { IsQuiet endings result
+        (moment H.faults H.tally shelf.old) (moment H.faults H.tally shelf.new)
         (K.faults out.old) (K.faults out.new) }
 
     // Where no read and no write failed, all that is said is done and each file up to the one that
@@ -75,10 +82,10 @@ pub fn run_desk<R: Threads + Wait + Sync, H: Shelf, K: Sink, N: Sink, G: DeskGat
     ensures complete { ¬ Rose (H.faults shelf.old) (H.faults shelf.new)
         → ¬ Rose (K.faults out.old) (K.faults out.new) → IsComplete (H.files shelf.old)
         (texts words.now) result (K.written out.old) (K.written out.new)
-        (H.tally shelf.old) (H.tally shelf.new) }
+        (moment H.faults H.tally shelf.old) (moment H.faults H.tally shelf.new) }
     ensures sure { IsConstant H.faults → IsConstant K.faults → IsComplete (H.files shelf.old)
         (texts words.now) result (K.written out.old) (K.written out.new)
-        (H.tally shelf.old) (H.tally shelf.new) }
+        (moment H.faults H.tally shelf.old) (moment H.faults H.tally shelf.new) }
 
     // What is held and granted stays. Where the words are refused, no file is opened.
     ensures files { H.files shelf.new ≡ H.files shelf.old }
@@ -100,11 +107,11 @@ fn answer_words<R: Threads + Wait + Sync, H: Shelf, G: DeskGate>(
     shelf: &mut H,
     gate: &G,
 ) -> Result<Report, Stop>
-    requires { MayOpen (H.files shelf.old) (H.grants shelf.old) (clerks_of (texts words.now))
-        (texts words.now) }
+    requires { MayOpen (H.files shelf.old) (H.grants shelf.old) (named (texts words.now))
+        (plan (clerks_of (texts words.now))) }
     ensures answers { IsAnswering (H.files shelf.old) (texts words.now)
         (clerks_of (texts words.now)) result
-        (H.faults shelf.old) (H.faults shelf.new) (H.tally shelf.old) (H.tally shelf.new) }
+        (moment H.faults H.tally shelf.old) (moment H.faults H.tally shelf.new) }
     ensures refused { (refused : DeskWords) → clerks_of (texts words.now) ≡ Err refused
         → IsErrOf result (Words refused) }
     ensures unopened { IsWordsStop result → shelf.new ≡ shelf.old }
@@ -127,16 +134,17 @@ fn serve_files<R: Threads + Wait + Sync, H: Shelf, G: DeskGate>(
     gate: &G,
 ) -> Result<Report, Stop>
     requires words { 2 ≤ length words.now }
-    requires granted { MayOpenBoth (H.files shelf.old) (H.grants shelf.old) (texts words.now) }
+    requires granted { MayOpen (H.files shelf.old) (H.grants shelf.old) (named (texts words.now))
+        both_plan }
     requires clerks { (1 ≤ clerks) × (clerks ≤ MOST_CLERKS) }
     ensures answers { IsAnswering (H.files shelf.old) (texts words.now) (Ok clerks) result
-        (H.faults shelf.old) (H.faults shelf.new) (H.tally shelf.old) (H.tally shelf.new) }
+        (moment H.faults H.tally shelf.old) (moment H.faults H.tally shelf.new) }
     ensures files { H.files shelf.new ≡ H.files shelf.old }
     ensures grants { H.grants shelf.new ≡ H.grants shelf.old }
 {
     let inputs = Inputs::read(alloc, words, shelf)?;
-    let (seats, requests) = inputs.into_parts();
-    let report = report_all(rt, alloc, seats, requests, clerks, gate)?;
+    let (placement, requests) = inputs.into_parts();
+    let report = report_all(rt, alloc, placement, requests, clerks, gate)?;
     Ok(report)
 }
 

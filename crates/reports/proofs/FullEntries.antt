@@ -9,15 +9,15 @@ use Rattle.std.proofs.lemmas.List.{get_or-take, length-take-le}
 use Rattle.std.proofs.lemmas.List.Folds.{list_any_at}
 use Rattle.std.proofs.lemmas.List.Sums.{position_or_len_is}
 use Rattle.market.specs.Counting.{is_programme, count_of}
-use Rattle.market.specs.Problems.{Problem, IsValid, IsAcceptable, HasNoRepeats, admits, kind_of, list_of, order_of, place_of, quota_of, rank_of, turn_of}
+use Rattle.market.specs.Problems.{Problem, IsValid, IsAcceptable, HasNoRepeats, admits, bar_of, kind_of, list_of, order_of, place_of, quota_of, rank_of, turn_of}
 use Rattle.market.specs.BaseRanks.{base_rank}
 use Rattle.market.specs.Stability.{IsBetter, IsBlocking, IsStable, Prefers, held_by}
 use Rattle.market.proofs.Firsts.{place_get, place_same}
 use Rattle.market.proofs.Turns.{is_programme-from}
 use Rattle.market.proofs.Valid.{candidate_lt, listed_kind, admitted-turn, turn-better}
 use Rattle.reports.specs.FullEntries.{FullMeansFilled}
-use Rattle.reports.specs.Reasons.{entry_at, reason_of, stands_before}
-use Rattle.reports.specs.declared.reasons.Reason.TheVariants.{NoRank, Full}
+use Rattle.reports.specs.Reasons.{entry_at, reason_of, refusal, stands_before}
+use Rattle.reports.specs.declared.reasons.Reason.TheVariants.{Full}
 use Rattle.reports.proofs.EntryTests.{IsFullEntry, reason-placed, reason-below, reason-above}
 
 -- the place of an entry in a list without repeats
@@ -37,6 +37,12 @@ found-before xs q place l within =
     (eq-eqb (get_or (take place xs) (place_of q xs) 0) q
     (get_or-take place xs (place_of q xs) 0 l ∙ place_get q xs 0 (omega arith)))
 
+-- what is refused is not full
+refusal-not_full : (rank bar base : Option ℕ) → refusal rank bar ≡ Full base → ⊥
+refusal-not_full None bar base e = absurd (cc e)
+refusal-not_full (Some rank) None base e = absurd (cc e)
+refusal-not_full (Some rank) (Some bar) base e = absurd (cc e)
+
 -- the three tests of an entry whose reason is that it is full
 full-entry : (m : Problem) (held : List (Option ℕ)) (i place : ℕ) (base : Option ℕ)
     → reason_of m held i place ≡ Full base → IsFullEntry m held i place
@@ -47,11 +53,13 @@ full-entry m held i place base full =
     (λ not_held. ⊎_elim
     (λ before. let e = reason-below m held i place not_held before in absurd cc)
     (λ not_below. ⊎_elim
-    (λ ranked. record { not_held = not_held; not_below = not_below; ranked = ranked })
-    (λ unranked.
+    (λ admitted. record { not_held = not_held; not_below = not_below; admitted = admitted })
+    (λ refused.
+    let rank = rank_of m (kind_of m p) i in
     let e = reason-above m held i place not_held not_below
-    ∙ ap (λ (b : Bool). if b then Full (base_rank m held p) else NoRank) unranked in
-    absurd cc)
+    ∙ ap (λ (b : Bool). if b then Full (base_rank m held p) else refusal rank (bar_of m p)) refused
+    in
+    absurd (refusal-not_full rank (bar_of m p) base (sym e ∙ full)))
     (cases_Bool (admits m p i)))
     (cases_Bool (stands_before (list_of m i) (held_by held i) place)))
     (cases_Bool (is_programme p (held_by held i)))
@@ -128,7 +136,7 @@ full_means_filled m v held stable i place base l full =
     let distinct = v.list_distinct i (candidate_lt m i place l) in
     let at = place-at list distinct place l in
     let f : IsFullFor m held i p = record {
-      acceptable = record { listed = omega arith; admitted = e.ranked };
+      acceptable = record { listed = omega arith; admitted = e.admitted };
       blocks_not = stable.unblocked i p;
       preferred = prefers list (held_by held i) place distinct l
           (λ q h. (stable.placement.acceptable i q h).listed) e.not_held e.not_below;

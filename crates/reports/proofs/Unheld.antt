@@ -1,12 +1,12 @@
 -- Where each held programme is acceptable to its holder, a programme has no base rank exactly where
 -- nobody holds it.
 use Rattle.std.proofs.Common.{◌≡◌, ℕ, zero, suc, ◌+◌, ◌<◌, ◌≤◌, Bool, true, false, cond, List, [], ◌∷◌, Option, Some, None, refl, sym, ap, ◌∙◌, arith, ⊎_elim}
-use Rattle.std.specs.Prelude.{IsTrue, is_some}
+use Rattle.std.specs.Prelude.{IsTrue}
 use Rattle.std.proofs.lemmas.Bool.{cases_lt}
 use Rattle.std.proofs.lemmas.List.Sums.{sum_by-cons}
 use Rattle.std.proofs.lemmas.Option.{none-some}
 use Rattle.market.specs.Counting.{count_of, is_programme}
-use Rattle.market.specs.Problems.{Problem, admits, kind_of, rank_of}
+use Rattle.market.specs.Problems.{Problem, admits, admits_rank, bar_of, kind_of, rank_of}
 use Rattle.market.specs.Stability.{held_by}
 use Rattle.market.proofs.Turns.{is_programme-from, is_programme-true}
 use Rattle.reports.specs.BaseTables.{BaseTable, HoldsAcceptable, IsBaseTable, IsNoneWhereUnheld, base_of, holder_count}
@@ -42,14 +42,14 @@ counted p (x ∷ held) (suc j) holds =
     let rest : 1 ≤ count_of p held = counted p held j holds in
     omega arith
 
-ranked : (o : Option ℕ) → IsTrue (is_some o) → (rank : ℕ) × (o ≡ Some rank)
-ranked None h = absurd (cc h)
-ranked (Some rank) h = (rank, refl)
+ranked : (bar o : Option ℕ) → IsTrue (admits_rank bar o) → (rank : ℕ) × (o ≡ Some rank)
+ranked bar None h = absurd (cc h)
+ranked bar (Some rank) h = (rank, refl)
 
 admitted-rank : (m : Problem) (p j : ℕ) → IsTrue (admits m p j)
     → (rank : ℕ) × (rank_of m (kind_of m p) j ≡ Some rank)
 unfolding admits
-admitted-rank m p j h = ranked (rank_of m (kind_of m p) j) h
+admitted-rank m p j h = ranked (bar_of m p) (rank_of m (kind_of m p) j) h
 
 -- a programme has no base rank exactly where nobody holds it, if all hold what is acceptable
 pub none_where_unheld : (m : Problem) (held : List (Option ℕ)) (table : BaseTable)

@@ -2,25 +2,33 @@
 use Rattle.std.specs.Prelude.{ℕ, Bool, false, List, if◌then◌else◌, take, ◌==◌, Option, Some, None, slice_index}
 use Rattle.std.specs.List.{list_any}
 use Rattle.market.specs.Counting.{is_programme}
-use Rattle.market.specs.Problems.{Problem, admits, list_of}
+use Rattle.market.specs.Problems.{Problem, admits, kind_of, bar_of, list_of, rank_of}
 use Rattle.market.specs.BaseRanks.{base_rank}
 use Rattle.market.specs.Stability.{held_by}
 use Rattle.reports.specs.declared.reasons.Reason.{Reason}
-use Rattle.reports.specs.declared.reasons.Reason.TheVariants.{Placed, Below, NoRank, Full}
+use Rattle.reports.specs.declared.reasons.Reason.TheVariants.{Placed, Below, NoRank, Bar, Full}
 
 -- whether what is held stands before this place of the list
 abbrev pub stands_before : List ℕ → Option ℕ → ℕ → Bool
 stands_before list None place = false
 stands_before list (Some p) place = list_any (λ q. q == p) (take place list)
 
+-- why a programme does not admit a candidate, by the rank in its type and its bar: there is no
+-- rank; or else there is a bar, and the rank is worse
+abbrev pub refusal : Option ℕ → Option ℕ → Reason
+refusal None bar = NoRank
+refusal (Some rank) None = NoRank
+refusal (Some rank) (Some bar) = Bar bar
+
 -- the reason of programme p at a place of a candidate's list: it is held; else a programme
--- before it is held; else the candidate has no rank in its type; else it is full, with this
--- base rank
+-- before it is held; else it does not admit the candidate, who has no rank in its type or one that
+-- is worse than its bar; else it is full, with this base rank
 abbrev pub reason_by : Problem → ℕ → Option ℕ → ℕ → ℕ → Option ℕ → Reason
 reason_by m i held place p base =
     if is_programme p held then Placed
     else (if stands_before (list_of m i) held place then Below
-    else (if admits m p i then Full base else NoRank))
+    else (if admits m p i then Full base
+    else refusal (rank_of m (kind_of m p) i) (bar_of m p)))
 
 -- the programme at a place of a candidate's list
 abbrev pub entry_at : Problem → ℕ → ℕ → ℕ

@@ -2,12 +2,12 @@
 
 ghost use Rattle.std.specs.Prelude.{◌≡◌, ◌<◌, ◌≤◌, length};
 ghost use Rattle.market.specs.Counting.{is_programme};
-ghost use Rattle.market.specs.Problems.{kind_of, list_of, rank_of};
+ghost use Rattle.market.specs.Problems.{bar_of, kind_of, list_of, rank_of};
 ghost use Rattle.reports.specs.BaseTables.{IsBaseTable};
-ghost use Rattle.reports.specs.Reasons.{entry_at, reason_of, stands_before};
+ghost use Rattle.reports.specs.Reasons.{reason_of, refusal, stands_before};
 
 use crate::{BaseRanks, Reason};
-use market::{Market, Placement};
+use market::{Market, Placement, Prog};
 
 /// The reason of the entry at a place of a candidate's list, beside the base ranks of the
 /// placement.
@@ -33,10 +33,10 @@ pub fn reason(
     if is_before(list, held, place) {
         return Reason::Below;
     }
-    match entry_rank(market, candidate, place) {
-        Some(_) => Reason::Full(bases.base(programme)),
-        None => Reason::NoRank,
+    if market.admits(programme, candidate) {
+        return Reason::Full(bases.base(programme));
     }
+    refusal(market, programme, candidate)
 }
 
 // Whether this programme is what is held.
@@ -61,17 +61,18 @@ fn is_before(list: &[u32], held: Option<u32>, place: u32) -> bool
     }
 }
 
-// The rank that a candidate has in the type of a list entry.
-fn entry_rank(market: &Market, candidate: u32, place: u32) -> Option<u32>
+// Why a programme does not admit a candidate: no rank in its type, or one that is worse than its bar.
+fn refusal(market: &Market, programme: u32, candidate: u32) -> Reason
+    requires programme { programme < length market.now.programmes }
     requires candidate { candidate < length market.now.lists }
-    requires place { place < length (list_of market.now candidate) }
-    ensures programme { entry_at market.now candidate place < length market.now.programmes }
-    ensures rank { result
-        ≡ rank_of market.now (kind_of market.now (entry_at market.now candidate place)) candidate }
+    ensures { result ≡ refusal (rank_of market.now (kind_of market.now programme) candidate)
+        (bar_of market.now programme) }
 {
     // Its clause says that the market is valid.
     let _ = market.candidate_count();
-    let list = market.list(candidate);
-    let kind = market.programme(list[place as usize]).kind;
-    market.rank(kind, candidate)
+    let Prog { kind, bar, .. } = market.programme(programme);
+    match (market.rank(kind, candidate), bar) {
+        (Some(_), Some(bar)) => Reason::Bar(bar),
+        _ => Reason::NoRank,
+    }
 }

@@ -9,6 +9,8 @@ pub enum Reason {
     Below,
     /// Neither, and the candidate has no rank in its score type.
     NoRank,
+    /// None of these, and the candidate's rank is worse than this bar of the programme.
+    Bar(u32),
     /// None of these. The base rank, or none where no holder has a rank in its score type.
     Full(Option<u32>),
 }

@@ -6,7 +6,7 @@ use Rattle.std.proofs.lemmas.Bool.{cases_lt}
 use Rattle.std.proofs.lemmas.List.{get_or-replicate}
 use Rattle.market.specs.declared.limits.TheConstants.{MAX_TYPES, MAX_CANDIDATES}
 use Rattle.market.specs.Problems.{Problem, IsValid, order_of}
-use Rattle.market.specs.Counting.{sum_below}
+use Rattle.market.specs.Counting.{sum_below, HasRisenWithin}
 use Rattle.market.specs.Mechanism.{tentative, whole_cuts, cuts_after, several_count, best_programmes, entries_left, mechanism_placement, mechanism_rounds, mechanism_cuts, cuts_in, several_in, cutting_rounds}
 use Rattle.market.specs.Choices.{IsRound, held_in_table, empty_table, best_programmes_in}
 use Rattle.market.specs.Reruns.{first_changed, changed_turn, first_run, round_turns, placement_turns, IsRunUpto}
@@ -14,7 +14,7 @@ use Rattle.market.proofs.Counts.{sum_same}
 use Rattle.market.proofs.Plain.{IsRoundsUpto, IsRoundsUpto-none, IsRoundsUpto-more, rounds-le, rounds-last, rounds-fall, sum_next}
 use Rattle.market.proofs.Reruns.{first-le}
 use Rattle.market.proofs.Replays.{round-cuts, round-count, round-best_programmes, round-changed, run-none, run-kept, empty_table-count}
-use Rattle.round_rerun.specs.Runs.{first_turn_of, run_turns, HasRisenWithin}
+use Rattle.round_rerun.specs.Runs.{first_turn_of, run_turns}
 
 -- the rounds so far: their cuts, the table, the turns that the next one runs, and those run
 pub record IsReplayUpto (m : Problem) (r : ℕ) (cuts : List ℕ) (total : ℕ) (table : List (List
@@ -96,7 +96,7 @@ pub replay-more : (m : Problem) → IsValid m → (r : ℕ) (cuts next : List �
     → IsReplayUpto m r cuts total table firsts done → IsRound m cuts more
     → n ≡ run_turns m firsts → n ≤ MAX_TYPES * MAX_CANDIDATES
     → next ≡ cuts_in m (held_in_table more) cuts → count ≡ several_in m (held_in_table more)
-    → ((t : ℕ) → t < m.types → slice_index_or then' t None ≡ changed_turn m (held_in_table more)
+    → ((t : ℕ) → t < MAX_TYPES → slice_index_or then' t None ≡ changed_turn m (held_in_table more)
     cuts t) → (count ≡ 0 → ⊥) → IsReplayUpto m (r + 1) next (total + count) more then' (done + n)
 replay-more m v r cuts next total count table more firsts then' done n u round en fn ec es ef nz =
     let at = u.rounds.at in
@@ -108,7 +108,8 @@ replay-more m v r cuts next total count table more firsts then' done n u round e
       rounds = IsRoundsUpto-more m r total count cuts next u.rounds cut (es
           ∙ round-count m cuts more round) nz;
       types = round.types;
-      first = λ t l. ap (λ (o : Option ℕ). unwrap_or o (length (order_of m t))) (ef t l)
+      first = λ t l. ap (λ (o : Option ℕ). unwrap_or o (length (order_of m t)))
+          (ef t (omega (arith, v.types)))
           ∙ round-changed m v cuts more t round l ∙ first t;
       kept = λ t l.
           subst (λ (k : ℕ). IsRunUpto m next t k (slice_index_or more t [])) (first t)

@@ -1,5 +1,5 @@
--- The turns of one round, and how far a counter of turns has risen.
-use Rattle.std.specs.Prelude.{ℕ, ◌+◌, ◌-◌, ◌≤◌, List, length, Option, None, unwrap_or, slice_index_or}
+-- The turns of one round.
+use Rattle.std.specs.Prelude.{ℕ, ◌-◌, List, length, Option, None, unwrap_or, slice_index_or}
 use Rattle.market.specs.Problems.{Problem, order_of}
 use Rattle.market.specs.Counting.{sum_below}
 
@@ -10,7 +10,3 @@ first_turn_of m firsts t = unwrap_or (slice_index_or firsts t None) (length (ord
 -- the turns to run of all types
 unfoldable pub run_turns : Problem → List (Option ℕ) → ℕ
 run_turns m firsts = sum_below (λ t. length (order_of m t) - first_turn_of m firsts t) m.types
-
--- the counter has risen by at most so many turns
-abbrev pub HasRisenWithin : ℕ → ℕ → ℕ → Type 0
-HasRisenWithin old new most = (old ≤ new) × (new ≤ old + most)

@@ -5,11 +5,12 @@ ghost use Rattle.std.specs.Result.{IfErr};
 ghost use Rattle.std.specs.Thread.{IsSync};
 ghost use Rattle.interleaving_core.specs.declared.limits.TheConstants.{MAX_WORKERS};
 ghost use Rattle.market.specs.declared.limits.TheConstants.{MAX_TYPES, MAX_CANDIDATES};
+ghost use Rattle.market.specs.Counting.{HasRisenWithin};
 ghost use Rattle.market.specs.Problems.{IsValid, order_of};
 ghost use Rattle.market.specs.Mechanism.{IsCuts, mechanism_placement, mechanism_rounds, mechanism_cuts};
 ghost use Rattle.market.specs.Choices.{IsRound};
 ghost use Rattle.market.specs.Reruns.{IsRunUpto, placement_turns};
-ghost use Rattle.round_rerun.specs.Runs.{first_turn_of, run_turns, HasRisenWithin};
+ghost use Rattle.round_rerun.specs.Runs.{first_turn_of, run_turns};
 
 use crate::rerun::run_touched;
 use gate_workers::{Gate, OpenGate};
@@ -62,7 +63,8 @@ impl<'g, G: Gate> Rounds<'g, G> {
 
 impl<'g> Placer for Rounds<'g, OpenGate> {
     /// The mechanism's placement. The counter rises by the turns that were run: all in the first
-    /// round, and then of each type those from the first one that the last cuts changed.
+    /// round, and then of each type those from the first one that the last cuts changed. Where
+    /// memory is refused, it has risen by at most as many turns as the placement has.
     fn place<R: Threads + Sync, L: Ledger>(
         &mut self,
         rt: &R,
@@ -77,6 +79,8 @@ impl<'g> Placer for Rounds<'g, OpenGate> {
         ensures cuts { IfOk result (λ outcome. outcome.cuts ≡ mechanism_cuts market.now) }
         ensures reruns { IfOk result (λ outcome. outcome.turns ≡ placement_turns market.now) }
         ensures turns { IfOk result (λ outcome. turns.new ≡ turns.old + outcome.turns) }
+        ensures refused { IfErr result (λ _. HasRisenWithin turns.old turns.new
+            (placement_turns market.now)) }
     {
         self.run(rt, alloc, market, turns)
     }

@@ -1,13 +1,14 @@
 -- What follows from how a run ends, where the statuses of its ends are apart.
-use Rattle.std.proofs.Common.{◌≡◌, ◌⊎◌, ◌≤◌, ◌∙◌, ℕ, List, [], sym, ap, subst, take, inl, inr, refl, arith, Option, Some, None, Result, Ok, Err, ⊎_elim}
+use Rattle.std.proofs.Common.{◌≡◌, ◌⊎◌, ◌≤◌, ◌∙◌, ℕ, List, [], sym, ap, subst, take, inl, inr, refl, arith, Option, Some, None, Result, Ok, Err, IfOk, ⊎_elim}
 use Rattle.std.specs.Prelude.{Bool, IsFalse}
 use Rattle.place_base.specs.declared.fault.FileKind.{FileKind}
 use Rattle.place_edges.specs.Causes.{Rose}
 use Rattle.place_edges.specs.Shelf.{Files}
 use Rattle.place_edges.specs.Sink.{Appended}
-use Rattle.run_frame.specs.Files.{AreRead, Reads}
+use Rattle.run_frame.specs.Files.{Moment}
 use Rattle.run_frame.specs.Meetings.{IsDecided, Meets}
-use Rattle.run_frame.specs.Runs.{Endings, HasStatusCause, IsConstant, IsDone, IsFinished, IsWhole, LeavesSink, StaysInFront, WordsCause}
+use Rattle.run_frame.specs.Plans.{AreRead, Plan, said}
+use Rattle.run_frame.specs.Runs.{Endings, HasStatusCause, IsConstant, IsDone, IsFinished, IsQuiet, IsWhole, LeavesSink, StaysInFront, WordsCause}
 use Rattle.run_frame.specs.Stops.{is_free_stop, too_long}
 use Rattle.run_frame.specs.declared.stop.FileStop.TheVariants.{Fault, Memory, ReadFault}
 use Rattle.run_frame.specs.declared.stop.Stop.{Stop}
@@ -47,7 +48,7 @@ module _ {A W E K : Type 0} {ends : Endings A W E} (apart : AreApart ends)
   pub stopped : (answer : Result A (Stop W)) (status : E) (old new : K) (stop : Stop W)
       → IsFinished ends written faults answer status old new → status ≡ ends.stopped stop
       → (answer ≡ Err stop) × (new ≡ old)
-  stopped (Ok answer) status old new stop (inl (well, wrote)) same =
+  stopped (Ok answer) status old new stop (inl (well, wrote, still)) same =
       absurd (unstopped (ends.done answer) stop (apart.done answer) (sym well ∙ same))
   stopped (Ok answer) status old new stop (inr (fault, wrote, rose)) same =
       absurd (unstopped ends.write_fault stop apart.fault (sym fault ∙ same))
@@ -59,7 +60,7 @@ module _ {A W E K : Type 0} {ends : Endings A W E} (apart : AreApart ends)
   front-finished : (answer : Result A (Stop W)) (status : E) (old new : K)
       → IsFinished ends written faults answer status old new
       → StaysInFront (written old) (written new)
-  front-finished (Ok answer) status old new (inl (well, wrote)) = (ends.text answer, wrote)
+  front-finished (Ok answer) status old new (inl (well, wrote, still)) = (ends.text answer, wrote)
   front-finished (Ok answer) status old new (inr (fault, (k, few, wrote), rose)) =
       (take k (ends.text answer), wrote)
   front-finished (Err stop) status old new (is, same) =
@@ -69,7 +70,7 @@ module _ {A W E K : Type 0} {ends : Endings A W E} (apart : AreApart ends)
   pub write-cause : (answer : Result A (Stop W)) (status : E) (old new : K)
       → IsFinished ends written faults answer status old new → status ≡ ends.write_fault
       → Rose (faults old) (faults new)
-  write-cause (Ok answer) status old new (inl (well, wrote)) same =
+  write-cause (Ok answer) status old new (inl (well, wrote, still)) same =
       absurd (apart.whole answer (sym well ∙ same))
   write-cause (Ok answer) status old new (inr (fault, wrote, rose)) same = rose
   write-cause (Err stop) status old new (is, same_sink) same =
@@ -80,13 +81,27 @@ module _ {A W E K : Type 0} {ends : Endings A W E} (apart : AreApart ends)
       → IsFinished ends written faults answer status old new
       → apart.stop_in status ≡ None → (status ≡ ends.write_fault → ⊥)
       → (ready : A) × (answer ≡ Ok ready) × (status ≡ ends.done ready)
-      × Appended (written old) (written new) (ends.text ready)
-  answered-finished (Ok answer) status old new (inl (well, wrote)) none unfailed =
-      (answer, refl, well, wrote)
+      × Appended (written old) (written new) (ends.text ready) × (faults new ≡ faults old)
+  answered-finished (Ok answer) status old new (inl (well, wrote, still)) none unfailed =
+      (answer, refl, well, wrote, still)
   answered-finished (Ok answer) status old new (inr (fault, wrote, rose)) none unfailed =
       absurd (unfailed fault)
   answered-finished (Err stop) status old new (is, same) none unfailed =
       absurd (unstopped status stop none is)
+
+  -- where a run ends with its text no failed read or write was passed over
+  pub quiet-run : {told : Option Files} {names : FileKind → List ℕ} {plan : Plan A W}
+      {answer : Result A (Stop W)} {before now : Moment} (status : E) (old new : K)
+      → AreRead told names plan answer before now
+      → IsFinished ends written faults answer status old new
+      → IsQuiet ends status before now (faults old) (faults new)
+  quiet-run {answer = answer} {before = before} {now = now} status old new reading finished =
+      λ ended same.
+      let whole = answered-finished answer status old new finished
+      (ap apart.stop_in same ∙ apart.done ended) (λ fault. apart.whole ended (sym same ∙ fault)) in (
+        subst (λ v. IfOk v (λ _. now.faults ≡ before.faults)) whole.1 reading.causes.quiet,
+        whole.4,
+      )
 
   -- what was written before stays in front, and after a stop the sink is as it was
   pub leaves-sink : (answer : Result A (Stop W)) (status : E) (old new : K)
@@ -116,19 +131,18 @@ module _ {A W E K : Type 0} {ends : Endings A W E} (apart : AreApart ends)
 
   -- each refusal of a run has its cause
   pub causes-run : {C : Type 0} {told : Option Files} {names : FileKind → List ℕ}
-      {first : Option FileKind} {said : Reads → Option (Result A (Stop W))}
-      {files : Reads → List (List ℕ)} {answer : Result A (Stop W)}
-      {before now tally_before tally_now : ℕ} (command : Result C W) (status : E) (old new : K)
-      → (reading : AreRead told names first said files answer before now tally_before tally_now)
+      {plan : Plan A W} {answer : Result A (Stop W)} {before now : Moment}
+      (command : Result C W) (status : E) (old new : K)
+      → (reading : AreRead told names plan answer before now)
       → IsFinished ends written faults answer status old new
-      → ((refused : W) → said reading.reads ≡ Some (Err (Words refused)) → command ≡ Err refused)
+      → ((refused : W) → said plan reading.reads ≡ Some (Err (Words refused))
+      → command ≡ Err refused)
       → ((refused : W) → command ≡ Err refused → answer ≡ Err (Words refused))
-      → HasStatusCause ends command status before now tally_before tally_now (faults old)
-      (faults new)
-  causes-run {said = said} {answer = answer} command status old new reading finished only exact =
+      → HasStatusCause ends command status before now (faults old) (faults new)
+  causes-run {plan = plan} {answer = answer} command status old new reading finished only exact =
       record {
-        words = words-cause command (said reading.reads) answer status old new reading.meets
-            finished only exact;
+        words = words-cause command (said plan reading.reads) answer status old new
+            reading.meets finished only exact;
         read = λ same. reading.causes.read
             (stopped answer status old new (File ReadFault) finished same).0;
         long = λ kind same. reading.causes.long kind
@@ -159,7 +173,7 @@ module _ {A W E K : Type 0} {ends : Endings A W E} (apart : AreApart ends)
       → (status ≡ ends.stopped (File Memory))
       ⊎ (IsDecided is_free_stop answer × (all : Result A (Stop W)) × (said ≡ Some all)
       × IsDone ends all status (written old) (written new))
-  done-finished said (Ok answer) status old new meets (inl (well, wrote)) read write =
+  done-finished said (Ok answer) status old new meets (inl (well, wrote, still)) read write =
       inr (tt, Ok answer, meets, (well, wrote))
   done-finished said (Ok answer) status old new meets (inr (fault, wrote, rose)) read write =
       absurd (write rose)
@@ -172,19 +186,17 @@ module _ {A W E K : Type 0} {ends : Endings A W E} (apart : AreApart ends)
       stop-done said (Words refused) status old new refl meets is same
 
   -- the same of files that were read, each once where the answer is no free stop
-  pub whole-run : {told : Option Files} {names : FileKind → List ℕ} {first : Option FileKind}
-      {said : Reads → Option (Result A (Stop W))} {files : Reads → List (List ℕ)}
-      {answer : Result A (Stop W)} {before now tally_before tally_now : ℕ} (status : E)
-      (old new : K)
-      → AreRead told names first said files answer before now tally_before tally_now
+  pub whole-run : {told : Option Files} {names : FileKind → List ℕ} {plan : Plan A W}
+      {answer : Result A (Stop W)} {before now : Moment} (status : E) (old new : K)
+      → AreRead told names plan answer before now
       → IsFinished ends written faults answer status old new
-      → (Rose before now → ⊥) → (Rose (faults old) (faults new) → ⊥)
-      → IsWhole ends told names said files status (written old) (written new) tally_before tally_now
-  whole-run {said = said} {answer = answer} status old new reading finished no_read no_write = (
+      → (Rose before.faults now.faults → ⊥) → (Rose (faults old) (faults new) → ⊥)
+      → IsWhole ends told names plan status (written old) (written new) before now
+  whole-run {plan = plan} {answer = answer} status old new reading finished no_read no_write = (
     reading.reads,
     reading.held,
     ⊎_elim (λ refused. inl refused)
         (λ well. inr (reading.taken well.0, well.1, well.2, well.3))
-        (done-finished (said reading.reads) answer status old new reading.meets finished
+        (done-finished (said plan reading.reads) answer status old new reading.meets finished
         (λ unread. no_read (reading.causes.read unread)) no_write),
   )

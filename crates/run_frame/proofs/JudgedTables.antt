@@ -1,5 +1,5 @@
 -- A file that was read whole says what its table was read as, and one that is too long says so.
-use Rattle.std.proofs.Common.{◌≡◌, ℕ, ◌<◌, ◌≤◌, List, Option, Some, Result, Ok, Err, Vec, IfOk, sym, ap, subst, ◌∙◌, inl, inr, refl, None, ⊎_elim}
+use Rattle.std.proofs.Common.{◌≡◌, ℕ, ◌<◌, ◌≤◌, List, Option, Some, Result, Ok, Err, Vec, IfOk, sym, ap, subst, ◌∙◌, inl, inr, refl, None, arith, ⊎_elim}
 use Rattle.std.specs.Prelude.{length, IsErrAnd}
 use Rattle.std.proofs.lemmas.Bool.{cases_lt, cond-true, cond-false, le-ltb, lt-ltb}
 use Rattle.place_base.specs.declared.fault.FileFault.{FileFault}
@@ -8,7 +8,7 @@ use Rattle.place_edges.specs.Shelf.{Files, file_limit}
 use Rattle.record_files.specs.ReadTo.{IsTableRead}
 use Rattle.record_files.specs.declared.table_stop.TableStop.{TableStop}
 use Rattle.record_files.specs.declared.table_stop.TableStop.TheVariants as stopped
-use Rattle.run_frame.specs.Files.{HasCauses, IsJudged, IsReadWhole}
+use Rattle.run_frame.specs.Files.{HasCauses, IsJudged, IsReadWhole, Moment}
 use Rattle.run_frame.specs.Meetings.{Meets}
 use Rattle.run_frame.specs.Stops.{is_free, table_said, too_long}
 use Rattle.run_frame.specs.declared.stop.FileStop.{FileStop}
@@ -16,7 +16,7 @@ use Rattle.run_frame.specs.declared.stop.FileStop.TheVariants.{Fault}
 use Rattle.run_frame.proofs.Judging.{judged-bytes, judged-unread, short-bytes}
 use Rattle.run_frame.proofs.Parts.{at-error}
 use Rattle.run_frame.specs.Says.{judged, fault_or}
-use Rattle.run_frame.proofs.TableFaults.{IsOther}
+use Rattle.run_frame.proofs.TableFaults.{HasLine}
 
 -- a file within the limit says its fault, or else its table
 pub judged-short : {T : Type 0} (kind : FileKind) (fault : Option FileFault) (table : T)
@@ -50,44 +50,62 @@ table-meets kind fault table bytes said (Err (stopped.Fault f)) is few found =
     ∙ ap (λ v. fault_or v table) found))
 table-meets kind fault table bytes said (Err stopped.Memory) is few found = inl refl
 
-fault-other : (f : FileFault) → IsOther (Some f) → (kind : FileKind) → f ≡ too_long kind → ⊥
-fault-other f other kind e = other (ap (λ v. v.kind) e)
+-- a fault on a line is not that the file is too long
+not-too_long : (found : FileFault) → HasLine (Some found) → (kind : FileKind)
+    → found ≡ too_long kind → ⊥
+unfolding HasLine
+not-too_long found lined kind e = omega (arith, lined, ap (λ v. v.line) e)
 
 -- a table has no cause of its own in the counts
-table-causes : {T : Type 0} (before now tally_before tally_now : ℕ)
+table-causes : {T : Type 0} (before now : Moment)
     (fault : Option FileFault) (table : T) (read : Result T TableStop)
-    → before ≤ now → tally_before ≤ tally_now → IsOther fault → IsTableRead fault table read
-    → HasCauses (λ stop. stop) (table_said read) before now tally_before tally_now
-table-causes before now tally_before tally_now fault table (Ok read) later tally other found =
-    record { faults = later; tally = tally; read = λ e. cc e; long = λ kind e. cc e }
-table-causes before now tally_before tally_now fault table (Err (stopped.Fault f)) later tally other
+    → now.faults ≡ before.faults → before.tally ≤ now.tally → HasLine fault
+    → IsTableRead fault table read
+    → HasCauses (λ stop. stop) (table_said read) before now
+table-causes before now fault table (Ok read) same tally lined found =
+    record {
+      faults = omega (arith, same);
+      tally = tally;
+      quiet = same;
+      read = λ e. cc e;
+      long = λ kind e. cc e;
+    }
+table-causes before now fault table (Err (stopped.Fault f)) same tally lined
     found =
     record {
-      faults = later;
+      faults = omega (arith, same);
       tally = tally;
+      quiet = tt;
       read = λ e. cc e;
-      long = λ kind e. absurd (fault-other f (subst IsOther found other) kind (cc e));
+      long = λ kind e. absurd (not-too_long f (subst HasLine found lined) kind (cc e));
     }
-table-causes before now tally_before tally_now fault table (Err stopped.Memory) later tally other
-    found = record { faults = later; tally = tally; read = λ e. cc e; long = λ kind e. cc e }
+table-causes before now fault table (Err stopped.Memory) same tally lined
+    found =
+    record {
+      faults = omega (arith, same);
+      tally = tally;
+      quiet = tt;
+      read = λ e. cc e;
+      long = λ kind e. cc e;
+    }
 
--- what a file says is by its first fault and its table, and no fault is that it is too long
+-- what a file says is by its first fault and its table, and a fault stands on a line
 pub record Judges {T : Type 0} (kind : FileKind) (said : List ℕ → Result T FileStop)
     (fault : List ℕ → Option FileFault) (table : List ℕ → T) : Type 0 where
   pub says : (bytes : List ℕ) → said bytes ≡ judged kind (fault bytes) (table bytes) bytes
-  pub other : (bytes : List ℕ) → IsOther (fault bytes)
+  pub lined : (bytes : List ℕ) → HasLine (fault bytes)
 
 module _ {T Z : Type 0} {told : Option Files} {name : List ℕ} {kind : FileKind}
     {said : List ℕ → Result T FileStop} {fault : List ℕ → Option FileFault} {table : List ℕ → T}
-    {before now tally_before tally_now : ℕ} {result : Result T FileStop} where
+    {before now : Moment} {result : Result T FileStop} where
   -- a file that was not read whole is judged by its stop
   pub judged-stop : {stop : FileStop} → Judges kind said fault table
       → IsErrAnd result (λ found. found ≡ stop)
-      → IsReadWhole {Z = Z} told name kind (Err stop) before now tally_before tally_now
-      → IsJudged told name said result before now tally_before tally_now
+      → IsReadWhole {Z = Z} told name kind (Err stop) before now
+      → IsJudged told name said result before now
   judged-stop {stop = stop} judges is reading =
-      at-error (λ r. IsJudged told name said r before now tally_before tally_now) result stop is
-      (judged-unread told name kind said stop before now tally_before tally_now
+      at-error (λ r. IsJudged told name said r before now) result stop is
+      (judged-unread told name kind said stop before now
       (λ bytes many. judges.says bytes ∙ judged-long kind (fault bytes) (table bytes) bytes many)
       reading)
 
@@ -95,17 +113,17 @@ module _ {T Z : Type 0} {told : Option Files} {name : List ℕ} {kind : FileKind
   -- are lent from what the file was read into
   pub judged-lent : {lent : List ℕ} {bytes : Vec ℕ Z} → Judges kind said fault table
       → (read : Result T TableStop) → lent ≡ bytes.items
-      → IsReadWhole told name kind (Ok bytes) before now tally_before tally_now
+      → IsReadWhole told name kind (Ok bytes) before now
       → IsTableRead (fault lent) (table lent) read → result ≡ table_said read
-      → IsJudged told name said result before now tally_before tally_now
+      → IsJudged told name said result before now
   judged-lent {lent = lent} {bytes = bytes} judges read same reading found e =
-      subst (λ v. IsJudged told name said v before now tally_before tally_now) (sym e)
+      subst (λ v. IsJudged told name said v before now) (sym e)
       (judged-bytes said (table_said read) reading
       (table-meets kind (fault bytes.items) (table bytes.items) bytes.items said read
       (judges.says bytes.items) (short-bytes reading)
       (subst (λ v. IsTableRead (fault v) (table v) read) same found))
-      (table-causes before now tally_before tally_now (fault lent) (table lent) read
-      reading.causes.faults reading.causes.tally (judges.other lent) found))
+      (table-causes before now (fault lent) (table lent) read
+      reading.causes.quiet reading.causes.tally (judges.lined lent) found))
 
 -- what holds of a table that was read holds of what it is among the causes of a file
 pub table-ok : {T : Type 0} (P : T → Type 0) (read : Result T TableStop)

@@ -1,6 +1,6 @@
 -- Texts that are written one behind the other: what was appended so far, and a prefix of all of
 -- them.
-use Rattle.std.proofs.Common.{◌≡◌, ℕ, ◌+◌, ◌<◌, ◌≤◌, List, [], ◌∷◌, ◌++◌, length, take, drop, get_or, sym, ◌∙◌, ap, append_assoc, append-nil, subst, arith, add-one, Some, None, Result, Ok, Err, length-append, drop-cons}
+use Rattle.std.proofs.Common.{◌≡◌, ℕ, ◌+◌, ◌<◌, ◌≤◌, List, [], ◌∷◌, ◌++◌, length, take, drop, get_or, sym, ◌∙◌, ap, append_assoc, append-nil, subst, arith, add-one, Some, None, Result, Ok, Err, IfOk, length-append, drop-cons}
 use Rattle.std.specs.Prelude.{Option, IsErrAnd}
 use Rattle.std.specs.List.{flat_map}
 use Rattle.std.proofs.Math.Seq.{take-append-add}
@@ -15,6 +15,11 @@ pub at-error : {T E : Type 0} (P : Result T E → Type 0) (result : Result T E) 
     → IsErrAnd result (λ found. found ≡ error) → P (Err error) → P result
 at-error P (Ok x) error never p = absurd never
 at-error P (Err found) error is p = subst (λ v. P (Err v)) (sym is) p
+
+-- what holds anyhow holds where there is an answer
+pub every-ok : {T E : Type 0} {P : Type 0} (result : Result T E) → P → IfOk result (λ _. P)
+every-ok (Ok x) p = p
+every-ok (Err error) p = tt
 
 -- nothing was appended where what was written is the same
 pub appended-nothing : (old new : Option (List ℕ)) → new ≡ old → Appended old new []
@@ -82,14 +87,15 @@ joined-at f xs i d h =
 -- where the text at an index was not written whole, neither were all of them
 pub unwritten-at : {X T E : Type 0} (f : X → List ℕ) (xs : List X) (i : ℕ) (d : X) (error : E)
     (old mid new : Option (List ℕ)) (before between now : ℕ) → i < length xs
-    → Appended old mid (flat_map f (take i xs)) → before ≤ between
+    → Appended old mid (flat_map f (take i xs)) → between ≡ before
     → IsWritten {T = T} (f (get_or xs i d)) (Err error) mid new between now
     → IsWritten {T = T} (flat_map f xs) (Err error) old new before now
-unwritten-at f xs i d error old mid new before between now h p later written = record {
+unwritten-at f xs i d error old mid new before between now h p same written = record {
   whole = tt;
+  quiet = tt;
   prefix = subst (λ v. AppendedPrefix old new v) (sym (joined-at f xs i d h))
       (prefix-two old mid new (flat_map f (take i xs)) (f (get_or xs i d))
       (flat_map f (drop (i + 1) xs)) p written.prefix);
-  failed = omega (arith, later, written.failed);
-  later = omega (arith, later, written.later);
+  failed = omega (arith, same, written.failed);
+  later = omega (arith, same, written.later);
 }

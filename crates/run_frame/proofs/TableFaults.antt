@@ -1,113 +1,125 @@
--- No fault of a table is that the file is too long: that is found before the table is read. Each
--- part of what may be wrong with a row has a kind of its own, and the first of several faults is
--- one of them.
-use Rattle.std.proofs.Common.{◌≡◌, ℕ, zero, suc, List, [], ◌∷◌, Bool, true, false, Option, Some, None, Result, Ok, Err}
-use Rattle.std.specs.Prelude.{nat_lt, nat_le, length, take, slice_get, option_map, option_and_then, ◌&&◌}
-use Rattle.std.proofs.lemmas.Bool.{cond_both}
+-- No fault of a table is that its file is too long, which is found before the table is read. A
+-- table's fault stands on a line of its file, and lines are counted from 1; that a file is too long
+-- stands on none.
+use Rattle.std.proofs.Common.{◌<◌, ◌+◌, ℕ, zero, suc, List, [], ◌∷◌, Bool, true, false, Option, Some, None, Result, Ok, Err, arith, drop, find, take}
+use Rattle.std.specs.Prelude.{length, slice_get, option_and_then, option_map}
+use Rattle.std.specs.Str.Lines.{strip_carriage_return}
 use Rattle.place_base.specs.declared.fault.FaultKind.{FaultKind}
-use Rattle.place_base.specs.declared.fault.FaultKind.TheVariants.{OutOfRange, FileTooLong}
+use Rattle.place_base.specs.declared.fault.FaultKind.TheVariants.{Header as BadHeader}
 use Rattle.place_base.specs.declared.fault.FileFault.{FileFault}
 use Rattle.place_base.specs.declared.fault.FileKind.{FileKind}
-use Rattle.place_base.specs.declared.limits.TheConstants.{LONGEST_LINE}
-use Rattle.record_files.specs.FirstFaults.{FileRules, duplicate_at, fault_behind, fault_if, first_fault, first_of, first_row_fault, header_fault, least_fault, long_fault, reading_fault, row_fault, shape_fault}
+use Rattle.place_base.specs.declared.limits.TheConstants.{LF}
+use Rattle.record_files.specs.FirstFaults.{FileRules, duplicate_at, fault_at, fault_behind, fault_if, first_fault, first_of, first_row_fault, least_fault, reading_fault, repeat_fault, row_fault, shape_fault}
 use Rattle.record_files.specs.Form.{Form, header_in}
-use Rattle.record_files.specs.Numbers.{is_number, number_of, value}
-use Rattle.record_files.specs.Rows.{Row, data_rows, rows}
+use Rattle.record_files.specs.Rows.{Row, data_rows, numbered, row_and, rows, split, without_mark}
 use Rattle.record_files.specs.declared.form.Header.{Header}
 
--- a fault that may be there is of another kind
-abbrev pub IsOther : Option FileFault → Type 0
-IsOther None = Unit {0}
-IsOther (Some fault) = fault.kind ≡ FileTooLong → ⊥
+-- a fault that may be there stands on a line
+unfoldable pub HasLine : Option FileFault → Type 0
+HasLine None = Unit {0}
+HasLine (Some fault) = 0 < fault.line
 
--- what was not read is of another kind
-abbrev pub IsOtherReading : {A : Type 0} → Result A FaultKind → Type 0
-IsOtherReading (Ok read) = Unit {0}
-IsOtherReading (Err kind) = kind ≡ FileTooLong → ⊥
+-- none does, and so does one whose line is one of the file's
+pub line-none : HasLine None
+unfolding HasLine
+line-none = tt
 
--- the first of two that are of another kind is
-pub other-first : (a b : Option FileFault) → IsOther a → IsOther b → IsOther (first_of a b)
-other-first None b p q = q
-other-first (Some fault) b p q = p
+line-some : (fault : FileFault) → 0 < fault.line → HasLine (Some fault)
+unfolding HasLine
+line-some fault some = some
 
--- so is the fault of a test
-pub other-if : (test : Bool) (fault : FileFault) → (fault.kind ≡ FileTooLong → ⊥)
-    → IsOther (fault_if test fault)
-other-if true fault p = p
-other-if false fault p = tt
+-- the first of two that stand on a line does
+pub line-first : (a b : Option FileFault) → HasLine a → HasLine b → HasLine (first_of a b)
+unfolding HasLine
+line-first None b p q = q
+line-first (Some fault) b p q = p
 
--- so is that of a field, where what was not read is of another kind
-pub other-reading : {A : Type 0} (kind : FileKind) (line field : ℕ) (read : Result A FaultKind)
-    → IsOtherReading read
-    → IsOther (reading_fault kind line field read)
-other-reading kind line field (Ok read) p = tt
-other-reading kind line field (Err unread) p = p
+-- so does the fault of a test
+pub line-if : (test : Bool) (fault : FileFault) → 0 < fault.line → HasLine (fault_if test fault)
+unfolding HasLine
+line-if true fault some = some
+line-if false fault some = tt
 
--- so is that of a row that repeats one, if one is found
-pub other-found : (kind : FileKind) (line field : ℕ) (found : Option Row)
-    → IsOther (option_map (λ row. duplicate_at kind line field row.0) found)
-other-found kind line field None = tt
-other-found kind line field (Some row) = λ e. cc e
+-- so does that of a field of a row
+pub line-reading : {A : Type 0} (kind : FileKind) (line field : ℕ) (read : Result A FaultKind)
+    → 0 < line → HasLine (reading_fault kind line field read)
+unfolding HasLine
+line-reading kind line field (Ok read) some = tt
+line-reading kind line field (Err unread) some = some
 
--- and so is what was not read as a number
-pub other-number : (field : List ℕ) (low high : ℕ) → IsOtherReading (number_of field low high)
-other-number field low high =
-    cond_both (is_number field) _ _ IsOtherReading
-    (λ _. cond_both (nat_le low (value field) && nat_le (value field) high) (Ok (value field))
-    (Err OutOfRange) IsOtherReading
-    (λ _. tt) (λ _. λ e. cc e))
-    (λ _. λ e. cc e)
+line-found : (kind : FileKind) (line field : ℕ) (found : Option Row) → 0 < line
+    → HasLine (option_map (λ row. duplicate_at kind line field row.0) found)
+unfolding HasLine
+line-found kind line field None some = tt
+line-found kind line field (Some row) some = some
 
--- the first of the faults of several rows is one of them
-pub other-least : (fault : ℕ → Option FileFault) → ((k : ℕ) → IsOther (fault k)) → (n : ℕ)
-    → IsOther (least_fault fault n)
-unfolding least_fault
-other-least fault each zero = tt
-other-least fault each (suc n) = other-first (least_fault fault n) (fault n)
-    (other-least fault each n) (each n)
+-- so does that of a row that repeats one
+pub line-repeat : (kind : FileKind) (line field : ℕ) (same : Row → Bool) (earlier : List Row)
+    → 0 < line → HasLine (repeat_fault kind line field same earlier)
+line-repeat kind line field same earlier some = line-found kind line field (find same earlier) some
 
-other-long : (form : Form) (row : Row) → IsOther (long_fault form row)
-other-long form row = other-if (nat_lt LONGEST_LINE (length row.1)) _ (λ e. cc e)
+-- so does the first of several
+pub line-least : (fault : ℕ → Option FileFault) → ((k : ℕ) → HasLine (fault k)) → (n : ℕ)
+    → HasLine (least_fault fault n)
+unfolding HasLine least_fault
+line-least fault each zero = tt
+line-least fault each (suc n) =
+    line-first (least_fault fault n) (fault n) (line-least fault each n) (each n)
 
-other-header : (form : Form) (row : Row) → IsOther (header_fault form row)
-other-header form row =
-    other-first (long_fault form row) _ (other-long form row) (other-if _ _ (λ e. cc e))
+-- the rows of a list stand on lines
+abbrev HaveLines : List Row → Type 0
+HaveLines [] = Unit {0}
+HaveLines (row ∷ rows) = (0 < row.0) × HaveLines rows
 
-other-first_row : (form : Form) (lines : List Row) → IsOther (first_row_fault form lines)
-other-first_row form [] = λ e. cc e
-other-first_row form (row ∷ behind) = other-header form row
+lines-and : (line : ℕ) (text : List ℕ) (rows : List Row) → 0 < line → HaveLines rows
+    → HaveLines (row_and line text rows)
+lines-and line [] rows some lines = lines
+lines-and line (byte ∷ bytes) rows some lines = (some, lines)
 
-other-shape : (form : Form) (fields index : ℕ) (row : Row)
-    → IsOther (shape_fault form fields index row)
-other-shape form fields index row =
-    other-first (long_fault form row) _ (other-long form row)
-    (other-first _ _ (other-if (nat_le form.most_rows index) _ (λ e. cc e)) (other-if _ _ (λ e. cc
-    e)))
+lines-numbered : (line : ℕ) (texts : List (List ℕ)) → 0 < line → HaveLines (numbered line texts)
+lines-numbered line [] some = tt
+lines-numbered line (text ∷ texts) some =
+    lines-and line (strip_carriage_return text) (numbered (line + 1) texts) some
+    (lines-numbered (line + 1) texts (omega (arith, some)))
 
--- no reading of a row by these rules, and no meaning of one, is that the file is too long
-pub record AreOther (rules : FileRules) : Type 0 where
-  pub reading : (version : ℕ) (row : Row) → IsOther (rules.reading version row)
-  pub meaning : (earlier : List Row) (row : Row) → IsOther (rules.meaning earlier row)
+lines-behind : (rows : List Row) → HaveLines rows → HaveLines (drop 1 rows)
+lines-behind [] lines = tt
+lines-behind (row ∷ rows) (some, lines) = lines
 
-other-behind : (rules : FileRules) (header : Header) (earlier : List Row) → AreOther rules
-    → (found : Option Row) → IsOther (option_and_then (fault_behind rules header earlier) found)
-other-behind rules header earlier others None = tt
-other-behind rules header earlier others (Some row) =
-    other-first (shape_fault rules.form header.fields (length earlier) row) _
-    (other-shape rules.form header.fields (length earlier) row)
-    (other-first (rules.reading header.version row) (rules.meaning earlier row)
-    (others.reading header.version row) (others.meaning earlier row))
+-- what is wrong with a row by these rules stands on the row's line
+pub record StandOnLines (rules : FileRules) : Type 0 where
+  pub reading : (version : ℕ) (row : Row) → 0 < row.0 → HasLine (rules.reading version row)
+  pub meaning : (version : ℕ) (earlier : List Row) (row : Row) → 0 < row.0
+      → HasLine (rules.meaning version earlier row)
 
-other-row : (rules : FileRules) (bytes : List ℕ) → AreOther rules
-    → (index : ℕ) → IsOther (row_fault rules bytes index)
-other-row rules bytes others index =
-    other-behind rules (header_in rules.form (rows bytes)) (take index (data_rows bytes)) others
-    (slice_get (data_rows bytes) index)
+line-shape : (form : Form) (fields index : ℕ) (row : Row) → 0 < row.0
+    → HasLine (shape_fault form fields index row)
+line-shape form fields index row some =
+    search (some, line-first, line-if)
 
--- so no fault of a file by such rules is that it is too long
-pub other-file : (rules : FileRules) (bytes : List ℕ) → AreOther rules
-    → IsOther (first_fault rules bytes)
-other-file rules bytes others =
-    other-first (first_row_fault rules.form (rows bytes)) _ (other-first_row rules.form (rows
-    bytes))
-    (other-least (row_fault rules bytes) (other-row rules bytes others) (length (data_rows bytes)))
+line-first_row : (form : Form) (lines : List Row) → HaveLines lines
+    → HasLine (first_row_fault form lines)
+line-first_row form [] lines = line-some (fault_at form.file 1 0 BadHeader) (omega arith)
+line-first_row form (row ∷ behind) (some, lines) = search (some, line-first, line-if)
+
+module _ (rules : FileRules) (header : Header) (stand : StandOnLines rules) where
+  line-row : (earlier lines : List Row) → HaveLines lines → (index : ℕ)
+      → HasLine (option_and_then (fault_behind rules header earlier) (slice_get lines index))
+  unfolding HasLine
+  line-row earlier [] lines index = tt
+  line-row earlier (row ∷ behind) (some, lines) zero =
+      line-first _ _ (line-shape rules.form header.fields (length earlier) row some)
+      (line-first _ _ (stand.reading header.version row some)
+      (stand.meaning header.version earlier row some))
+  line-row earlier (row ∷ behind) (some, lines) (suc index) = line-row earlier behind lines index
+
+-- so each fault of a file by such rules stands on a line
+pub line-file : (rules : FileRules) (bytes : List ℕ) → StandOnLines rules
+    → HasLine (first_fault rules bytes)
+line-file rules bytes stand =
+    let lines = lines-numbered 1 (split LF (without_mark bytes)) (omega arith) in
+    line-first _ _ (line-first_row rules.form (rows bytes) lines)
+    (line-least (row_fault rules bytes)
+    (λ index. line-row rules (header_in rules.form (rows bytes)) stand
+    (take index (data_rows bytes)) (data_rows bytes) (lines-behind (rows bytes) lines) index)
+    (length (data_rows bytes)))

@@ -4,11 +4,18 @@ use Rattle.place_base.specs.declared.fault.FileKind.{FileKind}
 use Rattle.place_edges.specs.Causes.{Rose}
 use Rattle.place_edges.specs.Shelf.{Files, GaveMore, HasBytes, HasMore, IsWithin, file_limit, byte_count, piece_size, tally_with}
 use Rattle.run_frame.specs.Meetings.{IsDecided, Meets}
-use Rattle.run_frame.specs.Stops.{is_free, is_free_stop, too_long}
+use Rattle.run_frame.specs.Stops.{is_free, too_long}
 use Rattle.run_frame.specs.declared.stop.FileStop.{FileStop}
 use Rattle.run_frame.specs.declared.stop.FileStop.TheVariants.{Fault, ReadFault, Memory}
-use Rattle.run_frame.specs.declared.stop.Stop.{Stop}
-use Rattle.run_frame.specs.declared.stop.Stop.TheVariants.{File}
+
+-- A moment of a shelf: how often a call has failed so far, and how many bytes were given.
+pub record Moment : Type 0 where
+  pub faults : ℕ
+  pub tally : ℕ
+
+-- that of a state
+abbrev pub moment : {S : Type 0} → (S → ℕ) → (S → ℕ) → S → Moment
+moment faults tally state = record { faults = faults state; tally = tally state }
 
 -- why a file could not be read whole: only too long a file is a fault
 abbrev pub IsUnread : Option Files → List ℕ → FileKind → FileStop → Type 0
@@ -16,15 +23,17 @@ IsUnread files name kind (Fault found) = (found ≡ too_long kind) × HasMore fi
 IsUnread files name kind ReadFault = ⊤
 IsUnread files name kind Memory = ⊤
 
--- No count of a shelf fell. A read fault comes only where the count of faults rose, and a file that
--- is too long only where the tally rose by more than 2^30.
+-- No count of a shelf fell. No failed call is passed over: where there is an answer the count of
+-- faults stands still. A read fault comes only where that count rose, and a file that is too long
+-- only where the tally rose by more than 2^30.
 pub record HasCauses {T S : Type 0} (stopped : FileStop → S) (result : Result T S)
-    (before now tally_before tally_now : ℕ) : Type 0 where
-  pub faults : before ≤ now
-  pub tally : tally_before ≤ tally_now
-  pub read : IsErrOf result (stopped ReadFault) → Rose before now
+    (before now : Moment) : Type 0 where
+  pub faults : before.faults ≤ now.faults
+  pub tally : before.tally ≤ now.tally
+  pub quiet : IfOk result (λ _. now.faults ≡ before.faults)
+  pub read : IsErrOf result (stopped ReadFault) → Rose before.faults now.faults
   pub long : (kind : FileKind) → IsErrOf result (stopped (Fault (too_long kind)))
-      → GaveMore tally_before tally_now file_limit
+      → GaveMore before.tally now.tally file_limit
 
 -- What reading one file whole came to. What is given is the file, and what was taken is as much;
 -- else it says why not. Whatever is answered, no more was taken than the file has, and each stop
@@ -33,17 +42,17 @@ pub record HasCauses {T S : Type 0} (stopped : FileStop → S) (result : Result 
 -- too long, or whose last piece cannot be read, is not begun again. Memory is refused only where
 -- bytes were taken.
 pub record IsReadWhole {Z : Type 0} (told : Option Files) (name : List ℕ) (kind : FileKind)
-    (result : Result (Vec ℕ Z) FileStop) (before now tally_before tally_now : ℕ) : Type 0 where
+    (result : Result (Vec ℕ Z) FileStop) (before now : Moment) : Type 0 where
   pub says : MatchResult result (λ bytes. HasBytes told name bytes.items)
       (λ stop. IsUnread told name kind stop)
   pub few : IfOk result (λ bytes. vec_len bytes ≤ file_limit)
-  pub given : IfOk result (λ bytes. tally_now ≡ tally_with tally_before (vec_len bytes))
-  pub within : IsWithin told name tally_before tally_now
-  pub causes : HasCauses (λ stop. stop) result before now tally_before tally_now
-  pub once : tally_now ≤ tally_before + file_limit + piece_size
-  pub failed : IsErrOf result ReadFault → tally_now ≤ tally_before + file_limit
-  pub refused : IsErrOf result Memory → tally_now ≤ tally_before + file_limit
-  pub begun : IsErrOf result Memory → tally_with tally_before 1 ≤ tally_now
+  pub given : IfOk result (λ bytes. now.tally ≡ tally_with before.tally (vec_len bytes))
+  pub within : IsWithin told name before.tally now.tally
+  pub causes : HasCauses (λ stop. stop) result before now
+  pub once : now.tally ≤ before.tally + file_limit + piece_size
+  pub failed : IsErrOf result ReadFault → now.tally ≤ before.tally + file_limit
+  pub refused : IsErrOf result Memory → now.tally ≤ before.tally + file_limit
+  pub begun : IsErrOf result Memory → tally_with before.tally 1 ≤ now.tally
 
 -- the bytes held under a name, none where there is no such file, if that is told
 abbrev pub IsHeld : Option Files → List ℕ → Option (List ℕ) → Type 0
@@ -88,16 +97,16 @@ HasBegun bytes before now = (bytes ≡ Some []) ⊎ (tally_with before 1 ≤ now
 -- stands in place of that, no more were taken than the file has, and at most 2^30.
 pub record IsJudged {T : Type 0} (told : Option Files) (name : List ℕ)
     (judge : List ℕ → Result T FileStop) (result : Result T FileStop)
-    (before now tally_before tally_now : ℕ) : Type 0 where
+    (before now : Moment) : Type 0 where
   pub bytes : Option (List ℕ)
   pub held : IsHeld told name bytes
   pub meets : Meets is_free (option_map judge bytes) result
   pub taken : (file : List ℕ) → bytes ≡ Some file → IsDecided is_free result
-      → IsTaken file tally_before tally_now
-  pub few : (IsDecided is_free result → ⊥) → tally_now ≤ tally_before + file_limit
-  pub within : tally_now ≤ tally_before + byte_count bytes
-  pub begun : (IsErrOf result ReadFault → ⊥) → HasBegun bytes tally_before tally_now
-  pub causes : HasCauses (λ stop. stop) result before now tally_before tally_now
+      → IsTaken file before.tally now.tally
+  pub few : (IsDecided is_free result → ⊥) → now.tally ≤ before.tally + file_limit
+  pub within : now.tally ≤ before.tally + byte_count bytes
+  pub begun : (IsErrOf result ReadFault → ⊥) → HasBegun bytes before.tally now.tally
+  pub causes : HasCauses (λ stop. stop) result before now
 
 -- the bytes of the files of each kind, none where there is no such file
 abbrev pub Reads : Type 0
@@ -119,21 +128,3 @@ pub record AreReadOnce (told : Option Files) (names : FileKind → List ℕ)
 abbrev pub FirstHasBegun : Option FileKind → Reads → ℕ → ℕ → Type 0
 FirstHasBegun None reads before now = ⊤
 FirstHasBegun (Some kind) reads before now = HasBegun (reads kind) before now
-
--- What reading files came to in a run: there are bytes for each kind of file, those held under the
--- files' names where that is told, such that the result meets what is said over them. Each file up
--- to the one that decides was read once; where a read fault or want of memory stands in place of
--- that, some in front were, and beside them no more bytes were taken than the next one has, and at
--- most 2^30. Memory is refused only once the reading of the first file has begun.
-pub record AreRead {T W : Type 0} (told : Option Files) (names : FileKind → List ℕ)
-    (first : Option FileKind) (said : Reads → Option (Result T (Stop W)))
-    (files : Reads → List (List ℕ)) (result : Result T (Stop W))
-    (before now tally_before tally_now : ℕ) : Type 0 where
-  pub reads : Reads
-  pub held : AreHeld told names reads
-  pub meets : Meets is_free_stop (said reads) result
-  pub taken : IsDecided is_free_stop result → AreTaken (files reads) tally_before tally_now
-  pub once : AreTakenUpTo (files reads) tally_before tally_now
-  pub begun : (IsErrOf result (File ReadFault) → ⊥)
-      → FirstHasBegun first reads tally_before tally_now
-  pub causes : HasCauses File result before now tally_before tally_now

@@ -5,8 +5,10 @@ pub mod Meetings
 pub mod Stops
 -- what reading files came to
 pub mod Files
--- what files say that are opened one after the other
+-- what a file says, and what is said behind it
 pub mod Says
+-- the plan of a run: its files and what it says in the end
+pub mod Plans
 -- what a run leaves of a sink
 pub mod Runs
 -- the lines of notes

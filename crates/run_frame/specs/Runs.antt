@@ -4,7 +4,8 @@ use Rattle.place_base.specs.declared.fault.FileKind.{FileKind}
 use Rattle.place_edges.specs.Causes.{Rose}
 use Rattle.place_edges.specs.Shelf.{Files, GaveMore, file_limit}
 use Rattle.place_edges.specs.Sink.{Appended, AppendedPrefix}
-use Rattle.run_frame.specs.Files.{AreHeld, AreTaken, Reads}
+use Rattle.run_frame.specs.Files.{AreHeld, AreTaken, Moment, Reads}
+use Rattle.run_frame.specs.Plans.{Plan, files_read, said}
 use Rattle.run_frame.specs.Stops.{too_long}
 use Rattle.run_frame.specs.declared.stop.FileStop.TheVariants.{Fault, ReadFault, Memory}
 use Rattle.run_frame.specs.declared.stop.Stop.{Stop}
@@ -18,12 +19,13 @@ pub record Endings (A W E : Type 0) : Type 0 where
   pub stopped : Stop W → E
   pub write_fault : E
 
--- An answer was written: whole, with its status, or a write failed, and a prefix of its text was.
--- Where there is a stop in its place, the sink is as it was.
+-- An answer was written: whole, with its status and no put that failed, or a write failed, and a
+-- prefix of its text was. Where there is a stop in its place, the sink is as it was.
 abbrev pub IsFinished : {A W E K : Type 0} → Endings A W E → (K → Option (List ℕ)) → (K → ℕ)
     → Result A (Stop W) → E → K → K → Type 0
 IsFinished ends written faults (Ok answer) status old new =
-    ((status ≡ ends.done answer) × Appended (written old) (written new) (ends.text answer))
+    ((status ≡ ends.done answer) × Appended (written old) (written new) (ends.text answer)
+    × (faults new ≡ faults old))
     ⊎ ((status ≡ ends.write_fault) × AppendedPrefix (written old) (written new) (ends.text answer)
     × Rose (faults old) (faults new))
 IsFinished ends written faults (Err stop) status old new =
@@ -39,13 +41,12 @@ IsDone ends (Err stop) status old new = (status ≡ ends.stopped stop) × Append
 -- All that is said over the bytes that were read is done, and the files that are read of them were
 -- read once each; or memory was refused.
 abbrev pub IsWhole : {A W E : Type 0} → Endings A W E → Option Files → (FileKind → List ℕ)
-    → (Reads → Option (Result A (Stop W))) → (Reads → List (List ℕ)) → E
-    → Option (List ℕ) → Option (List ℕ) → ℕ → ℕ → Type 0
-IsWhole {A} {W} ends told names says files status old new before now =
+    → Plan A W → E → Option (List ℕ) → Option (List ℕ) → Moment → Moment → Type 0
+IsWhole {A} {W} ends told names plan status old new before now =
     (reads : Reads) × AreHeld told names reads
     × ((status ≡ ends.stopped (File Memory))
-    ⊎ (AreTaken (files reads) before now
-    × (said : Result A (Stop W)) × (says reads ≡ Some said) × IsDone ends said status old new))
+    ⊎ (AreTaken (files_read plan reads) before.tally now.tally
+    × (all : Result A (Stop W)) × (said plan reads ≡ Some all) × IsDone ends all status old new))
 
 -- words are refused exactly where they give no command, and with that refusal
 pub record WordsCause {C W E : Type 0} (refusal : W → E) (command : Result C W) (status : E)
@@ -56,13 +57,19 @@ pub record WordsCause {C W E : Type 0} (refusal : W → E) (command : Result C W
 -- Each refusal has its cause: words by their rules, a read fault and a write fault by the counts, a
 -- file that is too long by the tally.
 pub record HasStatusCause {A C W E : Type 0} (ends : Endings A W E) (command : Result C W)
-    (status : E)
-    (before now tally_before tally_now out_before out_now : ℕ) : Type 0 where
+    (status : E) (before now : Moment) (out_before out_now : ℕ) : Type 0 where
   pub words : WordsCause (λ refused. ends.stopped (Words refused)) command status
-  pub read : status ≡ ends.stopped (File ReadFault) → Rose before now
+  pub read : status ≡ ends.stopped (File ReadFault) → Rose before.faults now.faults
   pub long : (kind : FileKind) → status ≡ ends.stopped (File (Fault (too_long kind)))
-      → GaveMore tally_before tally_now file_limit
+      → GaveMore before.tally now.tally file_limit
   pub write : status ≡ ends.write_fault → Rose out_before out_now
+
+-- Where a run ends with its text no failed read or write was passed over: the counts of faults of
+-- the shelf and of the sink stand still.
+abbrev pub IsQuiet : {A W E : Type 0} → Endings A W E → E → Moment → Moment → ℕ → ℕ → Type 0
+IsQuiet {A} ends status before now out_before out_now =
+    (answer : A) → status ≡ ends.done answer
+    → (now.faults ≡ before.faults) × (out_now ≡ out_before)
 
 -- what was written before stays in front
 abbrev pub StaysInFront : Option (List ℕ) → Option (List ℕ) → Type 0

@@ -1,4 +1,4 @@
--- What files say that are opened one after the other in a run.
+-- What a file says, and what is said behind it.
 use Rattle.std.specs.Prelude.{ℕ, List, [], ◌∷◌, nat_lt, length, if◌then◌else◌, Option, Some, None, Result, Ok, Err}
 use Rattle.place_base.specs.declared.fault.FileFault.{FileFault}
 use Rattle.place_base.specs.declared.fault.FileKind.{FileKind}
@@ -20,16 +20,16 @@ judged kind found table bytes =
     if nat_lt file_limit (length bytes) then Err (Fault (too_long kind)) else fault_or found table
 
 -- go on with what a file says
-abbrev pub and_then : {T U W : Type 0} → Result T FileStop → (T → Option (Result U (Stop W)))
+abbrev pub behind : {T U W : Type 0} → Result T FileStop → (T → Option (Result U (Stop W)))
     → Option (Result U (Stop W))
-and_then (Err stop) next = Some (Err (File stop))
-and_then (Ok said) next = next said
+behind (Err stop) next = Some (Err (File stop))
+behind (Ok said) next = next said
 
 -- open a file, judge it, and go on; nothing is said where it is not held
 abbrev pub opened : {T U W : Type 0} → Option (List ℕ) → (List ℕ → Result T FileStop)
     → (T → Option (Result U (Stop W))) → Option (Result U (Stop W))
 opened None judge next = None
-opened (Some bytes) judge next = and_then (judge bytes) next
+opened (Some bytes) judge next = behind (judge bytes) next
 
 -- no file is read behind one that has a fault
 abbrev pub read_behind : {T : Type 0} → Result T FileStop → (T → List (List ℕ)) → List (List ℕ)
@@ -41,9 +41,3 @@ abbrev pub read_from : {T : Type 0} → Option (List ℕ) → (List ℕ → Resu
     → (T → List (List ℕ)) → List (List ℕ)
 read_from None judge next = []
 read_from (Some bytes) judge next = bytes ∷ read_behind (judge bytes) next
-
--- an answer that is made of what is said
-abbrev pub answered : {T U S : Type 0} → (T → U) → Option (Result T S) → Option (Result U S)
-answered make None = None
-answered make (Some (Err stop)) = Some (Err stop)
-answered make (Some (Ok said)) = Some (Ok (make said))

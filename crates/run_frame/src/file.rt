@@ -1,6 +1,6 @@
 // A named file, read whole.
 ghost use Rattle.std.specs.Prelude.{◌≡◌, IsTrue};
-ghost use Rattle.run_frame.specs.Files.{IsReadWhole};
+ghost use Rattle.run_frame.specs.Files.{IsReadWhole, moment};
 ghost use Rattle.run_frame.specs.Stops.{too_long as too_long_in};
 
 use crate::FileStop;
@@ -19,7 +19,7 @@ pub fn read_file<H: Shelf>(
     requires { IsTrue (H.grants shelf.old name.now) }
 
     ensures reading { IsReadWhole (H.files shelf.old) name.now kind result
-        (H.faults shelf.old) (H.faults shelf.new) (H.tally shelf.old) (H.tally shelf.new) }
+        (moment H.faults H.tally shelf.old) (moment H.faults H.tally shelf.new) }
 
     // What is held and granted stays.
     ensures files { H.files shelf.new ≡ H.files shelf.old }

@@ -8,7 +8,7 @@ use Rattle.std.proofs.lemmas.Option.{none-some}
 use Rattle.market.specs.BaseRanks.{base_rank}
 use Rattle.market.specs.Counting.{count_of}
 use Rattle.market.specs.Problems.{IsAcceptable, Problem, kind_of, list_of, place_of, quota_of, rank_of}
-use Rattle.market.specs.Stability.{HasWorseHolder, IsBetter, IsBlocking, Prefers, held_by}
+use Rattle.market.specs.Stability.{HasWorseHolder, IsBlocking, Prefers, held_by}
 use Rattle.market.proofs.Firsts.{place-cons-le, place-here, place-next}
 use Rattle.market.proofs.Tallies.{count_none}
 use Rattle.market.proofs.Valid.{candidate_lt}
@@ -17,7 +17,7 @@ use Rattle.stability_audit.specs.FirstVerdicts.{all_said, blocks, first_said, ha
 use Rattle.stability_audit.specs.Verdicts.{HeldIsAcceptable, IsOverQuota, IsVerdict}
 use Rattle.stability_audit.specs.declared.verdict.Verdict.{Verdict}
 use Rattle.stability_audit.specs.declared.verdict.Verdict.TheVariants.{Stable, OverQuota, NotAcceptable, Blocking}
-use Rattle.stability_audit.proofs.Rooms.{worse-holder, worst-is}
+use Rattle.stability_audit.proofs.Rooms.{worse-true, worse-from}
 
 -- ---- the first of what is said of numbers in a row
 
@@ -96,12 +96,6 @@ kept-from : (m : Problem) (held : List (Option ℕ)) (i : ℕ) → is_kept m i (
     → HeldIsAcceptable m held i
 kept-from m held i e = λ p holds. acceptable-from m i p (sym (ap (is_kept m i) holds) ∙ e)
 
-better-parts : (a b : Option ℕ) → is_better a b ≡ true
-    → (x : ℕ) × (y : ℕ) × (a ≡ Some x) × (b ≡ Some y) × (x < y)
-better-parts (Some x) (Some y) e = (x, y, refl, refl, ltb-true x y e)
-better-parts (Some x) None e = absurd (false≢true e)
-better-parts None b e = absurd (false≢true e)
-
 preferred-true : (list : List ℕ) (p : ℕ) (o : Option ℕ) → Prefers list p o
     → is_preferred list p o ≡ true
 preferred-true list p None l = lt-ltb _ _ l
@@ -114,19 +108,6 @@ preferred-from list p None e = ltb-true _ _ e
 preferred-from list p (Some q) e =
     let both = and_parts _ _ e in (ltb-true _ _ both.0, ltb-true _ _ both.1)
 
--- who has a holder of worse rank has a rank, and the base rank is worse
-worse-true : (m : Problem) (held : List (Option ℕ)) (i p : ℕ) → HasWorseHolder m held i p
-    → is_better (rank_of m (kind_of m p) i) (base_rank m held p) ≡ true
-worse-true m held i p w = by_rank (rank_of m (kind_of m p) i) refl
-  where
-    by_rank : (o : Option ℕ) → rank_of m (kind_of m p) i ≡ o
-        → is_better o (base_rank m held p) ≡ true
-    by_rank None e =
-        absurd (subst (λ (o : Option ℕ). IsBetter o (rank_of m (kind_of m p) w.holder)) e w.worse)
-    by_rank (Some rank) e =
-        let worst = worst-is m held i p rank e w in
-        ap (is_better (Some rank)) worst.is ∙ lt-ltb _ _ worst.more
-
 room-true : (m : Problem) (held : List (Option ℕ)) (i p : ℕ)
     → (count_of p held < quota_of m p) ⊎ HasWorseHolder m held i p → has_room m held i p ≡ true
 room-true m held i p (inl free) = or_left _ _ (lt-ltb _ _ free)
@@ -137,11 +118,9 @@ room-from : (m : Problem) (held : List (Option ℕ)) (i p : ℕ) → has_room m 
 room-from m held i p e =
     ⊎_elim
     (λ free. inl free)
-    (λ full.
-    let worse = better-parts (rank_of m (kind_of m p) i) (base_rank m held p)
+    (λ full. inr (worse-from m held i p
     (sym (ap (λ b. b || is_better (rank_of m (kind_of m p) i) (base_rank m held p))
-    (le-ltb _ _ full)) ∙ e) in
-    inr (worse-holder m held i p worse.0 worse.1 worse.2 worse.3 worse.4))
+    (le-ltb _ _ full)) ∙ e)))
     (cases_lt (count_of p held) (quota_of m p))
 
 blocks-true : (m : Problem) (held : List (Option ℕ)) (i p : ℕ) → IsBlocking m held i p

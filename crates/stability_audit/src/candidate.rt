@@ -4,6 +4,7 @@ ghost use Rattle.std.specs.Prelude.{◌≡◌, ◌↔◌, ◌<◌, length, IsTru
 ghost use Rattle.market.specs.Counting.{is_programme};
 ghost use Rattle.reports.specs.BaseTables.{HoldsProgrammes, IsBaseTable};
 ghost use Rattle.stability_audit.specs.Entries.{IsLookedThrough, WouldTake};
+ghost use Rattle.stability_audit.specs.FirstVerdicts.{is_better};
 ghost use Rattle.stability_audit.specs.Verdicts.{HeldIsAcceptable};
 
 use market::{Market, Placement, Prog};
@@ -16,16 +17,13 @@ pub(crate) fn holds_acceptable(market: &Market, placement: &Placement, candidate
     requires candidate { candidate < length market.now.lists }
     ensures { IsTrue result ↔ HeldIsAcceptable market.now placement.now candidate }
 {
-    // Its clause says that the market is valid.
-    let _ = market.candidate_count();
     let Some(programme) = placement.holds(candidate) else {
         return true;
     };
     if !market.list(candidate).contains(&programme) {
         return false;
     }
-    let kind = market.programme(programme).kind;
-    market.rank(kind, candidate).is_some()
+    market.admits(programme, candidate)
 }
 
 // The first entry of a candidate's list with which the candidate blocks the placement.
@@ -80,15 +78,22 @@ fn would_take(
 {
     // Its clause says that the market is valid.
     let _ = market.candidate_count();
-    let Prog { kind, quota } = market.programme(programme);
-    let Some(rank) = market.rank(kind, candidate) else {
+    let Prog { kind, quota, .. } = market.programme(programme);
+    if !market.admits(programme, candidate) {
         return false;
-    };
+    }
     if bases.held(programme) < quota {
         return true;
     }
-    match bases.base(programme) {
-        Some(base) => rank < base,
-        None => false,
+    is_better(market.rank(kind, candidate), bases.base(programme))
+}
+
+// Whether one rank is better than another; no rank is neither better nor worse.
+fn is_better(rank: Option<u32>, other: Option<u32>) -> bool
+    ensures { result ≡ is_better rank other }
+{
+    match (rank, other) {
+        (Some(rank), Some(other)) => rank < other,
+        _ => false,
     }
 }

@@ -17,9 +17,9 @@ use Rattle.market.specs.Dictatorships.{pick, seats_taken}
 use Rattle.market.specs.Mechanism.{type_dictatorship, tentative, is_settled, best_programme, best_programmes}
 use Rattle.market.proofs.Turns.{seats_taken-le-quota}
 use Rattle.market.proofs.Tallies.{seats_taken-tally, tally-le, at_turn, tally-le-count, HasTurn, count-le-tally}
-use Rattle.market.proofs.Tentatives.{turn_at, candidate_at, tentative-pick, type-quota, type-fill, tentative-takes}
+use Rattle.market.proofs.Tentatives.{turn_at, candidate_at, tentative-pick, type-quota, type-fill, tentative-takes, offered-admits}
 use Rattle.market.proofs.Rounds.{one_kind, best_programme-takes, best_by, settled-none}
-use Rattle.market.proofs.Valid.{kind_lt, turn-admitted}
+use Rattle.market.proofs.Valid.{kind_lt}
 
 -- what a candidate holds is the best tentative programme
 pub best_programme-within : (m : Problem) (cuts : List ℕ) (i : ℕ) → i < length m.lists
@@ -122,7 +122,7 @@ module _ (m : Problem) (v : IsValid m) (cuts : List ℕ) where
         candidates = length-placed m cuts;
         acceptable = λ i p e.
             let x = tentative-takes m cuts (kind_of m p) i p (holder-takes m cuts i p e) in
-            record { listed = x.listed; admitted = turn-admitted m v i p x.turn };
+            record { listed = x.listed; admitted = offered-admits m (kind_of m p) i p x.offered };
         quotas = quota_kept;
       }
 

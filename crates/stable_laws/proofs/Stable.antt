@@ -71,7 +71,7 @@ module _ (m : Problem) (v : IsValid m) (cuts : List ℕ) (cut : CutTakes m cuts)
       takes_by m cuts t i p
       (record {
         turn = admitted-turn m v i p (listed_kind m v i p listed) acceptable.admitted;
-        offered = offered-from m t i p refl;
+        offered = offered-from m t i p refl acceptable.admitted;
         kind = refl;
         listed = listed;
         within = preferred-within m cuts cut i p listed pref;

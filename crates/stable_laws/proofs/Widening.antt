@@ -1,11 +1,11 @@
--- What two markets share that differ in quotas alone: lists, turns, who is acceptable, and who has
--- the better rank.
-use Rattle.std.proofs.Common.{◌≡◌, ℕ, ◌<◌, List, [], length, sym, ap, ◌∙◌, subst, arith}
-use Rattle.std.specs.Prelude.{slice_index_or}
-use Rattle.market.specs.Problems.{Problem, IsValid, IsAcceptable, place_of, kind_of, list_of, order_of, turn_of, rank_of}
+-- What two markets share that differ in quotas alone: lists, turns, ranks, who is acceptable, and who
+-- has the better rank.
+use Rattle.std.proofs.Common.{◌≡◌, ℕ, ◌<◌, List, [], length, Option, sym, ap, ◌∙◌, subst, arith}
+use Rattle.std.specs.Prelude.{slice_get, slice_index_or}
+use Rattle.market.specs.Problems.{Problem, IsValid, IsAcceptable, place_of, kind_of, bar_of, list_of, order_of, ranks_of, turn_of, rank_of, admits, admits_rank}
 use Rattle.market.specs.Stability.{IsBetter}
 use Rattle.market.specs.Comparisons.{Widens}
-use Rattle.market.proofs.Valid.{kind_lt, listed_kind, admitted-turn, turn-admitted, turn-better}
+use Rattle.market.proofs.Valid.{kind_lt, turn-better}
 
 module _ (m w : Problem) (wide : Widens m w) where
   -- the same lists, turn orders and turns
@@ -21,35 +21,35 @@ module _ (m w : Problem) (wide : Widens m w) where
   unfolding turn_of
   turn-same t i = ap (place_of i) (order-same t)
 
-  -- what is listed in the other is listed in the one
-  pub listed-same : (i p : ℕ) → place_of p (list_of w i) < length (list_of w i)
-      → place_of p (list_of m i) < length (list_of m i)
-  listed-same i p l = subst (λ (xs : List ℕ). place_of p xs < length xs) (list-same i) l
+  -- the same ranks
+  rank-same : (t i : ℕ) → rank_of w t i ≡ rank_of m t i
+  unfolding rank_of ranks_of
+  rank-same t i =
+      ap (λ (xs : List (List ℕ)). slice_get (slice_index_or xs t []) (turn_of w t i)) wide.ranks
+      ∙ ap (slice_get (ranks_of m t)) (turn-same t i)
 
-  -- who is listed and has a turn in the one is acceptable in the other
-  pub acceptable-wide : IsValid m → IsValid w → (i p : ℕ)
-      → place_of p (list_of m i) < length (list_of m i)
-      → turn_of m (kind_of m p) i < length (order_of m (kind_of m p)) → IsAcceptable w i p
-  acceptable-wide v vw i p l t =
-      let k = wide.kinds p in
-      let e = ap (λ (u : ℕ). turn_of w u i) k ∙ turn-same (kind_of m p) i in
-      let f = ap (λ (u : ℕ). length (order_of w u)) k
-      ∙ ap (λ (xs : List ℕ). length xs) (order-same (kind_of m p)) in
+  -- each programme admits the same candidates
+  admits-same : (i p : ℕ) → admits w p i ≡ admits m p i
+  unfolding admits
+  admits-same i p =
+      ap (λ (bar : Option ℕ). admits_rank bar (rank_of w (kind_of w p) i)) (wide.bars p)
+      ∙ ap (admits_rank (bar_of m p))
+      (ap (λ (t : ℕ). rank_of w t i) (wide.kinds p) ∙ rank-same (kind_of m p) i)
+
+  -- so the same programmes are acceptable to a candidate
+  pub acceptable-wide : (i p : ℕ) → IsAcceptable m i p → IsAcceptable w i p
+  acceptable-wide i p a =
       record {
-        listed = subst (λ (xs : List ℕ). place_of p xs < length xs) (sym (list-same i)) l;
-        admitted = turn-admitted w vw i p (omega arith);
+        listed = subst (λ (xs : List ℕ). place_of p xs < length xs) (sym (list-same i)) a.listed;
+        admitted = admits-same i p ∙ a.admitted;
       }
 
-  -- and who is acceptable in the other has a turn in the one
-  pub wide-turn : IsValid w → (i p : ℕ) → IsAcceptable w i p
-      → turn_of m (kind_of m p) i < length (order_of m (kind_of m p))
-  wide-turn vw i p a =
-      let k = wide.kinds p in
-      let e = ap (λ (u : ℕ). turn_of w u i) k ∙ turn-same (kind_of m p) i in
-      let f = ap (λ (u : ℕ). length (order_of w u)) k
-      ∙ ap (λ (xs : List ℕ). length xs) (order-same (kind_of m p)) in
-      let t = admitted-turn w vw i p (listed_kind w vw i p a.listed) a.admitted in
-      omega arith
+  pub acceptable-narrow : (i p : ℕ) → IsAcceptable w i p → IsAcceptable m i p
+  acceptable-narrow i p a =
+      record {
+        listed = subst (λ (xs : List ℕ). place_of p xs < length xs) (list-same i) a.listed;
+        admitted = sym (admits-same i p) ∙ a.admitted;
+      }
 
   -- a later turn in the one is a worse rank in the other
   pub worse-wide : IsValid m → IsValid w → (p i j : ℕ)

@@ -12,7 +12,7 @@ use Rattle.std.proofs.Common.{◌≡◌, ℕ, zero, suc, ◌<◌, ◌≤◌, Boo
 use Rattle.std.specs.Prelude.{slice_index, ◌⊎◌}
 use Rattle.std.proofs.lemmas.Bool.{cases_lt, cases_eq, cases_Bool, false≢true}
 use Rattle.market.specs.Counting.{is_programme, count_of}
-use Rattle.market.specs.Problems.{Problem, IsValid, place_of, kind_of, quota_of, list_of, order_of, turn_of}
+use Rattle.market.specs.Problems.{Problem, IsValid, IsAcceptable, place_of, kind_of, quota_of, list_of, order_of, turn_of}
 use Rattle.market.specs.Stability.{held_by, Prefers, HasWorseHolder, IsStable}
 use Rattle.market.specs.Comparisons.{HoldsAtLeast, Widens, GivesAtLeast, IsWorstStable}
 use Rattle.market.specs.Dictatorships.{pick}
@@ -20,12 +20,12 @@ use Rattle.market.specs.Mechanism.{type_dictatorship, tentative, has_several, cu
 use Rattle.market.proofs.Firsts.{place_same}
 use Rattle.market.proofs.Turns.{is_programme-true, is_programme-from}
 use Rattle.market.proofs.Tallies.{tally, seats_taken-tally, tally-mono, tally_gap, at_turn, count-le-tally}
-use Rattle.market.proofs.Tentatives.{turn_at, candidate_at, tentative-pick, tentative-takes, takes_by, seats_before, offered-from}
+use Rattle.market.proofs.Tentatives.{turn_at, candidate_at, tentative-pick, tentative-takes, takes_by, seats_before, offered-from, offered-admits}
 use Rattle.market.proofs.Rounds.{several-takes, best_by, next_cut-same, next_cut-several, next_cuts-at, cuts_after-suc, cuts_after-zero}
-use Rattle.market.proofs.Valid.{candidate_lt, kind_lt}
+use Rattle.market.proofs.Valid.{candidate_lt, kind_lt, listed_kind, admitted-turn}
 use Rattle.stable_laws.proofs.Holders.{holder-takes}
 use Rattle.stable_laws.proofs.Stable.{stable}
-use Rattle.stable_laws.proofs.Widening.{list-same, listed-same, acceptable-wide, wide-turn, worse-wide}
+use Rattle.stable_laws.proofs.Widening.{list-same, acceptable-wide, acceptable-narrow, worse-wide}
 
 -- ---- turns
 
@@ -78,17 +78,22 @@ module _ (m w : Problem) (v : IsValid m) (vw : IsValid w) (wide : Widens m w)
   TakesLeast cuts t i = (p : ℕ) → tentative m cuts t i ≡ Some p
       → HoldsAtLeast (list_of m i) (Some p) (held_by other i)
 
+  other-acceptable : (i q : ℕ) → held_by other i ≡ Some q → IsAcceptable m i q
+  other-acceptable i q e = acceptable-narrow m w wide i q (st.placement.acceptable i q e)
+
   other-listed : (i q : ℕ) → held_by other i ≡ Some q
       → place_of q (list_of m i) < length (list_of m i)
-  other-listed i q e = listed-same m w wide i q (st.placement.acceptable i q e).listed
+  other-listed i q e = (other-acceptable i q e).listed
 
   other-turn : (i q : ℕ) → held_by other i ≡ Some q
       → turn_of m (kind_of m q) i < length (order_of m (kind_of m q))
-  other-turn i q e = wide-turn m w wide vw i q (st.placement.acceptable i q e)
+  other-turn i q e =
+      admitted-turn m v i q (listed_kind m v i q (other-listed i q e))
+      (other-acceptable i q e).admitted
 
   -- ---- a programme p that candidate i would rather have
 
-  module _ (i p : ℕ) (listed : place_of p (list_of m i) < length (list_of m i))
+  module _ (i p : ℕ) (acceptable : IsAcceptable m i p)
       (turn : turn_of m (kind_of m p) i < length (order_of m (kind_of m p)))
       (preferred : Prefers (list_of m i) p (held_by other i)) where
     -- the two do not block the other placement
@@ -96,7 +101,7 @@ module _ (m w : Problem) (v : IsValid m) (vw : IsValid w) (wide : Widens m w)
     no_room room =
         st.unblocked i p
         (record {
-          acceptable = acceptable-wide m w wide v vw i p listed turn;
+          acceptable = acceptable-wide m w wide i p acceptable;
           preferred =
               subst (λ (xs : List ℕ). Prefers xs p (held_by other i)) (sym (list-same m w wide i))
               preferred;
@@ -161,7 +166,7 @@ module _ (m w : Problem) (v : IsValid m) (vw : IsValid w) (wide : Widens m w)
       takes_by m cuts t c p
       (record {
         turn = other-turn c p holds;
-        offered = offered-from m t c p refl;
+        offered = offered-from m t c p refl (other-acceptable c p holds).admitted;
         kind = refl;
         listed = own;
         within = keeps c p holds;
@@ -189,8 +194,12 @@ module _ (m w : Problem) (v : IsValid m) (vw : IsValid w) (wide : Widens m w)
           let x = tentative-takes m cuts (kind_of m p) i p takes in
           let seats = seats_taken-tally d k p in
           let wider = wide.quotas p in
-          let full = all_held i p x.listed x.turn preferred in
-          let holders = holders_before i p x.listed x.turn preferred in
+          let acceptable : IsAcceptable m i p = record {
+            listed = x.listed;
+            admitted = offered-admits m (kind_of m p) i p x.offered;
+          } in
+          let full = all_held i p acceptable x.turn preferred in
+          let holders = holders_before i p acceptable x.turn preferred in
           let gap = tally_gap (pick d) (at_turn other o) k p (omega (arith, x.room)) in
           let j = gap.turn in
           let has_turn : j < length (order_of m (kind_of m p)) = omega (arith, gap.before, x.turn)
@@ -294,6 +303,7 @@ same_width m =
       orders = refl;
       ranks = refl;
       kinds = λ p. refl;
+      bars = λ p. refl;
       quotas = λ p. omega arith;
     }
 

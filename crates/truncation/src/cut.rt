@@ -11,7 +11,7 @@ use crate::Touched;
 use market::{Cuts, Market, Tentative};
 
 /// Cuts the list of each candidate with choices in several types just after the best of them. It
-/// takes no memory.
+/// takes no memory. A type that the market does not have is not touched.
 pub fn cut_lists(market: &Market, tentative: &Tentative, cuts: &mut Cuts) -> Touched
     requires table { IsChoiceTable market.now tentative.now }
     requires cuts { IsCuts market.now cuts.old }
@@ -21,7 +21,7 @@ pub fn cut_lists(market: &Market, tentative: &Tentative, cuts: &mut Cuts) -> Tou
 
     ensures cuts { cuts.new ≡ cuts_in market.now (held_in_table tentative.now) cuts.old }
     ensures several { result.several ≡ several_in market.now (held_in_table tentative.now) }
-    ensures first { (t : ℕ) → t < market.now.types → slice_index_or result.first t Option.None
+    ensures first { (t : ℕ) → t < MAX_TYPES → slice_index_or result.first t Option.None
         ≡ changed_turn market.now (held_in_table tentative.now) cuts.old t }
 {
     let mut touched = Touched::none();
@@ -49,7 +49,7 @@ fn note_types(
     requires types { length touched.old.first ≡ MAX_TYPES }
     ensures several { touched.new.several ≡ touched.old.several }
     ensures types { length touched.new.first ≡ MAX_TYPES }
-    ensures first { (t : ℕ) → t < market.now.types → slice_index_or touched.new.first t Option.None
+    ensures first { (t : ℕ) → t < MAX_TYPES → slice_index_or touched.new.first t Option.None
         ≡ noted
         (is_beyond (list_of market.now candidate) cut (held_in_table tentative.now t candidate))
         (slice_index_or touched.old.first t Option.None) (turn_of market.now t candidate) }

@@ -90,6 +90,11 @@ flags_released : (x : SeatKnows) (o : Option Claiming) (found : ℕ)
 flags_released x None found = refl
 flags_released x (Some c) found = refl
 
+flags_sealed : (x : SeatKnows) (o : Option Claiming) (found : ℕ)
+    → (flags_by x o found).sealed ≡ x.sealed
+flags_sealed x None found = refl
+flags_sealed x (Some c) found = refl
+
 -- one word of flags more, whose raised flags are those of full programmes
 read_one_more : (d : Dictatorship) (seats : List ℕ) (x : SeatKnows) (flags : List (ℕ × ℕ))
     (word : ℕ × ℕ)
@@ -116,7 +121,7 @@ module _ (key : RoundKey) where
   -- a seat's claim of a turn of the round, by the round's own dictatorship
   pub claim_allowed : (slots id : ℕ) (me : SeatMe) → me.0.share ≡ 1
       → IsAllowed me.0.dict me.0.core Claims
-      → Allows (IsSoundTable key) slots id me 0 (λ n. (n + 1) % 2 ^ 64) (TellsClaim me)
+      → Allows (IsSoundTable key) slots id me 0 (λ n. (n + 1) % 2 ^ 64) (TellsClaim 0 me)
   claim_allowed slots id me one may s h homes at fits =
       let x = me.0 in
       let live = live_there s.views id x at (omega arith) in
@@ -142,8 +147,8 @@ module _ (key : RoundKey) where
         views = set (core_views s.views) at_place (after_claim (b.dict k) x.core n);
       }) in
       let fit = seat_fits key s h id x live in
-      let step = write_step key s h id me y.core 0 next Claims (λ e. omega arith) live same may is
-      in (
+      let step = write_step key s h id me y 0 next Claims (λ e. omega arith) live same may refl is
+      (omega arith) refl refl in (
         y,
         keeps,
         tt,
@@ -159,7 +164,7 @@ module _ (key : RoundKey) where
   -- a reading of the next entry's seat word
   pub read_allowed : (slots id : ℕ) (me : SeatMe) (i k j : ℕ) → 0 < me.0.share
       → (1 < me.0.share → me.0.core.done ≡ true) → me.0.dict ≡ d → IsAllowed d me.0.core (Reads k j)
-      → i ≡ 2 + entry d k j → Allows (IsSoundTable key) slots id me i (λ n. n) (TellsRead me)
+      → i ≡ 2 + entry d k j → Allows (IsSoundTable key) slots id me i (λ n. n) (TellsRead i me)
   read_allowed slots id me i k j some alone round may is s h homes at fits =
       let x = me.0 in
       let live = live_there s.views id x at some in
@@ -178,7 +183,7 @@ module _ (key : RoundKey) where
       h.valid.list_entries k j (omega arith) may.1 in
       let seen = sym (reads_seats d s.words (core_views s.views) i p is inside) in
       let step = load_step key s h id i me y (Reads k j) live same may (by ∙ ap seen_view seen) refl
-      refl (λ f. f) in
+      is (omega arith) refl (λ f. f) in
       (y, keeps, tt, step.kept, record { before = step.before; seat = refl; range = step.range })
 
   -- a look at the word that has the flag of the next entry
@@ -186,7 +191,7 @@ module _ (key : RoundKey) where
       → (1 < me.0.share → me.0.core.done ≡ true) → me.0.dict ≡ d
       → IsAllowed d me.0.core (ReadsFlags k j)
       → i ≡ 2 + programme_count d + turn_count d + flag_group (entry d k j)
-      → Allows (IsSoundTable key) slots id me i (λ n. n) (TellsFlags me)
+      → Allows (IsSoundTable key) slots id me i (λ n. n) (TellsFlags i me)
   flags_allowed slots id me i k j some alone round may is s h homes at fits =
       let x = me.0 in
       let live = live_there s.views id x at some in
@@ -210,8 +215,9 @@ module _ (key : RoundKey) where
       let inside = raised_inside d (table_core key s) h.sound p up in
       (inside, raised_full d (table_core key s) h.sound p inside up))
       old flags in
+      let sealed = flags_sealed x x.core.claim found in
       let step = load_step key s h id i me y (ReadsFlags k j) live same may
-      (by ∙ ap seen_view seen) refl (flags_released x x.core.claim found) reads in
+      (by ∙ ap seen_view seen) refl is (omega arith) (flags_released x x.core.claim found) reads in
       (y, keeps, tt, step.kept, record { before = step.before; seat = refl; range = step.range })
 
   -- a post of the place found to the turn's cell
@@ -219,7 +225,7 @@ module _ (key : RoundKey) where
       → 0 < me.0.share
       → (1 < me.0.share → me.0.core.done ≡ true) → IsAllowed d me.0.core (Posts k j looked met)
       → i ≡ 2 + programme_count d + k → word ≡ 2 * j + 1
-      → Allows (IsSoundTable key) slots id me i (λ _. word) (λ _. TellsPost me word)
+      → Allows (IsSoundTable key) slots id me i (λ _. word) (λ _. TellsPost i me word)
   post_allowed slots id me i k j word looked met some alone may is shows s h homes at fits =
       let x = me.0 in
       let live = live_there s.views id x at some in
@@ -237,6 +243,6 @@ module _ (key : RoundKey) where
         cells = set (table_core key s).cells k (Posted j);
         views = set (core_views s.views) at_place (after_post x.core z);
       }) half in
-      let step = write_step key s h id me y.core i word (Posts k j looked met) (λ e. omega arith)
-      live same may leads in
+      let step = write_step key s h id me y i word (Posts k j looked met) (λ e. omega arith) live
+      same may is leads (omega arith) refl refl in
       (y, keeps, tt, step.kept, record { before = step.before; seat = refl; range = step.range })

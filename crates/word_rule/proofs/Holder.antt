@@ -11,7 +11,7 @@ use Rattle.market.specs.Dictatorships.{Dictatorship}
 use Rattle.interleaving_core.specs.declared.parts.Cell.{Cell}
 use Rattle.interleaving_core.specs.declared.parts.Cell.TheVariants.{Empty, Posted, Committed}
 use Rattle.interleaving_core.specs.declared.parts.Phase.{Phase}
-use Rattle.interleaving_core.specs.declared.parts.Phase.TheVariants.{Idle, Seated, Raised}
+use Rattle.interleaving_core.specs.declared.parts.Phase.TheVariants.{Seated, Raised}
 use Rattle.interleaving_core.specs.Flags.{flag_group, flag_bit, with_flag}
 use Rattle.interleaving_core.specs.Core.{View, turn_count, entry, quota_of, seats_of, cell_at, is_committed, hold_at}
 use Rattle.interleaving_core.specs.Events.{Takes, Looks, Weighs, Seats, Raises, Seals, Releases, IsAllowed, with_hold, after_take, phase_after_look, phase_after_weigh, after}
@@ -22,7 +22,7 @@ use Rattle.interleaving_core.proofs.Holder.{seats_now}
 use Rattle.word_rule.specs.Layout.{is_held, cell_of, core_of, programme_count}
 use Rattle.word_rule.specs.Views.{SeatKnows, SeatMe, with_core, other_view, core_views}
 use Rattle.word_rule.specs.Rule.{IsLive, IsSoundTable, HasReadFull, share_of, table_core}
-use Rattle.word_rule.specs.Holder.{posted_place, tried, TellsTake, look_by, TellsLook, weigh_by, TellsWeigh, seat_by, TellsSeat, raise_by, TellsRaise, seal_by, TellsSeal, released_with, TellsRelease}
+use Rattle.word_rule.specs.Holder.{posted_place, tried, TellsTake, look_by, TellsLook, weigh_by, TellsWeigh, seat_by, TellsSeat, raise_by, TellsRaise, having_sealed, seal_by, TellsSeal, released_with, TellsRelease}
 use Rattle.word_rule.specs.declared.rule.RoundKey.{RoundKey}
 use Rattle.word_rule.proofs.CoreViews.{live_there, place, at_place, whose}
 use Rattle.word_rule.proofs.Layouts.{shows_committed, or_one, reads_seats, reads_cell, writes_mark, writes_seats, writes_cell, reads_flags, writes_flags}
@@ -35,6 +35,10 @@ tried_core x false n = refl
 tried_released : (x : SeatKnows) (b : Bool) (n : ℕ) → (tried x b n).released ≡ x.released
 tried_released x true n = refl
 tried_released x false n = refl
+
+tried_sealed : (x : SeatKnows) (b : Bool) (n : ℕ) → (tried x b n).sealed ≡ x.sealed
+tried_sealed x true n = refl
+tried_sealed x false n = refl
 
 -- a try reads no flags
 tried_reads : (d : Dictatorship) (seats : List ℕ) (x : SeatKnows) (b : Bool) (n : ℕ)
@@ -57,6 +61,11 @@ tried_same x false n a =
 released_same : (x : SeatKnows) (n : ℕ) → (1 < x.share → x.core.done ≡ true)
     → IsSameSeat x (released_with x n)
 released_same x n a =
+    record { number = refl; share = refl; dict = refl; workers = refl; alone = done_too x a }
+
+sealed_same : (x : SeatKnows) (k n : ℕ) → (1 < x.share → x.core.done ≡ true)
+    → IsSameSeat x (having_sealed x k n)
+sealed_same x k n a =
     record { number = refl; share = refl; dict = refl; workers = refl; alone = done_too x a }
 
 bit_zero : (b : Bool) → bit b ≡ 0 → b ≡ false
@@ -139,7 +148,7 @@ module _ (key : RoundKey) where
   -- a try on the mark
   pub take_allowed : (slots id : ℕ) (me : SeatMe) → 0 < me.0.share
       → (1 < me.0.share → me.0.core.done ≡ true) → IsAllowed d me.0.core Takes
-      → Allows (IsSoundTable key) slots id me 1 (λ n. bit_or n 1) (TellsTake me)
+      → Allows (IsSoundTable key) slots id me 1 (λ n. bit_or n 1) (TellsTake 1 me)
   take_allowed slots id me some alone may s h homes at fits =
       let x = me.0 in
       let live = live_there s.views id x at some in
@@ -164,8 +173,9 @@ module _ (key : RoundKey) where
       let mine = h.each id x live in
       let told = mine.behind in
       let released = tried_released x b (found / 2) in
-      let step = event_step key s h id me y (set s.words 1 word) Takes live same may
-      (length-set s.words 1 word) leads (omega arith) (omega arith)
+      let sealed = tried_sealed x b (found / 2) in
+      let step = event_step key s h id me y 1 (set s.words 1 word) Takes live same may refl
+      (length-set s.words 1 word) leads (omega arith) (omega arith) (omega arith)
       (tried_reads d (seats_in key (set s.words 1 word)) x b (found / 2)) in
       let dict = ap (λ (z : Dictatorship). turn_count z) mine.dict in
       let behind = h.sound.mark.behind in
@@ -187,7 +197,7 @@ module _ (key : RoundKey) where
   pub look_allowed : (slots id : ℕ) (me : SeatMe) (i k : ℕ) → 0 < me.0.share
       → (1 < me.0.share → me.0.core.done ≡ true) → IsAllowed d me.0.core (Looks k)
       → i ≡ 2 + programme_count d + k → Allows (IsSoundTable key) slots id me i (λ n. n)
-      (TellsLook me)
+      (TellsLook i me)
   look_allowed slots id me i k some alone may is s h homes at fits =
       let x = me.0 in
       let live = live_there s.views id x at some in
@@ -199,7 +209,7 @@ module _ (key : RoundKey) where
       let same = same_with x v (ap (λ (u : View). u.done) by) alone in
       let seen = reads_cell d s.words (core_views s.views) i k is may.1 in
       let step = load_step key s h id i me y (Looks k) live same may (by ∙ ap seen_view (sym seen))
-      refl refl (λ f. f) in
+      refl is (omega arith) refl (λ f. f) in
       let mine = h.each id x live in
       let count = ((seat_fits key s h id x live).hold _ may.0).committed in (
         y,
@@ -221,7 +231,7 @@ module _ (key : RoundKey) where
   pub weigh_allowed : (slots id : ℕ) (me : SeatMe) (i k j : ℕ) → 0 < me.0.share
       → (1 < me.0.share → me.0.core.done ≡ true) → IsAllowed d me.0.core (Weighs k j)
       → i ≡ 2 + entry d k j
-      → Allows (IsSoundTable key) slots id me i (λ n. n) (TellsWeigh me)
+      → Allows (IsSoundTable key) slots id me i (λ n. n) (TellsWeigh i me)
   weigh_allowed slots id me i k j some alone may is s h homes at fits =
       let x = me.0 in
       let live = live_there s.views id x at some in
@@ -238,14 +248,14 @@ module _ (key : RoundKey) where
       let inside : p < programme_count d = h.valid.list_entries k j turn may.1 in
       let seen = sym (reads_seats d s.words (core_views s.views) i p is inside) in
       let step = load_step key s h id i me y (Weighs k j) live same may (by ∙ ap seen_view seen)
-      refl refl (λ f. f) in
+      refl is (omega arith) refl (λ f. f) in
       (y, keeps, tt, step.kept, record { before = step.before; seat = refl; range = step.range })
 
   -- a seat taken of the entry at the holder's place
   pub seat_allowed : (slots id : ℕ) (me : SeatMe) (i k j : ℕ) → 0 < me.0.share
       → (1 < me.0.share → me.0.core.done ≡ true) → IsAllowed d me.0.core (Seats k j)
       → i ≡ 2 + entry d k j
-      → Allows (IsSoundTable key) slots id me i (λ n. (n + 1) % 2 ^ 64) (TellsSeat me)
+      → Allows (IsSoundTable key) slots id me i (λ n. (n + 1) % 2 ^ 64) (TellsSeat i me)
   seat_allowed slots id me i k j some alone may is s h homes at fits =
       let x = me.0 in
       let live = live_there s.views id x at some in
@@ -277,8 +287,8 @@ module _ (key : RoundKey) where
         seats = set (table_core key s).seats p (count z);
         views = set (core_views s.views) (place s.views id) ((by ∙ ap seen_view seen) z);
       }) in
-      let step = write_step key s h id me v i next (Seats k j) (λ e. omega arith) live same may
-      leads in (
+      let step = write_step key s h id me y i next (Seats k j) (λ e. omega arith) live same may is
+      leads (omega arith) refl refl in (
         y,
         keeps,
         tt,
@@ -291,7 +301,7 @@ module _ (key : RoundKey) where
       → (1 < me.0.share → me.0.core.done ≡ true) → IsAllowed d me.0.core (Raises k j)
       → i ≡ 2 + programme_count d + turn_count d + flag_group (entry d k j)
       → mask ≡ 2 ^ flag_bit (entry d k j)
-      → Allows (IsSoundTable key) slots id me i (λ n. bit_or n mask) (λ _. TellsRaise me)
+      → Allows (IsSoundTable key) slots id me i (λ n. bit_or n mask) (λ _. TellsRaise i me)
   raise_allowed slots id me i k j mask some alone may is bit_is s h homes at fits =
       let x = me.0 in
       let live = live_there s.views id x at some in
@@ -315,40 +325,40 @@ module _ (key : RoundKey) where
         flags = set (table_core key s).flags group (raised z);
         views = set (core_views s.views) (place s.views id) (by z);
       }) in
-      let step = write_step key s h id me v i word (Raises k j) (λ e. omega arith) live same may
-      leads in
+      let step = write_step key s h id me y i word (Raises k j) (λ e. omega arith) live same may is
+      leads (omega arith) refl refl in
       (y, keeps, tt, step.kept, record { before = step.before; seat = refl; range = step.range })
 
   -- a commit of the holder's turn at its place
   pub seal_allowed : (slots id : ℕ) (me : SeatMe) (i k j word : ℕ) (phase : Phase) → 0 < me.0.share
       → (1 < me.0.share → me.0.core.done ≡ true) → IsAllowed d me.0.core (Seals k j phase)
       → k < turn_count d → i ≡ 2 + programme_count d + k → word ≡ 2 * j + 2
-      → Allows (IsSoundTable key) slots id me i (λ _. word) (λ _. TellsSeal me)
+      → Allows (IsSoundTable key) slots id me i (λ _. word) (λ _. TellsSeal i me)
   seal_allowed slots id me i k j word phase some alone may inside is shows s h homes at fits =
       let x = me.0 in
       let live = live_there s.views id x at some in
-      let v = seal_by x.core x.core.hold in
-      let by : v ≡ with_hold x.core (hold_at (k + 1) Idle) = ap (seal_by x.core) may.0 in
-      let y = with_core x v in
-      let same = same_with x v (ap (λ (u : View). u.done) by) alone in
+      let y = seal_by x x.core.hold in
+      let by : y ≡ having_sealed x k 1 = ap (seal_by x) may.0 in
+      let same : IsSameSeat x y = subst (IsSameSeat x) (sym by) (sealed_same x k 1 alone) in
       let shown : cell_of word ≡ Committed j = ap cell_of shows ∙ shows_committed j in
-      let views = set (core_views s.views) (place s.views id) v in
+      let views = set (core_views s.views) (place s.views id) y.core in
       let leads : core_of d (set s.words i word) views ≡ after d (table_core key s)
       (place s.views id) x.core (Seals k j phase) =
       writes_cell d s.words views i k word (Committed j) is inside shown
       ∙ ap (λ (u : View). record (table_core key s) {
         cells = set (table_core key s).cells k (Committed j);
         views = set (core_views s.views) (place s.views id) u;
-      }) by in
-      let step = write_step key s h id me v i word (Seals k j phase) (λ e. omega arith) live same
-      may leads in
+      }) (ap (λ (u : SeatKnows). u.core) by) in
+      let step = write_step key s h id me y i word (Seals k j phase) (λ e. omega arith) live same
+      may is leads (ap (λ (u : SeatKnows). u.sealed) by) (ap (λ (u : SeatKnows). u.released) by)
+      (ap (λ (u : SeatKnows). u.flags) by) in
       (y, keeps, tt, step.kept, record { before = step.before; seat = refl; range = step.range })
 
   -- a release with the number of committed turns
   pub release_allowed : (slots id : ℕ) (me : SeatMe) (k word : ℕ) (phase : Phase) → 0 < me.0.share
       → (1 < me.0.share → me.0.core.done ≡ true) → IsAllowed d me.0.core (Releases k phase)
       → word ≡ 2 * k
-      → Allows (IsSoundTable key) slots id me 1 (λ _. word) (λ _. TellsRelease me word)
+      → Allows (IsSoundTable key) slots id me 1 (λ _. word) (λ _. TellsRelease 1 me word)
   release_allowed slots id me k word phase some alone may shows s h homes at fits =
       let x = me.0 in
       let live = live_there s.views id x at some in
@@ -370,6 +380,6 @@ module _ (key : RoundKey) where
       (omega arith) in
       let count = ((seat_fits key s h id x live).hold _ may.0).committed in
       let behind = h.sound.mark.behind in
-      let step = event_step key s h id me y (set s.words 1 word) (Releases k phase) live same may
-      (length-set s.words 1 word) leads (omega arith) (omega arith) (λ f. f) in
+      let step = event_step key s h id me y 1 (set s.words 1 word) (Releases k phase) live same may
+      refl (length-set s.words 1 word) leads (omega arith) (omega arith) (omega arith) (λ f. f) in
       (y, keeps, tt, step.kept, record { before = step.before; seat = refl; range = step.range })

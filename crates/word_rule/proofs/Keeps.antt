@@ -11,15 +11,17 @@ use Rattle.interleaving_core.specs.Core.{View, Core, entry, seats_of}
 use Rattle.interleaving_core.specs.Events.{Action, event_of, Claims, ReadsFlags, Reads, Posts, Takes, Looks, Weighs, Seats, Raises, Seals, Releases, IsAllowed, after, view_after}
 use Rattle.interleaving_core.specs.Sound.{IsSoundView, IsSound}
 use Rattle.interleaving_core.proofs.Places.{at_set, sum_set}
+use Rattle.interleaving_core.proofs.Views.{here_set}
+use Rattle.interleaving_core.proofs.Counts.{commits, count_after}
 use Rattle.interleaving_core.proofs.Keeps as core
 use Rattle.word_rule.specs.Layout.{core_of}
 use Rattle.word_rule.specs.Views.{SeatKnows, SeatMe, with_core, core_views}
 use Rattle.word_rule.specs.Copies.{IsInRange}
-use Rattle.word_rule.specs.Conditions.{MayMake}
-use Rattle.word_rule.specs.Rule.{IsLive, Belongs, IsSoundTable, HasReadFull, HasNotDrawn, share_of, table_core}
+use Rattle.word_rule.specs.Conditions.{word_of, MayMake}
+use Rattle.word_rule.specs.Rule.{IsLive, Belongs, IsSoundTable, HasReadFull, HasNotDrawn, share_of, sealed_of, table_core}
 use Rattle.word_rule.specs.declared.rule.RoundKey.{RoundKey}
 use Rattle.word_rule.proofs.CoreViews.{place, at_place, set_place}
-use Rattle.word_rule.proofs.Undrawn.{here_set, new_view, nobody_before, undrawn_before}
+use Rattle.word_rule.proofs.Undrawn.{new_view, nobody_before, undrawn_before}
 
 -- the seat's number, share and round stay, and it stands for others only where it is done
 pub record IsSameSeat (x y : SeatKnows) : Type 0 where
@@ -41,15 +43,26 @@ pub same_with : (x : SeatKnows) (v : View) → v.done ≡ x.core.done
     → (1 < x.share → x.core.done ≡ true) → IsSameSeat x (with_core x v)
 same_with x v done alone = same_seat x v (λ more. (alone more, done ∙ alone more))
 
--- a seat of the round may make an event that its view of the core allows
-may_make : (key : RoundKey) (number : ℕ) (m : SeatMe) (a : Action) → Belongs key number m.0
-    → IsAllowed key.dict.value m.0.core a → MayMake m (event_of a)
-may_make key number m a mine may =
+-- a seat of the round may make an event that its view of the core allows, on the event's word
+may_make : (key : RoundKey) (number : ℕ) (m : SeatMe) (a : Action) (i : ℕ) → Belongs key number m.0
+    → IsAllowed key.dict.value m.0.core a → i ≡ word_of key.dict.value a
+    → MayMake m (event_of a) i
+may_make key number m a i mine may on =
     record {
       action = a;
       is = refl;
       allowed = subst (λ (z : Dictatorship). IsAllowed z m.0.core a) (sym mine.dict) may;
+      on = on ∙ ap (λ (z : Dictatorship). word_of z a) (sym mine.dict);
     }
+
+-- the state that an event leads to, in whatever form, has as many committed turns more as it
+-- commits
+more_committed : (d : Dictatorship) (c e : Core) (i : ℕ) (v : View) (a : Action) (s : IsSound d c)
+    (t : IsSound d e) → e ≡ after d c i v a → slice_get c.views i ≡ Some v → IsAllowed d v a
+    → t.count ≡ s.count + commits a
+more_committed d c e i v a s t is at may =
+    subst (λ (z : Core). (t : IsSound d z) → t.count ≡ s.count + commits a) (sym is)
+    (λ t. count_after d c i v a s t at may) t
 
 -- a view that fits a state speaks of the round's turns and places
 pub fits_in_range : (d : Dictatorship) (c : Core) (count : ℕ) (v : View) → count ≤ length d.lists
@@ -102,6 +115,12 @@ read_full_rises d old new x rise full n word at p group raised =
     let up = rise p in
     let most = was.1 in
     (was.0, omega arith)
+
+-- so it does for a seat that has read the same words of flags
+read_alike : (d : Dictatorship) (seats : List ℕ) (x y : SeatKnows) → y.flags ≡ x.flags
+    → HasReadFull d seats x → HasReadFull d seats y
+read_alike d seats x y same full n word at =
+    full n word (ap (λ l. slice_get l n) (sym same) ∙ at)
 
 -- a live seat after one has changed is a live seat from before, with the same number and share
 pub record Was (l : List SeatKnows) (i : ℕ) (a : SeatKnows) : Type 0 where
@@ -177,13 +196,14 @@ module _ (key : RoundKey) where
   -- the rule stays where the core state after the step is sound
   pub sound_keeps : (s : Table) (h : IsSoundTable key s) (id : ℕ) (x y : SeatKnows) (words : List ℕ)
       → IsLive s.views id x → IsSameSeat x y → length words ≡ length s.words
-      → IsSound d (core_of d words (core_views (set s.views id y)))
+      → (t : IsSound d (core_of d words (core_views (set s.views id y))))
+      → y.sealed + h.sound.count ≡ x.sealed + t.count
       → get_or s.words 1 0 / 2 ≤ get_or words 1 0 / 2 → y.released ≤ get_or words 1 0 / 2
       → ((p : ℕ) → get_or (seats_in s.words) p 0 ≤ get_or (seats_in words) p 0)
       → HasReadFull d (seats_in words) y
       → (HasNotDrawn y.core → HasNotDrawn x.core × (get_or words 0 0 ≡ get_or s.words 0 0))
       → IsSoundTable key (table_after s id y words)
-  sound_keeps s h id x y words at same long sound grows behind rise read drew =
+  sound_keeps s h id x y words at same long sound sealed grows behind rise read drew =
       let b = h.each id x at in
       let share = same.share in
       record {
@@ -219,6 +239,13 @@ module _ (key : RoundKey) where
             let pn = p.number in
             let qn = q.number in
             omega arith;
+        sealed = omega (arith, sum_set sealed_of s.views id x y at.there, h.sealed);
+        spent = λ i a is none.
+            ⊎_elim
+            (λ (t : (i ≡ id) × (y ≡ a)).
+            let live = at.live in let gone = ap share_of t.1 in absurd (omega arith))
+            (λ (t : (i ≢ id) × (slice_get s.views i ≡ Some a)). h.spent i a t.1 none)
+            (at_set s.views id i y a is);
         full = λ i a is.
             ⊎_elim
             (λ (t : (i ≡ id) × (y ≡ a)). subst (HasReadFull d (seats_in words)) t.1 read)
@@ -244,10 +271,11 @@ module _ (key : RoundKey) where
       → length words ≡ length s.words
       → core_of d words (set (core_views s.views) (place s.views id) y.core)
       ≡ after d (table_core key s) (place s.views id) x.core a
+      → y.sealed ≡ x.sealed + commits a
       → get_or s.words 1 0 / 2 ≤ get_or words 1 0 / 2 → y.released ≤ get_or words 1 0 / 2
       → (HasReadFull d (seats_in words) x → HasReadFull d (seats_in words) y)
       → IsSoundTable key (table_after s id y words)
-  event_keeps s h id x y words a at same may long is grows behind reads =
+  event_keeps s h id x y words a at same may long is sealed grows behind reads =
       let own = at_place s.views id x at in
       let rise : (p : ℕ) → get_or (seats_in s.words) p 0 ≤ get_or (seats_in words) p 0 =
       λ p.
@@ -257,54 +285,60 @@ module _ (key : RoundKey) where
       let leads = ap (core_of d words) (views_after s id x y at same) ∙ is in
       let shown = new_view (core_views s.views) (place s.views id) x.core y.core
       (view_after d (table_core key s) x.core a) own (ap (λ (c : Core). c.views) is) in
-      sound_keeps s h id x y words at same long
-      (subst (IsSound d) (sym leads)
-      (core.keeps d (table_core key s) (place s.views id) x.core a h.valid h.sound own may))
-      grows behind rise (reads (read_full_rises d (seats_in s.words) (seats_in words) x rise
-      (h.full id x at)))
+      let sound = subst (IsSound d) (sym leads)
+      (core.keeps d (table_core key s) (place s.views id) x.core a h.valid h.sound own may) in
+      let more = more_committed d (table_core key s) _ (place s.views id) x.core a h.sound sound
+      leads own may in
+      let read = reads (read_full_rises d (seats_in s.words) (seats_in words) x rise (h.full id x at))
+      in
+      sound_keeps s h id x y words at same long sound (omega arith) grows behind rise read
       (λ nothing.
       let before = undrawn_before d (table_core key s) (place s.views id) x.core a
       (subst HasNotDrawn shown nothing) in
       (before.0, ap (λ (c : Core). c.claim_number) is ∙ before.1))
 
-  -- a step of a seat is this event: the rule stays, the event could be made, and the seat's view
-  -- speaks of the round's turns and places
-  pub record IsStep (s : Table) (id : ℕ) (me : SeatMe) (y : SeatKnows) (words : List ℕ)
+  -- a step of a seat on this word is this event: the rule stays, the event could be made, on its
+  -- own word, and the seat's view speaks of the round's turns and places
+  pub record IsStep (s : Table) (id : ℕ) (me : SeatMe) (y : SeatKnows) (i : ℕ) (words : List ℕ)
       (a : Action) : Type 0 where
     pub kept : IsSoundTable key (table_after s id y words)
-    pub before : MayMake me (event_of a)
+    pub before : MayMake me (event_of a) i
     pub range : IsInRange y.dict y.core
 
   -- it is one where the seat's view allows it and the table then shows the state after it
   pub event_step : (s : Table) (h : IsSoundTable key s) (id : ℕ) (me : SeatMe) (y : SeatKnows)
-      (words : List ℕ) (a : Action) → IsLive s.views id me.0 → IsSameSeat me.0 y
-      → IsAllowed d me.0.core a → length words ≡ length s.words
+      (i : ℕ) (words : List ℕ) (a : Action) → IsLive s.views id me.0 → IsSameSeat me.0 y
+      → IsAllowed d me.0.core a → i ≡ word_of d a → length words ≡ length s.words
       → core_of d words (set (core_views s.views) (place s.views id) y.core)
       ≡ after d (table_core key s) (place s.views id) me.0.core a
+      → y.sealed ≡ me.0.sealed + commits a
       → get_or s.words 1 0 / 2 ≤ get_or words 1 0 / 2 → y.released ≤ get_or words 1 0 / 2
       → (HasReadFull d (seats_in words) me.0 → HasReadFull d (seats_in words) y)
-      → IsStep s id me y words a
-  event_step s h id me y words a live same may long is grows behind reads =
-      let kept = event_keeps s h id me.0 y words a live same may long is grows behind reads in
+      → IsStep s id me y i words a
+  event_step s h id me y i words a live same may on long is sealed grows behind reads =
+      let kept = event_keeps s h id me.0 y words a live same may long is sealed grows behind reads
+      in
       record {
         kept = kept;
-        before = may_make key _ me a (h.each id me.0 live) may;
+        before = may_make key _ me a i (h.each id me.0 live) may on;
         range = seat_in_range _ kept id y (live_after s id me.0 y live same);
       }
 
-  -- so is a write to another word than the mark's, where the seat's view of the core alone changes
-  pub write_step : (s : Table) (h : IsSoundTable key s) (id : ℕ) (me : SeatMe) (v : View)
-      (i n : ℕ) (a : Action) → i ≢ 1 → IsLive s.views id me.0 → IsSameSeat me.0 (with_core me.0 v)
-      → IsAllowed d me.0.core a
-      → core_of d (set s.words i n) (set (core_views s.views) (place s.views id) v)
+  -- so is a write to another word than the mark's, after which the seat has read no more flags and
+  -- released nothing
+  pub write_step : (s : Table) (h : IsSoundTable key s) (id : ℕ) (me : SeatMe) (y : SeatKnows)
+      (i n : ℕ) (a : Action) → i ≢ 1 → IsLive s.views id me.0 → IsSameSeat me.0 y
+      → IsAllowed d me.0.core a → i ≡ word_of d a
+      → core_of d (set s.words i n) (set (core_views s.views) (place s.views id) y.core)
       ≡ after d (table_core key s) (place s.views id) me.0.core a
-      → IsStep s id me (with_core me.0 v) (set s.words i n) a
-  write_step s h id me v i n a other live same may is =
+      → y.sealed ≡ me.0.sealed + commits a → y.released ≡ me.0.released → y.flags ≡ me.0.flags
+      → IsStep s id me y i (set s.words i n) a
+  write_step s h id me y i n a other live same may on is sealed told flags =
       let mark : get_or (set s.words i n) 1 0 ≡ get_or s.words 1 0 =
       get_or-set_other s.words i 1 n 0 (λ e. omega arith) in
       let behind = (h.each id me.0 live).behind in
-      event_step s h id me (with_core me.0 v) (set s.words i n) a live same may
-      (length-set s.words i n) is (omega arith) (omega arith) (λ f. f)
+      event_step s h id me y i (set s.words i n) a live same may on (length-set s.words i n) is
+      sealed (omega arith) (omega arith) (read_alike d (seats_in (set s.words i n)) me.0 y flags)
 
   -- so is a load, after which the seat's view is the one after the event
   pub load_step : (s : Table) (h : IsSoundTable key s) (id i : ℕ) (me : SeatMe) (y : SeatKnows)
@@ -313,13 +347,14 @@ module _ (key : RoundKey) where
       → core_of d s.words
       (set (core_views s.views) (place s.views id) (view_after d (table_core key s) me.0.core a))
       ≡ after d (table_core key s) (place s.views id) me.0.core a
-      → y.released ≡ me.0.released
+      → i ≡ word_of d a → y.sealed ≡ me.0.sealed + commits a → y.released ≡ me.0.released
       → (HasReadFull d (seats_in s.words) me.0 → HasReadFull d (seats_in s.words) y)
-      → IsStep s id me y (set s.words i (get_or s.words i 0)) a
-  load_step s h id i me y a live same may shown is told reads =
+      → IsStep s id me y i (set s.words i (get_or s.words i 0)) a
+  load_step s h id i me y a live same may shown is on sealed told reads =
       let behind = (h.each id me.0 live).behind in
       let leads = ap
       (λ (v : View). core_of d s.words (set (core_views s.views) (place s.views id) v)) shown ∙ is
       in
-      subst (λ (l : List ℕ). IsStep s id me y l a) (sym (set-get_or s.words i 0))
-      (event_step s h id me y s.words a live same may refl leads (omega arith) (omega arith) reads)
+      subst (λ (l : List ℕ). IsStep s id me y i l a) (sym (set-get_or s.words i 0))
+      (event_step s h id me y i s.words a live same may on refl leads sealed (omega arith)
+      (omega arith) reads)

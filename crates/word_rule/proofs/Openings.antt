@@ -16,7 +16,7 @@ use Rattle.interleaving_core.proofs.Keeps.{begins}
 use Rattle.interleaving_core.proofs.Flags.{first_flags_long}
 use Rattle.word_rule.specs.Layout.{cell_of, core_of, first_words, programme_count, word_count}
 use Rattle.word_rule.specs.Views.{SeatKnows, shared_views, core_views}
-use Rattle.word_rule.specs.Rule.{Belongs, IsSoundTable, HasReadFull, share_of, first_seat_of}
+use Rattle.word_rule.specs.Rule.{Belongs, IsSoundTable, HasReadFull, share_of, sealed_of, first_seat_of}
 use Rattle.word_rule.specs.Rounds.{knows, AreNew, shares_of}
 use Rattle.word_rule.specs.declared.rule.RoundKey.{RoundKey}
 use Rattle.word_rule.specs.declared.seat.SharedRound.{SharedRound}
@@ -92,13 +92,13 @@ opens_with_first key valid some few =
     let d = key.dict.value in
     let x = first_seat_of key in
     let views = one_seat key.workers some in
+    let shown = words_open d key.workers (core_views (x ∷ [])) valid views in
+    let sound = subst (IsSound d) (sym shown) (begins d key.workers valid) in
     record {
       valid = valid;
       team = few;
       wide = first_words_long d valid;
-      sound =
-          let shown = words_open d key.workers (core_views (x ∷ [])) valid views in
-          subst (IsSound d) (sym shown) (begins d key.workers valid);
+      sound = sound;
       shares = sum_by-cons share_of x []
           ∙ (let e : key.workers + 0 ≡ key.workers = omega arith in e);
       each = λ i y is.
@@ -112,6 +112,11 @@ opens_with_first key valid some few =
           absurd (other (first x i a ai.there ∙ sym (first x j c cj.there)));
       last = λ i j a c ai cj other.
           absurd (other (first x i a ai.there ∙ sym (first x j c cj.there)));
+      sealed =
+          let none = sum_by-cons sealed_of x [] in
+          let free = sound.mark.free refl in
+          omega arith;
+      spent = λ i y is none. ap sealed_of (sym (only x i y is));
       full = λ i y is.
           subst (HasReadFull d _) (only x i y is.there) (λ n word none. absurd (cc (none)));
       undrawn = λ nobody. refl;

@@ -13,12 +13,14 @@ use Rattle.interleaving_core.specs.Core.{View, Core, fresh_view}
 use Rattle.interleaving_core.specs.Sound.{bit, some_bit, turn_bit, holder_seat_bit, holder_late_bit, hold_bit, done_bit, claim_bit, seat_bit, late_bit, IsSoundPhase, IsSoundView, IsSound}
 use Rattle.interleaving_core.proofs.Places.{at_set, at_snoc, at_longer, sum_set}
 use Rattle.interleaving_core.proofs.OwnTurns.{own_stays, own_nil}
+use Rattle.interleaving_core.proofs.Views.{here_set}
+use Rattle.interleaving_core.proofs.Counts.{same_count}
 use Rattle.word_rule.specs.Views.{SeatKnows, ended_view, other_view, shared_views, core_views, kept_part, new_part, joined, spent_seat}
-use Rattle.word_rule.specs.Rule.{IsLive, Belongs, IsSoundTable, HasReadFull, share_of, table_core}
+use Rattle.word_rule.specs.Rule.{IsLive, Belongs, IsSoundTable, HasReadFull, share_of, sealed_of, table_core}
 use Rattle.word_rule.specs.declared.rule.RoundKey.{RoundKey}
 use Rattle.word_rule.proofs.CoreViews.{there, live_there, other_there, Whose, whose, weight, sum_views, shared_sum, even_sum}
 use Rattle.word_rule.proofs.Keeps.{seat_fits}
-use Rattle.word_rule.proofs.Undrawn.{here_set, still_there, nobody_before}
+use Rattle.word_rule.proofs.Undrawn.{still_there, nobody_before}
 
 module _ (d : Dictatorship) (c : Core) (vs : List View) where
   abbrev regrouped : Core
@@ -214,19 +216,37 @@ module _ (key : RoundKey) where
       (λ r. inr (⊎_elim (λ p. inl p) (λ p. inr (p.0, ap (λ (z : SeatKnows). z.number) (sym p.1)))
       r))
       (origin i y is) in
+      let sound = resound d (table_core key s) (core_views vs) h.sound (sums hold_bit)
+      (sums done_bit) (λ k. sums (claim_bit k)) (λ p. sums (seat_bit d p))
+      (λ p. sums (late_bit d p)) (λ i v e. fits_of v (whose vs i v e)) in
       record {
         valid = h.valid;
         team = h.team;
         wide = h.wide;
-        sound = resound d (table_core key s) (core_views vs) h.sound (sums hold_bit) (sums done_bit)
-            (λ k. sums (claim_bit k)) (λ p. sums (seat_bit d p)) (λ p. sums (late_bit d p))
-            (λ i v e. fits_of v (whose vs i v e));
+        sound = sound;
         shares =
             let p = sum_by-append share_of (set s.views id left) (right ∷ []) in
             let o = sum_by-cons share_of right [] in
             let q = sum_set share_of s.views id x left mine.there in
             let t = h.shares in
             omega arith;
+        sealed =
+            let p = sum_by-append sealed_of (set s.views id left) (right ∷ []) in
+            let o = sum_by-cons sealed_of right [] in
+            let q = sum_set sealed_of s.views id x left mine.there in
+            let t = h.sealed in
+            let n = same_count d (table_core key s) _ h.sound sound (λ k. refl) in
+            omega arith;
+        spent = λ i y is none.
+            ⊎_elim
+            (λ (p : slice_get (set s.views id left) i ≡ Some y).
+            ⊎_elim
+            (λ (q : (i ≡ id) × (left ≡ y)). let l = ap share_of q.1 in absurd (omega arith))
+            (λ (q : (i ≢ id) × (slice_get s.views i ≡ Some y)). h.spent i y q.1 none)
+            (at_set s.views id i left y p))
+            (λ (p : (i ≡ length (set s.views id left)) × (right ≡ y)).
+            let l = ap share_of p.1 in absurd (omega arith))
+            (at_snoc (set s.views id left) right y i is);
         each = λ i y is.
             ⊎_elim
             (λ (p : (i ≡ id) × (left ≡ y)).
@@ -423,24 +443,38 @@ module _ (key : RoundKey) where
       w.which)
       (λ (t : (w.at ≢ id) × IsLive s.views w.at w.seat). old_fits key s h w.at w.seat v t.1 w.which)
       (origin w.at w.seat w.live) in
+      let sound = resound d (table_core key s) (core_views vs) h.sound
+      (sums hold_bit (ap some_bit o.hold) (ap some_bit p.hold))
+      (sums done_bit (ap bit o.done) (ap bit p.done))
+      (λ k. sums (claim_bit k) (ap (turn_bit k) o.claim) (ap (turn_bit k) p.claim))
+      (λ q. sums (seat_bit d q) (ap (holder_seat_bit d q) o.hold) (ap (holder_seat_bit d q) p.hold))
+      (λ q. sums (late_bit d q) (ap (holder_late_bit d q) o.hold) (ap (holder_late_bit d q) p.hold))
+      (λ i v e. fits_of v (whose vs i v e)) in
       record {
         valid = h.valid;
         team = h.team;
         wide = h.wide;
-        sound = resound d (table_core key s) (core_views vs) h.sound
-            (sums hold_bit (ap some_bit o.hold) (ap some_bit p.hold))
-            (sums done_bit (ap bit o.done) (ap bit p.done))
-            (λ k. sums (claim_bit k) (ap (turn_bit k) o.claim) (ap (turn_bit k) p.claim))
-            (λ q. sums (seat_bit d q) (ap (holder_seat_bit d q) o.hold)
-            (ap (holder_seat_bit d q) p.hold))
-            (λ q. sums (late_bit d q) (ap (holder_late_bit d q) o.hold)
-            (ap (holder_late_bit d q) p.hold))
-            (λ i v e. fits_of v (whose vs i v e));
+        sound = sound;
         shares =
             let r = sum_set share_of mid other y spent_seat in_mid in
             let t = sum_set share_of s.views id x both mine.there in
             let all = h.shares in
             omega arith;
+        sealed =
+            let r = sum_set sealed_of mid other y spent_seat in_mid in
+            let t = sum_set sealed_of s.views id x both mine.there in
+            let all = h.sealed in
+            let n = same_count d (table_core key s) _ h.sound sound (λ k. refl) in
+            omega arith;
+        spent = λ i z is none.
+            ⊎_elim
+            (λ (t : (i ≡ other) × (spent_seat ≡ z)). ap sealed_of (sym t.1))
+            (λ (t : (i ≢ other) × (slice_get mid i ≡ Some z)).
+            ⊎_elim
+            (λ (u : (i ≡ id) × (both ≡ z)). let l = ap share_of u.1 in absurd (omega arith))
+            (λ (u : (i ≢ id) × (slice_get s.views i ≡ Some z)). h.spent i z u.1 none)
+            (at_set s.views id i both z t.1))
+            (at_set mid other i spent_seat z is);
         each = λ i z is.
             ⊎_elim
             (λ (t : (i ≡ id) × (z ≡ both)).

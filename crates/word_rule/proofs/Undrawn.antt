@@ -8,6 +8,7 @@ use Rattle.market.specs.Dictatorships.{Dictatorship}
 use Rattle.interleaving_core.specs.declared.parts.OwnTurn.{OwnTurn}
 use Rattle.interleaving_core.specs.Core.{View, Core, turn_count, entry, is_open}
 use Rattle.interleaving_core.specs.Events.{Action, Claims, ReadsFlags, Reads, Posts, Takes, Looks, Weighs, Seats, Raises, Seals, Releases, after, view_after, after_claim_if, after_read, after_take, with_place}
+use Rattle.interleaving_core.proofs.Views.{here_set}
 use Rattle.word_rule.specs.Views.{SeatKnows}
 use Rattle.word_rule.specs.Rule.{IsLive, HasNotDrawn}
 
@@ -51,14 +52,7 @@ undrawn_before d c i v (Raises h j) u = (u, refl)
 undrawn_before d c i v (Seals h j phase) u = (u, refl)
 undrawn_before d c i v (Releases h phase) u = (u, refl)
 
--- what was written at a place stands there
-pub here_set : {A : Type 0} (l : List A) (i : ℕ) (x y : A) → slice_get l i ≡ Some x
-    → slice_get (set l i y) i ≡ Some y
-here_set [] i x y e = absurd (cc (e))
-here_set (z ∷ zs) zero x y e = refl
-here_set (z ∷ zs) (suc i) x y e = here_set zs i x y e
-
--- and what stands at another stays
+-- what was written leaves what stands at another place
 pub still_there : {A : Type 0} (l : List A) (i j : ℕ) (x y : A) → j ≢ i → slice_get l j ≡ Some x
     → slice_get (set l i y) j ≡ Some x
 still_there [] i j x y other e = e

@@ -1,5 +1,5 @@
--- What each atomic step of a claimant tells, by the word found: that the event could be made at
--- this step, and what the seat is then.
+-- What each atomic step of a claimant tells, by the word that it is made on and what was found
+-- there: that the event could be made at this step, on its own word, and what the seat is then.
 use Rattle.std.specs.Prelude.{◌≡◌, ℕ, ◌/◌, ◌<◌, List, [], ◌∷◌, ◌++◌, nat_lt, slice_get, Option, Some, None, IsSome}
 use Rattle.market.specs.Dictatorships.{Dictatorship}
 use Rattle.interleaving_core.specs.declared.parts.Claiming.{Claiming}
@@ -20,8 +20,8 @@ pub record AreEarlier (own : List OwnTurn) (found : ℕ) : Type 0 where
       → i < j → x.turn < y.turn
 
 -- a draw: the number found is the turn claimed, or past all turns
-pub record TellsClaim (m : SeatMe) (found : ℕ) (n : SeatMe) : Type 0 where
-  pub before : MayMake m Claim
+pub record TellsClaim (word : ℕ) (m : SeatMe) (found : ℕ) (n : SeatMe) : Type 0 where
+  pub before : MayMake m Claim word
   pub seat : n ≡ me_with m (after_claim m.0.dict m.0.core found)
   pub range : IsInRange n.0.dict n.0.core
   pub earlier : AreEarlier m.0.core.own found
@@ -37,8 +37,8 @@ flags_by x (Some c) found =
     }
 
 -- a look at flags, by the word found
-pub record TellsFlags (m : SeatMe) (found : ℕ) (n : SeatMe) : Type 0 where
-  pub before : MayMake m Flags
+pub record TellsFlags (word : ℕ) (m : SeatMe) (found : ℕ) (n : SeatMe) : Type 0 where
+  pub before : MayMake m Flags word
   pub seat : n ≡ (flags_by m.0 m.0.core.claim found, m.1)
   pub range : IsInRange n.0.dict n.0.core
 
@@ -50,13 +50,13 @@ read_by d v (Some x) found =
     after_read (nat_lt found (quota_of d (entry d x.turn x.passed))) v x.turn x.passed
 
 -- a reading: by the seat count found the entry is met or passed
-pub record TellsRead (m : SeatMe) (found : ℕ) (n : SeatMe) : Type 0 where
-  pub before : MayMake m Read
+pub record TellsRead (word : ℕ) (m : SeatMe) (found : ℕ) (n : SeatMe) : Type 0 where
+  pub before : MayMake m Read word
   pub seat : n ≡ me_with m (read_by m.0.dict m.0.core m.0.core.claim found)
   pub range : IsInRange n.0.dict n.0.core
 
 -- a post: half the word stored is the place
-pub record TellsPost (m : SeatMe) (stored : ℕ) (n : SeatMe) : Type 0 where
-  pub before : MayMake m Post
+pub record TellsPost (word : ℕ) (m : SeatMe) (stored : ℕ) (n : SeatMe) : Type 0 where
+  pub before : MayMake m Post word
   pub seat : n ≡ me_with m (after_post m.0.core (stored / 2))
   pub range : IsInRange n.0.dict n.0.core

@@ -1,5 +1,6 @@
--- What each atomic step of the mark's holder tells, by the word found: that the event could be made
--- at this step, and what the seat is then.
+-- What each atomic step of the mark's holder tells, by the word that it is made on and what was
+-- found there: that the event could be made at this step, on its own word, and what the seat is
+-- then.
 use Rattle.std.specs.Prelude.{◌≡◌, ℕ, ◌+◌, ◌^◌, ◌<◌, ◌≤◌, Bool, true, false, nat_lt, nat_le, Option, Some, None, IsSome}
 use Rattle.market.specs.Dictatorships.{Dictatorship}
 use Rattle.interleaving_core.specs.declared.parts.Cell.{Cell}
@@ -38,8 +39,8 @@ tried x false number =
     }
 
 -- a try on the mark; a seat with every share finds it free
-pub record TellsTake (m : SeatMe) (found : ℕ) (n : SeatMe) : Type 0 where
-  pub before : MayMake m Take
+pub record TellsTake (word : ℕ) (m : SeatMe) (found : ℕ) (n : SeatMe) : Type 0 where
+  pub before : MayMake m Take word
   pub seat : n ≡ (tried m.0 (is_held found) (mark_number found), m.1)
   pub range : IsInRange n.0.dict n.0.core
   pub within : mark_number found ≤ turn_count m.0.dict
@@ -51,8 +52,8 @@ look_by v None found = v
 look_by v (Some h) found = with_hold v (hold_at h.committed (phase_after_look (cell_of found)))
 
 -- a look: the cell found is not committed, and a done seat with every share finds it posted
-pub record TellsLook (m : SeatMe) (found : ℕ) (n : SeatMe) : Type 0 where
-  pub before : MayMake m Look
+pub record TellsLook (word : ℕ) (m : SeatMe) (found : ℕ) (n : SeatMe) : Type 0 where
+  pub before : MayMake m Look word
   pub seat : n ≡ me_with m (look_by m.0.core m.0.core.hold found)
   pub range : IsInRange n.0.dict n.0.core
   pub uncommitted : is_committed (cell_of found) ≡ false
@@ -71,8 +72,8 @@ weigh_by d v (Some h) found =
     with_hold v (hold_at h.committed (weigh_phase d h.committed h.phase found))
 
 -- a weighing
-pub record TellsWeigh (m : SeatMe) (found : ℕ) (n : SeatMe) : Type 0 where
-  pub before : MayMake m Weigh
+pub record TellsWeigh (word : ℕ) (m : SeatMe) (found : ℕ) (n : SeatMe) : Type 0 where
+  pub before : MayMake m Weigh word
   pub seat : n ≡ me_with m (weigh_by m.0.dict m.0.core m.0.core.hold found)
   pub range : IsInRange n.0.dict n.0.core
 
@@ -89,8 +90,8 @@ seat_by d v (Some h) found =
     with_hold v (hold_at h.committed (seat_phase d h.committed h.phase found))
 
 -- a seat taken; the count found is far from a word's end
-pub record TellsSeat (m : SeatMe) (found : ℕ) (n : SeatMe) : Type 0 where
-  pub before : MayMake m Seat
+pub record TellsSeat (word : ℕ) (m : SeatMe) (found : ℕ) (n : SeatMe) : Type 0 where
+  pub before : MayMake m Seat word
   pub seat : n ≡ me_with m (seat_by m.0.dict m.0.core m.0.core.hold found)
   pub range : IsInRange n.0.dict n.0.core
   pub small : found < 2 ^ 32
@@ -106,20 +107,28 @@ raise_by v None = v
 raise_by v (Some h) = with_hold v (hold_at h.committed (raise_phase h.phase))
 
 -- a flag raised
-pub record TellsRaise (m : SeatMe) (n : SeatMe) : Type 0 where
-  pub before : MayMake m Raise
+pub record TellsRaise (word : ℕ) (m : SeatMe) (n : SeatMe) : Type 0 where
+  pub before : MayMake m Raise word
   pub seat : n ≡ me_with m (raise_by m.0.core m.0.core.hold)
   pub range : IsInRange n.0.dict n.0.core
 
--- the view after a commit: one turn more is committed
-abbrev pub seal_by : View → Option Holding → View
-seal_by v None = v
-seal_by v (Some h) = with_hold v (hold_at (h.committed + 1) Idle)
+-- the seat as holder after it committed so many turns, from this one on
+abbrev pub having_sealed : SeatKnows → ℕ → ℕ → SeatKnows
+having_sealed x turn count =
+    record x {
+      core = with_hold x.core (hold_at (turn + count) Idle);
+      sealed = x.sealed + count;
+    }
+
+-- the seat after a commit: one turn more is committed, by this seat
+abbrev pub seal_by : SeatKnows → Option Holding → SeatKnows
+seal_by x None = x
+seal_by x (Some h) = having_sealed x h.committed 1
 
 -- a commit
-pub record TellsSeal (m : SeatMe) (n : SeatMe) : Type 0 where
-  pub before : MayMake m Seal
-  pub seat : n ≡ me_with m (seal_by m.0.core m.0.core.hold)
+pub record TellsSeal (word : ℕ) (m : SeatMe) (n : SeatMe) : Type 0 where
+  pub before : MayMake m Seal word
+  pub seat : n ≡ (seal_by m.0 m.0.core.hold, m.1)
   pub range : IsInRange n.0.dict n.0.core
 
 -- the seat after it gave the mark back with this number
@@ -127,7 +136,7 @@ abbrev pub released_with : SeatKnows → ℕ → SeatKnows
 released_with x number = record x { core = with_hold x.core None; released = number }
 
 -- a release: half the word stored is the number
-pub record TellsRelease (m : SeatMe) (stored : ℕ) (n : SeatMe) : Type 0 where
-  pub before : MayMake m Release
+pub record TellsRelease (word : ℕ) (m : SeatMe) (stored : ℕ) (n : SeatMe) : Type 0 where
+  pub before : MayMake m Release word
   pub seat : n ≡ (released_with m.0 (mark_number stored), m.1)
   pub range : IsInRange n.0.dict n.0.core

@@ -5,7 +5,7 @@ use Rattle.atomic_table.specs.Table.{State}
 use Rattle.market.specs.Dictatorships.{Dictatorship}
 use Rattle.interleaving_core.specs.Core.{View, fresh_view, opening}
 use Rattle.word_rule.specs.Views.{SeatKnows, core_views}
-use Rattle.word_rule.specs.Rule.{IsLive, IsSoundTable, share_of, table_core}
+use Rattle.word_rule.specs.Rule.{IsLive, IsSoundTable, share_of, sealed_of, table_core}
 use Rattle.word_rule.specs.declared.rule.RoundKey.{RoundKey}
 use Rattle.word_rule.specs.declared.seat.SharedRound.{SharedRound}
 use Rattle.word_rule.specs.declared.seat.WorkSeat.{WorkSeat}
@@ -47,6 +47,7 @@ pub record IsNew (round : SharedRound) (worker : ℕ) (me : WorkSeat) : Type 0 w
   pub missed : (knows me).missed ≡ false
   pub took : (knows me).took ≡ 0
   pub released : (knows me).released ≡ 0
+  pub sealed : (knows me).sealed ≡ 0
   pub flags : (knows me).flags ≡ []
 
 -- seats at the opening, numbered from 0
@@ -67,6 +68,10 @@ AreOver round seats = (k : ℕ) (me : WorkSeat) → slice_get seats k ≡ Some m
 -- how many workers these seats stand for
 abbrev pub shares_of : List WorkSeat → ℕ
 shares_of seats = sum_by (λ me. share_of (knows me)) seats
+
+-- how many turns these seats have committed
+abbrev pub sealed_in : List WorkSeat → ℕ
+sealed_in seats = sum_by (λ me. sealed_of (knows me)) seats
 
 -- whatever the table is while a seat knows this, no view of the core claims or holds
 abbrev pub IsAlone : RoundKey → SeatKnows → Type 0

@@ -16,6 +16,10 @@ use Rattle.word_rule.specs.declared.rule.RoundKey.{RoundKey}
 abbrev pub share_of : SeatKnows → ℕ
 share_of x = x.share
 
+-- how many turns a seat has committed
+abbrev pub sealed_of : SeatKnows → ℕ
+sealed_of x = x.sealed
+
 -- the core state of a table
 abbrev pub table_core : RoundKey → State ℕ SeatKnows → Core
 table_core key s = core_of key.dict.value s.words (core_views s.views)
@@ -59,6 +63,9 @@ pub record IsSoundTable (key : RoundKey) (s : State ℕ SeatKnows) : Type 0 wher
   -- a seat that is still to be split has the greatest number
   pub last : (i j : ℕ) (x y : SeatKnows) → IsLive s.views i x → IsLive s.views j y → i ≢ j
       → 1 < x.share → x.core.done ≡ false → y.number < x.number
+  -- the seats have committed as many turns as are committed, and one that is spent counts none
+  pub sealed : sum_by sealed_of s.views ≡ sound.count
+  pub spent : (i : ℕ) (x : SeatKnows) → slice_get s.views i ≡ Some x → x.share ≡ 0 → x.sealed ≡ 0
   -- what a seat has read of flags is so
   pub full : (i : ℕ) (x : SeatKnows) → IsLive s.views i x
       → HasReadFull key.dict.value (table_core key s).seats x

@@ -7,8 +7,8 @@ use Rattle.interleaving_core.specs.Core.{View, fresh_view}
 -- a worker's view of the core; the seat's number and its share, which is how many workers it stands
 -- for; how many tries on the mark it has made, held or not, and whether its last one found the mark
 -- held; the number of its last try that found the mark free, and the number that its last release
--- wrote; the words of flags that it has read, each with the group of programmes whose flags it has;
--- and the round's dictatorship and number of workers
+-- wrote; how many turns it has committed; the words of flags that it has read, each with the group
+-- of programmes whose flags it has; and the round's dictatorship and number of workers
 pub record SeatKnows : Type 0 where
   pub core : View
   pub number : ℕ
@@ -17,6 +17,7 @@ pub record SeatKnows : Type 0 where
   pub missed : Bool
   pub took : ℕ
   pub released : ℕ
+  pub sealed : ℕ
   pub flags : List (ℕ × ℕ)
   pub dict : Dictatorship
   pub workers : ℕ
@@ -51,6 +52,7 @@ first_seat d workers =
       missed = false;
       took = 0;
       released = 0;
+      sealed = 0;
       flags = [];
       dict = d;
       workers = workers;
@@ -75,12 +77,13 @@ new_part x =
       missed = false;
       took = 0;
       released = 0;
+      sealed = 0;
       flags = [];
     }
 
--- a join: the share of the other seat is added
+-- a join: the share of the other seat is added, and so are the turns that it has committed
 abbrev pub joined : SeatKnows → SeatKnows → SeatKnows
-joined x y = record x { share = x.share + y.share }
+joined x y = record x { share = x.share + y.share; sealed = x.sealed + y.sealed }
 
 -- the seat with another view of the core
 abbrev pub with_core : SeatKnows → View → SeatKnows

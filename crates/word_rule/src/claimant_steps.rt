@@ -9,7 +9,7 @@ pub struct ClaimStep;
 impl Play<u8, SeatView> for ClaimStep {
     ghost use Rattle.word_rule.specs.Claimant.{TellsClaim};
 
-    ghost then = { λ step. TellsClaim };
+    ghost then = { λ step. TellsClaim step.word };
 }
 
 /// A claimant looks at the flags of its next entries: a load of the word that has the flag of the
@@ -19,7 +19,7 @@ pub struct FlagsStep;
 impl Play<u8, SeatView> for FlagsStep {
     ghost use Rattle.word_rule.specs.Claimant.{TellsFlags};
 
-    ghost then = { λ step. TellsFlags };
+    ghost then = { λ step. TellsFlags step.word };
 }
 
 /// A claimant reads the seat count of the next entry: a load of its seat word.
@@ -28,7 +28,7 @@ pub struct ReadStep;
 impl Play<u8, SeatView> for ReadStep {
     ghost use Rattle.word_rule.specs.Claimant.{TellsRead};
 
-    ghost then = { λ step. TellsRead };
+    ghost then = { λ step. TellsRead step.word };
 }
 
 /// A claimant posts the place that it found: a store to its turn's cell.
@@ -37,5 +37,5 @@ pub struct PostStep;
 impl Play<u8, SeatView> for PostStep {
     ghost use Rattle.word_rule.specs.Claimant.{TellsPost};
 
-    ghost then = { λ step. TellsPost };
+    ghost then = { λ step. TellsPost step.word };
 }

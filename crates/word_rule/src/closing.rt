@@ -75,13 +75,15 @@ impl Drop for Words {
     }
 }
 
-/// Ends a round, by a seat that has every share and does not hold the mark. At least as many turns
-/// are committed as the seat's last release wrote. It takes no memory.
+/// Ends a round, by a seat that has every share and does not hold the mark. As many turns are
+/// committed as the round's seats have committed, which that seat counts: at least as many as its
+/// last release wrote. It takes no memory.
 pub fn close_round(round: SharedRound, me: WorkSeat) -> Words
     requires seat { IsSeatOf round me }
     requires all { (knows me).share ≡ (key_of round).workers }
     requires free { (knows me).core.hold ≡ None }
     ensures dict { result.dict ≡ dict_of round }
+    ensures sealed { (knows me).sealed ≡ result.committed }
     ensures released { (knows me).released ≤ result.committed }
     ensures within { result.committed ≤ turn_count (dict_of round) }
 {

@@ -6,6 +6,13 @@
 //! words and views together are one sound state of the core. Every atomic step is proved to keep
 //! it, whatever the table is when the step comes. So it holds between any two steps, in whatever
 //! order the workers make them.
+//!
+//! There are eleven kinds of atomic step, one for each event. Each tells that the event could be
+//! made at this step, on the event's own word, and what the seat knows then. The table and the
+//! seats are public, so whoever has both may make steps of other kinds. Those keep the rule too,
+//! but may note less than the eleven do, or what is not so: a try on the mark that no view counts,
+//! another number than a take found, or the number of another word as a seat count below the quota
+//! or as flags that are lowered.
 #![tactic(auto)]
 
 // The words of a table by name: where each stands, and how its contents are written and read.

@@ -5,7 +5,7 @@ ghost use Rattle.interleaving_core.specs.Flags.{flag_word_count, first_flags};
 ghost use Rattle.interleaving_core.specs.Core.{fresh_view};
 ghost use Rattle.word_rule.specs.Layout.{first_words};
 ghost use Rattle.word_rule.specs.Views.{first_seat};
-ghost use Rattle.word_rule.specs.Rounds.{knows, key_of, dict_of, IsNew, AreNew, IsOver, AreOver, IsAlone, ShowsOpening, shares_of};
+ghost use Rattle.word_rule.specs.Rounds.{knows, key_of, dict_of, IsNew, AreNew, IsOver, AreOver, IsAlone, ShowsOpening, shares_of, sealed_in};
 
 use crate::layout::{FIRST_SEAT_WORD, cell_word, free_mark};
 use crate::rule::{RoundKey, RoundSeat, RoundTable, ShareMove};
@@ -142,13 +142,15 @@ fn new_seat(seat: RoundSeat, number: u32) -> WorkSeat
 }
 
 /// Joins all seats of a round into one, which then has every share: no other seat claims or holds
-/// the mark. Each seat is done, has no claim and does not hold the mark. It takes no memory.
+/// the mark. Each seat is done, has no claim and does not hold the mark. The one seat counts the
+/// turns that they all have committed. It takes no memory.
 pub fn join_all(round: &SharedRound, mut seats: Vec<WorkSeat>) -> WorkSeat
     requires over { AreOver round.now seats.items }
     requires all { shares_of seats.items ≡ (key_of round.now).workers }
     ensures over { IsOver round.now result }
     ensures all { (knows result).share ≡ (key_of round.now).workers }
     ensures alone { IsAlone (key_of round.now) (knows result) }
+    ensures sealed { (knows result).sealed ≡ sealed_in seats.items }
 {
     let Some(mut me) = seats.pop() else {
         unreachable!()
@@ -164,6 +166,7 @@ fn join_two(round: &SharedRound, me: &mut WorkSeat, other: WorkSeat)
     requires over { IsOver round.now me.old × IsOver round.now other }
     ensures over { IsOver round.now me.new }
     ensures share { (knows me.new).share ≡ (knows me.old).share + (knows other).share }
+    ensures sealed { (knows me.new).sealed ≡ (knows me.old).sealed + (knows other).sealed }
 {
     let WorkSeat {
         seat,

@@ -9,7 +9,7 @@ use Rattle.record_files.specs.Texts.{row_text}
 use Rattle.reports.specs.FullEntries.{FullMeansFilled}
 use Rattle.reports.specs.Reasons.{entry_at, reason_of}
 use Rattle.reports.specs.declared.reasons.Reason.{Reason}
-use Rattle.reports.specs.declared.reasons.Reason.TheVariants.{Placed, Below, NoRank, Full}
+use Rattle.reports.specs.declared.reasons.Reason.TheVariants.{Placed, Below, NoRank, Bar, Full}
 use Rattle.run_frame.specs.Files.{Reads}
 use Rattle.place_run.specs.Tables.{Tables, codes_in, numbers_in, problem_of, tables_in}
 use Rattle.place_run.specs.commands.Base.{rank_text}
@@ -20,13 +20,15 @@ abbrev pub reason_word : Reason → List ℕ
 reason_word Placed = codes "PLACED"
 reason_word Below = codes "BELOW"
 reason_word NoRank = codes "NORANK"
+reason_word (Bar bar) = codes "BAR"
 reason_word (Full base) = codes "FULL"
 
--- the base rank that stands beside a reason: that of a full programme
+-- the rank that stands beside a reason: the bar that is missed, or the base rank of a full programme
 abbrev pub reason_base : Reason → List ℕ
 reason_base Placed = codes "-"
 reason_base Below = codes "-"
 reason_base NoRank = codes "-"
+reason_base (Bar bar) = decimal bar
 reason_base (Full base) = rank_text base
 
 -- the row of an entry: the candidate's number, the programme's code, and the reason

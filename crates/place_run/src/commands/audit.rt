@@ -9,8 +9,10 @@ ghost use Rattle.market.specs.Stability.{held_by};
 ghost use Rattle.programme_table.specs.Table.{codes_of};
 ghost use Rattle.place_run.specs.Audits.{IsAuditOf, NamesVerdict};
 ghost use Rattle.place_run.specs.Placings.{IsNamed};
+ghost use Rattle.run_frame.specs.Files.{moment};
+ghost use Rattle.run_frame.specs.Plans.{MayOpen};
 ghost use Rattle.place_run.specs.Runs.{IsAnswering};
-ghost use Rattle.place_run.specs.Says.{MayOpenAudit};
+ghost use Rattle.place_run.specs.Says.{audited_plan, named};
 ghost use Rattle.place_run.specs.commands.Audit.{verdict_ending, verdict_row};
 
 use crate::answer::Answer;
@@ -34,10 +36,11 @@ pub(crate) fn audit<R: Threads + Sync, H: Shelf>(
     workers: u32,
 ) -> Result<Answer, Stop>
     requires words { 5 ≤ length words.now }
-    requires granted { MayOpenAudit (H.files shelf.old) (H.grants shelf.old) (texts words.now) }
+    requires granted { MayOpen (H.files shelf.old) (H.grants shelf.old) (named (texts words.now))
+        audited_plan }
     requires workers { (1 ≤ workers) × (workers ≤ MAX_WORKERS) }
     ensures answers { IsAnswering (H.files shelf.old) (texts words.now) (Ok (command.Audit workers))
-        result (H.faults shelf.old) (H.faults shelf.new) (H.tally shelf.old) (H.tally shelf.new) }
+        result (moment H.faults H.tally shelf.old) (moment H.faults H.tally shelf.new) }
     ensures files { H.files shelf.new ≡ H.files shelf.old }
     ensures grants { H.grants shelf.new ≡ H.grants shelf.old }
 {

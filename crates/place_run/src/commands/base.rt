@@ -6,8 +6,10 @@ ghost use Rattle.command_words.specs.declared.words.Command.TheVariants as comma
 ghost use Rattle.command_words.specs.declared.words.TheConstants.{MAX_WORKERS};
 ghost use Rattle.programme_table.specs.Table.{codes_of};
 ghost use Rattle.place_run.specs.Placings.{IsNamedPlacement};
+ghost use Rattle.run_frame.specs.Files.{moment};
+ghost use Rattle.run_frame.specs.Plans.{MayOpen};
 ghost use Rattle.place_run.specs.Runs.{IsAnswering};
-ghost use Rattle.place_run.specs.Says.{MayOpenTables};
+ghost use Rattle.place_run.specs.Says.{named, tables_plan};
 ghost use Rattle.place_run.specs.commands.Base.{base_text as text_of_bases};
 
 use crate::answer::Answer;
@@ -33,10 +35,11 @@ pub(crate) fn base<R: Threads + Sync, H: Shelf, G: Gate>(
     gate: &G,
 ) -> Result<Answer, Stop>
     requires words { 4 ≤ length words.now }
-    requires granted { MayOpenTables (H.files shelf.old) (H.grants shelf.old) (texts words.now) }
+    requires granted { MayOpen (H.files shelf.old) (H.grants shelf.old) (named (texts words.now))
+        tables_plan }
     requires workers { (1 ≤ workers) × (workers ≤ MAX_WORKERS) }
     ensures answers { IsAnswering (H.files shelf.old) (texts words.now) (Ok (command.Base workers))
-        result (H.faults shelf.old) (H.faults shelf.new) (H.tally shelf.old) (H.tally shelf.new) }
+        result (moment H.faults H.tally shelf.old) (moment H.faults H.tally shelf.new) }
     ensures files { H.files shelf.new ≡ H.files shelf.old }
     ensures grants { H.grants shelf.new ≡ H.grants shelf.old }
 {

@@ -1,13 +1,15 @@
 // Three files with a fault, and often with further ones, in one row, in one file and in several.
-use super::{BAD_CANDIDATES, BAD_RANKS, CANDIDATES, PROGRAMMES, TWENTY_FIVE_PROGRAMMES};
+use super::{
+    BAD_CANDIDATES, BAD_RANKS, CANDIDATES, ONE_RANK, PROGRAMMES, RANKS, TWENTY_FIVE_PROGRAMMES,
+};
 
 // Programmes, candidates and ranks, and the note of their first fault.
 pub(super) const FAULTY: [(&[u8], &[u8], &[u8], &[u8]); 64] = [
     // The programmes come first, whatever is wrong with the other files.
     (
         b"",
-        BAD_CANDIDATES,
-        BAD_RANKS,
+        CANDIDATES,
+        RANKS,
         b"fault programmes line 1 field 0 F01 Header earlier 0\n",
     ),
     (
@@ -95,9 +97,9 @@ pub(super) const FAULTY: [(&[u8], &[u8], &[u8], &[u8]); 64] = [
         b"fault programmes line 2 field 3 F03 NotNumber earlier 0\n",
     ),
     (
-        b"programme,type,quota\n101,SAY,100001\n",
-        BAD_CANDIDATES,
-        BAD_RANKS,
+        b"programme,type,quota\n101,SAY,100001\n201,EA,1\n",
+        CANDIDATES,
+        RANKS,
         b"fault programmes line 2 field 3 F04 OutOfRange earlier 0\n",
     ),
     (
@@ -218,7 +220,7 @@ pub(super) const FAULTY: [(&[u8], &[u8], &[u8], &[u8]); 64] = [
     (
         TWENTY_FIVE_PROGRAMMES,
         b"candidate,list\n1,1;2;3;4;5;6;7;8;9;10;11;12;13;14;15;16;17;18;19;20;21;22;23;24;25\n",
-        BAD_RANKS,
+        ONE_RANK,
         b"fault candidates line 2 field 2 F08 ListTooLong earlier 0\n",
     ),
     (
@@ -230,13 +232,13 @@ pub(super) const FAULTY: [(&[u8], &[u8], &[u8], &[u8]); 64] = [
     (
         TWENTY_FIVE_PROGRAMMES,
         b"candidate,list\n1,1;1\n",
-        BAD_RANKS,
+        ONE_RANK,
         b"fault candidates line 2 field 2 F06 Duplicate earlier 2\n",
     ),
     (
         TWENTY_FIVE_PROGRAMMES,
         b"candidate,list\n1,1;26\n",
-        BAD_RANKS,
+        ONE_RANK,
         b"fault candidates line 2 field 2 F07 UnknownProgramme earlier 0\n",
     ),
     (
@@ -321,7 +323,7 @@ pub(super) const FAULTY: [(&[u8], &[u8], &[u8], &[u8]); 64] = [
     (
         PROGRAMMES,
         CANDIDATES,
-        b"candidate,type,rank\n1,SAY,+5\n1,SAY,5\n",
+        b"candidate,type,rank\n1,SAY,+5\n2,SAY,2\n1,EA,1\n2,EA,2\n",
         b"fault ranks line 2 field 3 F03 NotNumber earlier 0\n",
     ),
     (

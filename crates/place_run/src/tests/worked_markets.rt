@@ -1,5 +1,5 @@
 // Worked markets, as their files.
-use super::{CANDIDATES, PLACED, PROGRAMMES, RANKS, TWENTY_FIVE_PROGRAMMES};
+use super::{CANDIDATES, ONE_RANK, PLACED, PROGRAMMES, RANKS, TWENTY_FIVE_PROGRAMMES};
 
 // The files of three rounds: one cut leads to the next.
 pub(super) const CHAIN_PROGRAMMES: &[u8] = b"programme,type,quota\n11,A,1\n12,A,1\n21,B,1\n";
@@ -96,15 +96,15 @@ pub(super) const MARKETS: [Worked; 14] = [
         reasons: b"candidate,programme,reason,base\n1,101,NORANK,-\n",
         counts: (1, 0, 0),
     },
-    // No rank, and an empty list.
+    // The same, and a candidate with an empty list.
     Worked {
         programmes: b"programme,type,quota\n101,SAY,1\n",
         candidates: b"candidate,list\n1,101\n2,\n",
-        ranks: b"candidate,type,rank\n2,SAY,1\n",
+        ranks: b"candidate,type,rank\n",
         placed: b"candidate,programme\n1,-\n2,-\n",
         base: b"programme,quota,held,base\n101,1,0,-\n",
         reasons: b"candidate,programme,reason,base\n1,101,NORANK,-\n",
-        counts: (1, 0, 1),
+        counts: (1, 0, 0),
     },
     // Ranks of an unknown candidate and in an unknown type.
     Worked {
@@ -121,7 +121,7 @@ pub(super) const MARKETS: [Worked; 14] = [
     Worked {
         programmes: TWENTY_FIVE_PROGRAMMES,
         candidates: b"candidate,list\n1,1;2;3;4;5;6;7;8;9;10;11;12;13;14;15;16;17;18;19;20;21;22;23;24\n",
-        ranks: b"candidate,type,rank\n1,A,1\n",
+        ranks: ONE_RANK,
         placed: b"candidate,programme\n1,1\n",
         base: b"programme,quota,held,base\n1,1,1,1\n2,1,0,-\n3,1,0,-\n4,1,0,-\n5,1,0,-\n\
             6,1,0,-\n7,1,0,-\n8,1,0,-\n9,1,0,-\n10,1,0,-\n11,1,0,-\n12,1,0,-\n13,1,0,-\n\
@@ -199,4 +199,15 @@ pub(super) const MARKETS: [Worked; 14] = [
             2,201,NORANK,-\n",
         counts: (2, 1, 4),
     },
+];
+
+// What `fixed` prints of the exchange, which has two stable placements, of the market without a seat,
+// and of that without a rank.
+pub(super) const SHARED: [(usize, &[u8]); 3] = [
+    (0, b"row,number,held\nPROGRAMME,101,1\nPROGRAMME,201,1\n"),
+    (4, b"row,number,held\nCANDIDATE,1,0\nPROGRAMME,101,0\n"),
+    (
+        6,
+        b"row,number,held\nCANDIDATE,1,0\nCANDIDATE,2,0\nPROGRAMME,101,0\n",
+    ),
 ];

@@ -20,6 +20,6 @@ load-found-requires c =
 
 pub cell_of-requires : goal.cell_of-requires
 cell_of-requires c =
-    let small = found_small _ _ _ _ _ c.args.round.now.valid c.requires.seat.dict
+    let small = found_small _ _ _ _ _ _ c.args.round.now.valid c.requires.seat.dict
     c.requires.may.idle c.load-found.ensures.2 in
     omega arith

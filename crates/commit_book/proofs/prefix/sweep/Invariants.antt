@@ -1,14 +1,13 @@
 use Rattle.std.proofs.Common.{◌≡◌, ◌+◌, ◌-◌}
-use Rattle.interleaving_core.specs.declared.parts.Phase.TheVariants.{Idle}
 use Rattle.interleaving_core.specs.Core.{turn_count}
-use Rattle.word_rule.specs.Holder.{as_holder}
+use Rattle.word_rule.specs.Holder.{having_sealed}
 use Rattle.word_rule.specs.Rounds.{Stays, knows}
 use Rattle.commit_book.proofs.prefix.sweep.Given as goal
 
 abbrev pub invariant-loop-place : goal.invariant-loop-place
 invariant-loop-place l = record {
   stays : Stays l.fn.me l.me;
-  view : knows l.me ≡ as_holder (knows l.fn.me) (l.fn.me.committed + l.count) Idle;
+  view : knows l.me ≡ having_sealed (knows l.fn.me) l.fn.me.committed l.count;
 }
 
 abbrev pub decreases-loop-place : goal.decreases-loop-place

@@ -8,6 +8,6 @@ pass-requires-after_bounds g c κs within =
 
 pub pass-requires-3-after_bounds : goal.pass-requires-3-after_bounds
 pass-requires-3-after_bounds g c κs within =
-    has_released c.args.me.now c.loop-place.me c.look.new.me c.release.new.me _ _ _
+    has_released c.args.me.now c.loop-place.me c.look.new.me c.release.new.me _ _ _ _
     c.requires.working c.requires.may c.loop-place.invariant.view
     (c.in_default.ensures {u = tt}).event c.release.ensures.event

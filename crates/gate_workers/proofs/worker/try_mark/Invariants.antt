@@ -1,16 +1,14 @@
-use Rattle.std.proofs.Common.{◌≡◌, ◌-◌, ◌≤◌, false}
-use Rattle.interleaving_core.specs.declared.parts.Phase.TheVariants.{Idle}
+use Rattle.std.proofs.Common.{◌≡◌, ◌-◌, ◌≤◌}
 use Rattle.interleaving_core.specs.Core.{turn_count}
 use Rattle.word_rule.specs.Rounds.{Stays, knows}
-use Rattle.word_rule.specs.Holder.{tried}
-use Rattle.word_rule.specs.Holder.{as_holder}
+use Rattle.gate_workers.proofs.Points.{at_work}
 use Rattle.gate_workers.proofs.worker.try_mark.Given as goal
 
 abbrev pub invariant-loop-place : goal.invariant-loop-place
 invariant-loop-place g l = record {
   stays : Stays l.fn.me l.me;
   view : knows l.me
-      ≡ as_holder (tried (knows l.fn.me) false (knows l.me).took) l.me.committed Idle;
+      ≡ at_work (knows l.fn.me) (knows l.me).took l.me.committed (knows l.me).sealed;
   within : (knows l.me).took ≤ l.me.committed;
 }
 

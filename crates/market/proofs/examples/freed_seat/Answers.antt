@@ -1,10 +1,13 @@
-use Rattle.market.specs.Examples.{freed_seat}
-use Rattle.market.proofs.Checks.{freed_seat_valid, parts_valid}
+use Rattle.market.specs.Examples.{freed_seat, prog}
+use Rattle.market.proofs.Checks.{freed_seat_valid, parts_valid, two_items}
 use Rattle.market.proofs.examples.freed_seat.Goals as goal
 
 pub build-requires : goal.build-requires
 build-requires c =
     parts_valid freed_seat c.in_ok-programmes.programmes.items c.in_ok-lists.lists.items
     c.in_ok-orders.orders.items c.in_ok-ranks.ranks.items freed_seat_valid
-    c.in_ok-programmes.ensures.items c.in_ok-lists.ensures c.in_ok-orders.ensures
+    (two_items c.one_seat.result c.one_seat-2.result (prog 0 1) (prog 1 1)
+    c.in_ok-programmes.programmes.items c.in_ok-programmes.ensures.items c.one_seat.ensures
+    c.one_seat-2.ensures)
+    c.in_ok-lists.ensures c.in_ok-orders.ensures
     c.in_ok-ranks.ensures

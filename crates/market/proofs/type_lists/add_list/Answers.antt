@@ -1,6 +1,5 @@
-use Rattle.std.proofs.Common.{ℕ, ◌∷◌, [], ◌++◌, ◌∙◌, ap, List, Vec, Global, arith, map, length}
+use Rattle.std.proofs.Common.{ℕ, ◌∷◌, [], ◌++◌, ◌∙◌, ap, sym, List, Vec, Global, arith, map, length}
 use Rattle.std.specs.Prelude.{slice_index, filter}
-use Rattle.std.proofs.lemmas.Bool.{eq-eqb, ne_eqb}
 use Rattle.std.proofs.lemmas.List.{take_all}
 use Rattle.market.specs.Problems.{list_of}
 use Rattle.market.specs.Mechanism.{is_offered}
@@ -10,7 +9,7 @@ use Rattle.market.proofs.Dicts.{read_lt}
 use Rattle.market.proofs.Tentatives.{offered-is}
 use Rattle.market.proofs.Below.{places_more, places_same, items_more, items_same}
 use Rattle.market.proofs.type_lists.add_list.Goals as goal
-use Rattle.market.proofs.type_lists.add_list.Goals.{then-programme-kind+in_ok-push+in_ok-push-2, else-programme-kind}
+use Rattle.market.proofs.type_lists.add_list.Goals.{then-is_offered+in_ok-push+in_ok-push-2, else-is_offered}
 
 pub loop-place-preserved : goal.loop-place-preserved
 loop-place-preserved c =
@@ -23,30 +22,31 @@ loop-place-preserved c =
     let l = c.loop-place-test.true in
     let lp = read_lt xs (list_of m i) (length m.programmes) c.list-list.ensures.list
     (λ j lj. c.list-list.ensures.valid.list_entries i j c.requires.candidate lj) k l in
-    let test = offered-is m t i p c.programme.result c.programme.ensures in
+    let test = offered-is m t i p c.programme.result c.args.rank c.programme.ensures
+    c.requires.rank ∙ sym c.is_offered.ensures in
     let f = is_offered m t i in
-    elim c.if-programme-kind.branch [
-      | then-programme-kind+in_ok-push+in_ok-push-2 w ↦ record {
+    elim c.if-is_offered.branch [
+      | then-is_offered+in_ok-push+in_ok-push-2 w ↦ record {
         items = items_more (local_of m) f xs c.args.items.now.items c.loop-place.items.items _ k l
-            (test ∙ eq-eqb c.programme.result.kind t w.if-programme-kind.true)
+            (test ∙ w.if-is_offered.true)
             c.loop-place.invariant.items
             (ap (λ (v : Vec ℕ Global). v.items) w.items-is ∙ w.in_ok-push.ensures.items
             ∙ ap (λ (x : ℕ). c.loop-place.items.items ++ x ∷ []) (c.requires.numbers.each p lp));
         places = places_more f xs c.args.places.now.items c.loop-place.places.items _ k l
-            (test ∙ eq-eqb c.programme.result.kind t w.if-programme-kind.true)
+            (test ∙ w.if-is_offered.true)
             c.loop-place.invariant.places
             (ap (λ (v : Vec ℕ Global). v.items) w.places-is ∙ w.in_ok-push-2.ensures.items);
       }
-      | else-programme-kind w ↦ record {
+      | else-is_offered w ↦ record {
         items =
             ap (λ (v : Vec ℕ Global). v.items) w.items-is
             ∙ items_same (local_of m) f xs c.args.items.now.items c.loop-place.items.items k l
-            (test ∙ ne_eqb c.programme.result.kind t w.if-programme-kind.false)
+            (test ∙ w.if-is_offered.false)
             c.loop-place.invariant.items;
         places =
             ap (λ (v : Vec ℕ Global). v.items) w.places-is
             ∙ places_same f xs c.args.places.now.items c.loop-place.places.items k l
-            (test ∙ ne_eqb c.programme.result.kind t w.if-programme-kind.false)
+            (test ∙ w.if-is_offered.false)
             c.loop-place.invariant.places;
       }
     ]

@@ -4,11 +4,11 @@ use Rattle.market.specs.FlatLists.{IsFlat}
 use Rattle.market.specs.TypeLists.{type_items, type_places}
 use Rattle.market.proofs.type_lists.lists_of_type.Given as goal
 
-abbrev pub invariant-loop-candidate : goal.invariant-loop-candidate
-invariant-loop-candidate l = record {
+abbrev pub invariant-loop-turn : goal.invariant-loop-turn
+invariant-loop-turn l = record {
   items : IsFlat l.items.items l.bounds.items
-      (map (type_items l.parts l.fn.kind) (take l.candidate-index l.order));
+      (map (type_items l.parts l.fn.kind) (take l.turn l.order));
   places : IsFlat l.places.items l.bounds.items
-      (map (type_places l.parts l.fn.kind) (take l.candidate-index l.order));
-  few : length l.items.items ≤ MAX_ENTRIES * l.candidate-index;
+      (map (type_places l.parts l.fn.kind) (take l.turn l.order));
+  few : length l.items.items ≤ MAX_ENTRIES * l.turn;
 }

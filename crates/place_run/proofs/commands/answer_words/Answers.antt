@@ -2,7 +2,7 @@ use Rattle.std.proofs.Common.{◌≡◌, Ok, sym, arith}
 use Rattle.std.specs.Prelude.{string_bytes}
 use Rattle.std.proofs.lemmas.List.{length-map}
 use Rattle.command_words.specs.Words.{command_of, texts}
-use Rattle.command_words.specs.declared.words.Command.TheVariants.{Place, Base, Reasons, Audit, Make}
+use Rattle.command_words.specs.declared.words.Command.TheVariants.{Place, Base, Reasons, Audit, Fixed, Make}
 use Rattle.command_words.proofs.Fitting.{fits}
 use Rattle.place_run.proofs.Answering.{words-refused}
 use Rattle.place_run.proofs.Summaries.{summarised}
@@ -37,6 +37,21 @@ base-requires-clause-workers g c κs within =
     let given : command_of (texts words) ≡ Ok (Base c.in-Ok-Base.workers) = cc
     (c.read_words.ensures, c.in-Ok-Base.is, c.in-Ok-Base.field-0-is, c.in-Ok-Base.workers-is) in
     (fits (texts words) (Base c.in-Ok-Base.workers) given).workers
+
+pub fixed-requires-clause-words : goal.fixed-requires-clause-words
+fixed-requires-clause-words g c κs within =
+    let words = c.args.words.now in
+    let given : command_of (texts words) ≡ Ok (Fixed c.in-Ok-Fixed.workers) = cc
+    (c.read_words.ensures, c.in-Ok-Fixed.is, c.in-Ok-Fixed.field-0-is, c.in-Ok-Fixed.workers-is) in
+    let enough = (fits (texts words) (Fixed c.in-Ok-Fixed.workers) given).words in
+    omega (arith, enough, length-map words string_bytes)
+
+pub fixed-requires-clause-workers : goal.fixed-requires-clause-workers
+fixed-requires-clause-workers g c κs within =
+    let words = c.args.words.now in
+    let given : command_of (texts words) ≡ Ok (Fixed c.in-Ok-Fixed.workers) = cc
+    (c.read_words.ensures, c.in-Ok-Fixed.is, c.in-Ok-Fixed.field-0-is, c.in-Ok-Fixed.workers-is) in
+    (fits (texts words) (Fixed c.in-Ok-Fixed.workers) given).workers
 
 pub reasons-requires-clause-words : goal.reasons-requires-clause-words
 reasons-requires-clause-words g c κs within =
@@ -78,7 +93,7 @@ audit-requires-clause-workers g c κs within =
 
 pub returns-in-Err-clause-answers : goal.returns-in-Err-clause-answers
 returns-in-Err-clause-answers g c =
-    words-refused _ (texts c.args.words.now) _ c.in-Err.refused _ _ (sym c.in-Err.ensures)
+    words-refused _ (texts c.args.words.now) _ c.in-Err.refused _ (sym c.in-Err.ensures)
 
 pub make-requires-clause-candidates : goal.make-requires-clause-candidates
 make-requires-clause-candidates g c κs within =
@@ -125,4 +140,4 @@ returns-in-Ok-Make-clause-answers g c =
     let given : command_of words ≡ Ok command = cc
     (c.read_words.ensures, made.is, made.field-0-is) in
     summarised _ words _ made.seed made.candidates made.programmes made.types made.workers
-    c.make.result _ _ given c.make.ensures
+    c.make.result _ given c.make.ensures

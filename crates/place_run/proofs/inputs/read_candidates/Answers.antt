@@ -3,7 +3,7 @@ use Rattle.std.proofs.Common.{length}
 use Rattle.programme_table.specs.Table.{codes_of}
 use Rattle.candidate_table.specs.Table.{IsPreferenceList}
 use Rattle.run_frame.proofs.JudgedTables.{judged-lent, judged-stop, table-ok}
-use Rattle.place_run.proofs.TableFaults.{candidates-judges}
+use Rattle.place_run.proofs.JudgedFiles.{candidates-judges}
 use Rattle.place_run.proofs.inputs.read_candidates.Goals as goal
 
 pub returns-in_err-bytes-clause-judged : goal.returns-in_err-bytes-clause-judged

@@ -1,5 +1,5 @@
 use Rattle.run_frame.proofs.JudgedTables.{judged-lent, judged-stop}
-use Rattle.place_run.proofs.TableFaults.{programmes-judges}
+use Rattle.place_run.proofs.JudgedFiles.{programmes-judges}
 use Rattle.place_run.proofs.inputs.read_programmes.Goals as goal
 
 pub returns-in_err-bytes-clause-judged : goal.returns-in_err-bytes-clause-judged

@@ -4,7 +4,7 @@ use Rattle.candidate_table.specs.Table.{numbers_of}
 use Rattle.rank_lists.specs.Table.{RankTable, ranks_table}
 use Rattle.run_frame.proofs.JudgedTables.{judged-lent, judged-stop, table-ok, table-read}
 use Rattle.place_run.proofs.Markets.{types-in-ranks}
-use Rattle.place_run.proofs.TableFaults.{ranks-judges}
+use Rattle.place_run.proofs.JudgedFiles.{ranks-judges}
 use Rattle.place_run.proofs.inputs.read_ranks.Goals as goal
 
 pub returns-in_err-bytes-clause-judged : goal.returns-in_err-bytes-clause-judged

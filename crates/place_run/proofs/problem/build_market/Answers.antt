@@ -27,7 +27,7 @@ build_by-requires-clause-valid g c κs within =
     c.into_parts-orders.result.ranks.items c.args.ranks few_types few c.requires.few
     (subst (λ n. All (λ (one : Prog). one.kind < n) items) (sym c.type_count-kinds.ensures.length)
     c.in_ok-programmes.ensures.kinds)
-    c.in_ok-programmes.ensures.quotas
+    c.in_ok-programmes.ensures.quotas c.in_ok-programmes.ensures.bars
     (subst (λ n. All (IsPreferenceList n) c.args.lists.items) coded c.requires.lists)
     (c.requires.types ∙ sym c.type_count-kinds.ensures.length) c.requires.candidates
     c.into_parts-orders.ensures.sound

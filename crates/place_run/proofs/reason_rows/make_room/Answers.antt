@@ -9,6 +9,7 @@ pub returns-else-room-lt-ROW-clause-queued : goal.returns-else-room-lt-ROW-claus
 returns-else-room-lt-ROW-clause-queued g c = record {
   whole = queued-nothing c.args.rows.now (g.K.Sink.written c.args.out.now)
       (g.K.Sink.written c.args.out.now) refl;
+  quiet = refl;
   prefix = tt;
   failed = tt;
   later = omega arith;
@@ -23,6 +24,7 @@ returns-in_ok-write_whole-clause-queued g c = record {
         c.in_ok-write_whole.ensures.whole;
     rest = ap (λ v. c.args.rows.now ++ v) c.clear.ensures;
   };
+  quiet = c.in_ok-write_whole.ensures.quiet;
   prefix = tt;
   failed = tt;
   later = c.in_ok-write_whole.ensures.later;

@@ -1,4 +1,4 @@
-use Rattle.std.proofs.Common.{◌<◌, ◌≤◌, ◌++◌, [], Err, length, ap, subst, append-nil, arith}
+use Rattle.std.proofs.Common.{◌∙◌, ◌<◌, ◌≤◌, ◌++◌, [], Err, length, ap, subst, append-nil, arith}
 use Rattle.candidate_table.specs.Table.{numbers_of}
 use Rattle.market.specs.Problems.{list_of}
 use Rattle.programme_table.specs.Table.{codes_of}
@@ -35,7 +35,7 @@ returns-in_err-make_room g c =
     (g.K.Sink.faults c.args.out.now) (g.K.Sink.faults c.make_room.new.out))
     c.from_residual.result error c.from_residual.ensures.1
     (unqueued-of _ error _ _ _ _ _ _ (texts-unqueued row count c.loop-place.place error _ held _ _
-    _ _ _ _ within c.loop-place.invariant.so_far c.loop-place.invariant.later whole))
+    _ _ _ _ within c.loop-place.invariant.so_far c.loop-place.invariant.quiet whole))
 
 pub loop-place-preserved : goal.loop-place-preserved
 loop-place-preserved g c =
@@ -48,7 +48,7 @@ loop-place-preserved g c =
     (arith, listed, c.loop-place-test.true) in
     let room = c.in_ok-make_room.ensures.queued in
     record {
-      later = omega (arith, c.loop-place.invariant.later, room.later);
+      quiet = room.quiet ∙ c.loop-place.invariant.quiet;
       so_far = queued-more row count c.loop-place.place _ _ _ _ _ _ within
           c.loop-place.invariant.so_far
           (queued-put [] (row c.loop-place.place) _ _ _ _ _ room.whole c.put_entry.ensures);
@@ -69,7 +69,8 @@ returns g c =
       whole = subst (λ v. AreQueued v c.args.rows.now c.loop-place.rows
           (g.K.Sink.written c.args.out.now) (g.K.Sink.written c.loop-place.out))
           (texts-all row count c.loop-place.place all) c.loop-place.invariant.so_far;
+      quiet = c.loop-place.invariant.quiet;
       prefix = tt;
       failed = tt;
-      later = c.loop-place.invariant.later;
+      later = omega (arith, c.loop-place.invariant.quiet);
     }

@@ -1,4 +1,4 @@
-use Rattle.std.proofs.Common.{◌<◌, ◌≤◌, length, subst, arith}
+use Rattle.std.proofs.Common.{◌∙◌, ◌<◌, ◌≤◌, length, subst, arith}
 use Rattle.candidate_table.specs.Table.{numbers_of}
 use Rattle.programme_table.specs.Table.{codes_of}
 use Rattle.run_frame.proofs.Parts.{at-error}
@@ -25,7 +25,7 @@ returns-in_err-queue_candidate g c =
     (g.K.Sink.faults c.args.out.now) (g.K.Sink.faults c.queue_candidate.new.out))
     c.from_residual.result error c.from_residual.ensures.1
     (unqueued-of _ error _ _ _ _ _ _ (texts-unqueued text count c.loop-candidate.candidate error
-    _ _ _ _ _ _ _ _ within c.loop-candidate.invariant.so_far c.loop-candidate.invariant.later
+    _ _ _ _ _ _ _ _ within c.loop-candidate.invariant.so_far c.loop-candidate.invariant.quiet
     (unwritten-of (text c.loop-candidate.candidate) error _ _ _ _ _ _
     c.in_err-queue_candidate.ensures)))
 
@@ -40,7 +40,7 @@ loop-candidate-preserved g c =
     (arith, counted, c.loop-candidate-test.true) in
     let queued = c.in_ok-queue_candidate.ensures in
     record {
-      later = omega (arith, c.loop-candidate.invariant.later, queued.later);
+      quiet = queued.quiet ∙ c.loop-candidate.invariant.quiet;
       so_far = queued-more text count c.loop-candidate.candidate _ _ _ _ _ _ within
           c.loop-candidate.invariant.so_far queued.whole;
     }
@@ -58,7 +58,8 @@ returns g c =
       whole = subst (λ v. AreQueued v c.args.rows.now c.loop-candidate.rows
           (g.K.Sink.written c.args.out.now) (g.K.Sink.written c.loop-candidate.out))
           (texts-all text count c.loop-candidate.candidate all) c.loop-candidate.invariant.so_far;
+      quiet = c.loop-candidate.invariant.quiet;
       prefix = tt;
       failed = tt;
-      later = c.loop-candidate.invariant.later;
+      later = omega (arith, c.loop-candidate.invariant.quiet);
     }

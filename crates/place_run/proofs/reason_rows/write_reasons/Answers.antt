@@ -38,7 +38,7 @@ returns g c =
     subst (λ v. IsWritten (v ++ rows) c.write_whole.result
     (g.K.Sink.written c.args.out.now) (g.K.Sink.written c.write_whole.new.sink)
     (g.K.Sink.faults c.args.out.now) (g.K.Sink.faults c.write_whole.new.sink)) header
-    (queued-written rows c.write_whole.result _ _ _ _ _ _ _ _ queued.whole queued.later
+    (queued-written rows c.write_whole.result _ _ _ _ _ _ _ _ queued.whole queued.quiet
     (subst (λ v. IsWritten v c.write_whole.result
     (g.K.Sink.written c.queue_rows.new.out) (g.K.Sink.written c.write_whole.new.sink)
     (g.K.Sink.faults c.queue_rows.new.out) (g.K.Sink.faults c.write_whole.new.sink))

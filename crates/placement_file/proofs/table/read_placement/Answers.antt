@@ -12,7 +12,7 @@ pub read_table-requires-clause-empty : goal.read_table-requires-clause-empty
 read_table-requires-clause-empty g c =
     let programmes = g.P.Finder.numbers c.args.programmes.now in
     let candidates = g.C.Finder.numbers c.args.candidates.now in
-    record {
+    λ version. record {
       distinct = c.count.ensures.distinct;
       entries_are = c.in_ok-items.ensures
           ∙ ap (λ (n : ℕ). replicate {A = Option Held} n None) c.count.ensures.length

@@ -19,13 +19,17 @@ returns g c =
     let few : length numbers ≤ INDEXES = omega (arith, c.count.ensures.length, c.count.type_inv) in
     let P : Option (Vec PartRanks Global) → Type 0 = λ read. IfSome read (λ tables.
     AreReadAhead own_rules
-    (HasStandings (g.T.TypeFinder.names c.in_ok-known.known.types.now)
+    (λ version. HasStandings (g.T.TypeFinder.names c.in_ok-known.known.types.now)
     (g.C.Finder.numbers c.in_ok-known.known.candidates.now)) bytes tables.items) in
     let known_names = g.T.TypeFinder.names c.in_ok-known.known.types.now in
     let read =
-    subst (λ (all : List (List ℕ)). AreReadAhead own_rules (HasStandings all numbers) bytes parts)
+    subst
+    (λ (all : List (List ℕ)).
+    AreReadAhead own_rules (λ version. HasStandings all numbers) bytes parts)
     (ap g.T.TypeFinder.names c.in_ok-known.ensures.types)
-    (subst (λ (all : List ℕ). AreReadAhead own_rules (HasStandings known_names all) bytes parts)
+    (subst
+    (λ (all : List ℕ).
+    AreReadAhead own_rules (λ version. HasStandings known_names all) bytes parts)
     (ap g.C.Finder.numbers c.in_ok-known.ensures.candidates)
     (subst P c.in-Some.is (c.in_ok-parts.ensures {u = tt}))) in
     let yes : IsTrue c.are_known.result = search rules in

@@ -2,7 +2,7 @@ use Rattle.std.proofs.Common.{◌≡◌, ◌∙◌, None, Some, ap, drop, subst,
 use Rattle.std.proofs.lemmas.Result.{IfOk-weaker}
 use Rattle.record_files.proofs.FirstFaultLemmas.{AreRowsRead-refused, AreRowsRead-taken}
 use Rattle.record_files.specs.FirstFaults.{first_row_fault}
-use Rattle.record_files.specs.Form.{header_in}
+use Rattle.record_files.specs.Form.{header_in, version_in}
 use Rattle.record_files.specs.ReadTo.{AreRowsTaken}
 use Rattle.record_files.specs.Rows.{data_rows, rows}
 use Rattle.record_files.proofs.reading.read_rows.Goals as goal
@@ -32,4 +32,4 @@ returns-in-Err g c =
     (λ j. first_row_fault (sym c.form.ensures j) (sym c.of_bytes-records.ensures j))
     ∙ c.in-Err.ensures.result in
     AreRowsRead-refused of_file bytes (g.T.RowTable.has_rows c.args.beside.now) c.args.table
-    c.in-Err.fault told c.requires.empty
+    c.in-Err.fault told (c.requires.empty (version_in of_file.form bytes))

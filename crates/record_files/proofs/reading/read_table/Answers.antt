@@ -1,6 +1,7 @@
 use Rattle.std.proofs.Common.{◌≡◌, ◌∙◌, ap, subst, Err, List, length, arith}
 use Rattle.std.proofs.lemmas.List.{take_all}
 use Rattle.std.proofs.lemmas.Result.{err_from_is_err_and}
+use Rattle.record_files.specs.Form.{version_in}
 use Rattle.record_files.specs.Rows.{Row, data_rows}
 use Rattle.record_files.proofs.reading.read_table.Goals as goal
 
@@ -14,7 +15,9 @@ returns-in-None g c =
     let read = c.in_ok-read.ensures in
     let all = data_rows c.args.bytes.now in
     let count = c.in_ok-read.read.count in
-    let rows = g.T.RowTable.has_rows c.args.beside.now in
+    let of_file = g.T.RowTable.rules c.args.beside.now in
+    let rows = g.T.RowTable.has_rows c.args.beside.now
+    (version_in of_file.form c.args.bytes.now) in
     let whole : count ≡ length all = read.taken.whole c.in-None.is in (
       read.first ∙ c.in-None.is,
       subst

@@ -7,7 +7,7 @@ pub rows-init : goal.rows-init
 rows-init g c = record {
   few = omega arith;
   taken = TakesTo-begin (g.T.RowTable.rules c.args.beside.now) c.args.header
-      (g.T.RowTable.has_rows c.args.beside.now) c.args.records c.args.table c.requires.empty;
+      (g.T.RowTable.has_rows c.args.beside.now) c.args.records c.args.table (c.requires.empty c.args.header.version);
 }
 
 pub returns-in-Some-2 : goal.returns-in-Some-2

@@ -1,5 +1,5 @@
 use Rattle.run_frame.proofs.JudgedTables.{judged-lent, judged-stop}
-use Rattle.registration_desk.proofs.DeskFaults.{requests-judges}
+use Rattle.registration_desk.proofs.JudgedFiles.{requests-judges}
 use Rattle.registration_desk.proofs.inputs.read_request_list.Goals as goal
 
 pub returns-in_err-bytes-clause-judged : goal.returns-in_err-bytes-clause-judged

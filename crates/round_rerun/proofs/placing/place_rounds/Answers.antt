@@ -1,8 +1,8 @@
 use Rattle.std.proofs.Common.{ℕ, ◌∙◌, arith}
+use Rattle.market.specs.Counting.{HasRisenWithin}
 use Rattle.market.proofs.Plain.{rounds_small, total_small}
 use Rattle.market.proofs.Replays.{round-within, round-count, round-table}
 use Rattle.market.specs.Reruns.{placement_turns}
-use Rattle.round_rerun.specs.Runs.{HasRisenWithin}
 use Rattle.round_rerun.proofs.Replaying.{replay-none, replay-within, replay-more, replay-fall, replay-risen, replay-last, err_too}
 use Rattle.round_rerun.proofs.placing.place_rounds.Goals as goal
 

@@ -2,12 +2,12 @@ use Rattle.std.proofs.Common.{ℕ, ◌-◌, ◌<◌, ◌∙◌, ap, sym, subst, 
 use Rattle.std.specs.Prelude.{slice_index_or, unwrap_or}
 use Rattle.std.proofs.lemmas.Bool.{cases_eq}
 use Rattle.market.specs.Problems.{order_of}
-use Rattle.market.specs.Counting.{sum_below}
+use Rattle.market.specs.Counting.{sum_below, HasRisenWithin}
 use Rattle.market.specs.Reruns.{IsRunUpto}
 use Rattle.market.proofs.Dicts.{order-le}
 use Rattle.market.proofs.Plain.{sum_next}
 use Rattle.market.proofs.Replays.{round-rows}
-use Rattle.round_rerun.specs.Runs.{first_turn_of, run_turns, HasRisenWithin}
+use Rattle.round_rerun.specs.Runs.{first_turn_of, run_turns}
 use Rattle.round_rerun.proofs.Replaying.{err_too, sum_fewer}
 use Rattle.round_rerun.proofs.placing.run_round.Goals as goal
 

@@ -11,5 +11,5 @@ returns-in_err-write_part g c =
     (g.N.Sink.faults c.args.notes.now) (g.N.Sink.faults c.write_part.new.notes))
     c.from_residual.result c.in_err-write_part.field-0.0 c.from_residual.ensures.1
     (unwritten-at text_of c.args.parts.now c.loop-part.part-index _ _ _ _ _ _ _ _
-    c.loop-part-test.true c.loop-part.invariant.so_far c.loop-part.invariant.later
+    c.loop-part-test.true c.loop-part.invariant.so_far c.loop-part.invariant.quiet
     c.in_err-write_part.ensures)

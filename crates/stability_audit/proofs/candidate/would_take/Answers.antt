@@ -1,9 +1,11 @@
-use Rattle.std.proofs.Common.{ℕ, ◌<◌, inl, inr, refl, sym, ap, ◌∙◌, subst, arith, ⊎_elim}
-use Rattle.std.proofs.lemmas.Bool.{false≢true, lt-ltb, ltb-true}
-use Rattle.market.specs.Problems.{quota_of, rank_of}
+use Rattle.std.proofs.Common.{ℕ, ◌<◌, true, Option, inl, inr, refl, sym, ap, ◌∙◌, subst, arith, ⊎_elim}
+use Rattle.std.proofs.lemmas.Bool.{false≢true}
+use Rattle.market.specs.Problems.{quota_of, kind_of, rank_of}
+use Rattle.market.specs.BaseRanks.{base_rank}
 use Rattle.market.specs.declared.programme.Prog.{Prog}
 use Rattle.reports.proofs.Programmes.{read-kind}
-use Rattle.stability_audit.proofs.Rooms.{worse-holder, worse-base, no-base, admitted-some, some-admitted}
+use Rattle.stability_audit.specs.FirstVerdicts.{is_better}
+use Rattle.stability_audit.proofs.Rooms.{worse-true, worse-from}
 use Rattle.stability_audit.proofs.candidate.would_take.Goals as goal
 
 pub rank-requires-clause-kind : goal.rank-requires-clause-kind
@@ -14,75 +16,46 @@ rank-requires-clause-kind c =
     (sym (read-kind m p c.programme-kind.result c.programme-kind.ensures))
     (c.candidate_count.ensures.valid.kinds p c.requires.programme)
 
-pub returns-in_default : goal.returns-in_default
-returns-in_default c =
-    let m = c.args.market.now in
-    let p = c.args.programme in
-    let kind = read-kind m p c.programme-kind.result c.programme-kind.ensures in
-    let none = ap (λ (t : ℕ). rank_of m t c.args.candidate) (sym kind) ∙ sym c.rank.ensures
-    ∙ c.in_default.is in (
-      λ no_. absurd (false≢true no_),
-      λ takes. absurd
-          (admitted-some m c.args.candidate p none takes.admitted),
-    )
+pub returns-then-not-admits : goal.returns-then-not-admits
+returns-then-not-admits c = (
+  λ no_. absurd (false≢true no_),
+  λ takes. absurd (false≢true (sym c.if-not-admits.true ∙ c.admits.ensures ∙ takes.admitted)),
+)
 
 pub returns-then-held-quota : goal.returns-then-held-quota
 unfolding quota_of
 returns-then-held-quota c =
-    let m = c.args.market.now in
     let p = c.args.programme in
-    let kind = read-kind m p c.programme-kind.result c.programme-kind.ensures in
-    let ranked = ap (λ (t : ℕ). rank_of m t c.args.candidate) (sym kind) ∙ sym c.rank.ensures
-    ∙ c.in-Some.is in
     let quota = ap (λ (q : Prog). q.quota) c.programme-kind.ensures in
     let held = c.held.ensures ∙ c.requires.bases.holders p c.requires.programme in (
       λ _. record {
-        admitted = some-admitted m c.args.candidate p c.in-Some.rank ranked;
+        admitted = sym c.admits.ensures ∙ c.if-not-admits.false;
         room = inl (omega arith);
       },
       λ _. refl,
     )
 
-pub returns-in-Some-base : goal.returns-in-Some-base
+pub returns : goal.returns
 unfolding quota_of
-returns-in-Some-base c =
+returns c =
     let m = c.args.market.now in
     let i = c.args.candidate in
     let p = c.args.programme in
-    let rank = c.in-Some.rank in
+    let placed = c.args.placement.now in
     let kind = read-kind m p c.programme-kind.result c.programme-kind.ensures in
-    let ranked = ap (λ (t : ℕ). rank_of m t i) (sym kind) ∙ sym c.rank.ensures ∙ c.in-Some.is in
     let quota = ap (λ (q : Prog). q.quota) c.programme-kind.ensures in
     let held = c.held.ensures ∙ c.requires.bases.holders p c.requires.programme in
-    let base = sym (c.requires.bases.bases p c.requires.programme) ∙ sym c.base.ensures
-    ∙ c.in-Some-base.is in (
-      λ less. record {
-        admitted = some-admitted m i p rank ranked;
-        room = inr (worse-holder m c.args.placement.now i p rank c.in-Some-base.base ranked base
-            (ltb-true rank c.in-Some-base.base less));
+    let test = c.is_better.ensures
+    ∙ ap (λ (o : Option ℕ). is_better o c.base.result)
+    (c.rank.ensures ∙ ap (λ (t : ℕ). rank_of m t i) kind)
+    ∙ ap (is_better (rank_of m (kind_of m p) i))
+    (c.base.ensures ∙ c.requires.bases.bases p c.requires.programme) in (
+      λ better. record {
+        admitted = sym c.admits.ensures ∙ c.if-not-admits.false;
+        room = inr (worse-from m placed i p (sym test ∙ better));
       },
       λ takes. ⊎_elim
           (λ free. absurd (omega arith))
-          (λ worse. lt-ltb rank c.in-Some-base.base
-          (worse-base m c.args.placement.now i p rank c.in-Some-base.base ranked base worse))
-          takes.room,
-    )
-
-pub returns-in-None : goal.returns-in-None
-unfolding quota_of
-returns-in-None c =
-    let m = c.args.market.now in
-    let i = c.args.candidate in
-    let p = c.args.programme in
-    let kind = read-kind m p c.programme-kind.result c.programme-kind.ensures in
-    let ranked = ap (λ (t : ℕ). rank_of m t i) (sym kind) ∙ sym c.rank.ensures ∙ c.in-Some.is in
-    let quota = ap (λ (q : Prog). q.quota) c.programme-kind.ensures in
-    let held = c.held.ensures ∙ c.requires.bases.holders p c.requires.programme in
-    let base = sym (c.requires.bases.bases p c.requires.programme) ∙ sym c.base.ensures
-    ∙ c.in-None.is in (
-      λ no_. absurd (false≢true no_),
-      λ takes. ⊎_elim
-          (λ free. absurd (omega arith))
-          (λ worse. absurd (no-base m c.args.placement.now i p c.in-Some.rank ranked base worse))
+          (λ worse. test ∙ worse-true m placed i p worse)
           takes.room,
     )

@@ -77,7 +77,7 @@ loop-candidate-preserved c =
           = place ∙ sym (cut-several m ch old k s) in
           let several = ap (λ (x : Touches). x.several) w.touched-is ∙ w.count_one.ensures.several
           ∙ ap (λ (x : ℕ). x + 1) w.note_types.ensures.several in
-          let firsts : (t : ℕ) → t < m.types → slice_index_or c.if-has_several.touched.first t None
+          let firsts : (t : ℕ) → t < MAX_TYPES → slice_index_or c.if-has_several.touched.first t None
           ≡ noted (is_beyond (list_of m k) (cut_in m ch old k) (ch t k))
           (slice_index_or was.first t None) (turn_of m t k)
           = λ t lt. ap (λ (x : Touches). get_or x.first t None) w.touched-is
@@ -126,6 +126,6 @@ returns c =
       first = λ t l. IsFirstUpto-all c.args.market.now
           c.candidate_count-candidate-end.ensures.valid (held_in_table c.args.tentative.now)
           c.args.cuts.now t c.loop-candidate.candidate
-          (slice_index_or c.loop-candidate.touched.first t None) l (omega arith)
+          (slice_index_or c.loop-candidate.touched.first t None) (omega arith)
           (c.loop-candidate.invariant.first t l);
     }

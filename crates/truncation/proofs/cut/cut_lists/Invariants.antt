@@ -10,7 +10,7 @@ invariant-loop-candidate l = record {
   cut : IsCutUpto l.market (held_in_table l.tentative) l.fn.cuts l.candidate l.cuts
       l.touched.several;
   types : length l.touched.first ≡ MAX_TYPES;
-  first : (t : ℕ) → t < l.market.types
+  first : (t : ℕ) → t < MAX_TYPES
       → IsFirstUpto l.market (held_in_table l.tentative) l.fn.cuts t l.candidate
       (slice_index_or l.touched.first t None);
 }

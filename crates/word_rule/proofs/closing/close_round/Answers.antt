@@ -45,3 +45,15 @@ returns-clause-released c =
     ∙ sym c.mark_number-committed.ensures in
     let least = ends.least in
     omega arith
+
+pub returns-clause-sealed : goal.returns-clause-sealed
+returns-clause-sealed c =
+    let round = c.args.round in
+    let words = slots_items c.close_with-closed.result.words in
+    let values = c.close_with-closed.ensures.values in
+    let ends = round_ends round.table.shared.key _ _ _ _ values.2 c.args.me.live c.requires.all
+    c.requires.free in
+    let half = ap mark_number (word_at words MARK_WORD c.word.result c.word.ensures)
+    ∙ sym c.mark_number-committed.ensures in
+    let all = ends.all in
+    omega arith

@@ -1,6 +1,6 @@
 use Rattle.std.proofs.Common.{[], ◌∷◌, ◌∙◌, refl}
 use Rattle.market.specs.Dictatorships.{Dictatorship, IsValidDictatorship}
-use Rattle.market.proofs.Checks.{dictatorship_fits, turn_lists_fit, dictatorship_valid_from, dictatorship_parts_valid, two_lists}
+use Rattle.market.proofs.Checks.{dictatorship_fits, turn_lists_fit, dictatorship_valid_from, dictatorship_parts_valid, two_items}
 use Rattle.market.proofs.Computes.{computes}
 use Rattle.word_rule.proofs.tests.some_seats_taken.Goals as goal
 
@@ -21,6 +21,6 @@ from_parts-requires c =
     dictatorship_parts_valid some_taken c.in_ok-quota.quota.items c.in_ok-fill.fill.items
     c.in_ok-lists.lists.items some_taken_valid
     c.in_ok-quota.ensures.items c.in_ok-fill.ensures.items
-    (two_lists _ _ _ _ _ c.in_ok-lists.ensures.items
+    (two_items _ _ _ _ _ c.in_ok-lists.ensures.items
     (c.from_vec-first.ensures ∙ c.in_ok-vec.ensures.items)
     (c.from_vec-second.ensures ∙ c.in_ok-vec-2.ensures.items))

@@ -5,7 +5,7 @@ use Rattle.candidate_table.specs.Rows.{codes_in}
 use Rattle.candidate_table.proofs.table.CandidateTableTakesAheadCandidate.keep.Goals as goal
 
 pub returns : goal.returns
-returns g c = λ row says.
+returns g c = λ version row says.
     let programmes = g.P.Finder.numbers c.args.programmes.now in
     let found = c.in_ok-find_list.field-0 in
     let codes = c.as_slice.ensures.entries ∙ says.codes in

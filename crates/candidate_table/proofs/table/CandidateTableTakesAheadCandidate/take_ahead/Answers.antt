@@ -18,7 +18,7 @@ says-fields : (row : Row) → IsFieldsOf row (fields_in row)
 says-fields row = record { line = refl; number = refl; codes = refl }
 
 pub returns-in-Some : goal.returns-in-Some
-returns-in-Some g c = λ earlier row has kept.
+returns-in-Some g c = λ version earlier row has kept.
     let programmes = g.P.Finder.numbers c.args._programmes.now in
     let table : Candidates = c.args.self.now in
     let known : line_of table.numbers (number_in row) ≡ Some c.in-Some.earlier =
@@ -32,7 +32,7 @@ returns-in-Some g c = λ earlier row has kept.
     )
 
 pub returns-in-Err : goal.returns-in-Err
-returns-in-Err g c = λ earlier row has kept.
+returns-in-Err g c = λ version earlier row has kept.
     let programmes = g.P.Finder.numbers c.args._programmes.now in
     let table : Candidates = c.args.self.now in
     let new : line_of table.numbers (number_in row) ≡ None =
@@ -45,7 +45,7 @@ returns-in-Err g c = λ earlier row has kept.
     )
 
 pub returns-in_ok-add-in-Ok : goal.returns-in_ok-add-in-Ok
-returns-in_ok-add-in-Ok g c = λ earlier row has kept.
+returns-in_ok-add-in-Ok g c = λ version earlier row has kept.
     let programmes = g.P.Finder.numbers c.args._programmes.now in
     let table : Candidates = c.args.self.now in
     let new : line_of table.numbers (number_in row) ≡ None =

@@ -1,11 +1,12 @@
-use Rattle.std.proofs.Common.{◌≡◌, ℕ, ◌+◌, ◌<◌, ◌∙◌, ap, sym, subst, length, List, [], Option, arith, set, get_or}
+use Rattle.std.proofs.Common.{◌≡◌, ℕ, ◌+◌, ◌<◌, ◌∙◌, ap, sym, subst, length, List, [], Option, None, arith, set, get_or}
 use Rattle.std.specs.Prelude.{slice_index, slice_index_or}
 use Rattle.std.proofs.lemmas.List.{get_or-set_same, get_or-set_other, length-set}
-use Rattle.market.specs.Problems.{Problem, order_of}
+use Rattle.market.specs.Problems.{Problem, order_of, turn_of}
 use Rattle.market.specs.LocalNumbers.{local_dictatorship}
 use Rattle.market.specs.Dictatorships.{Dictatorship}
 use Rattle.market.specs.Reruns.{IsRunUpto}
 use Rattle.market.proofs.Locals.{local-turns, turn_pick, entries_fit}
+use Rattle.market.proofs.Tentatives.{turn_at}
 use Rattle.market.proofs.Replays.{run-more, pick-small}
 use Rattle.market.proofs.tentative.Tentative.write_turn.Goals as goal
 
@@ -87,6 +88,24 @@ returns-clause-row c =
     ∙ sym (ap (λ (xs : List (List (Option ℕ))). get_or xs t []) c.set.ensures
     ∙ get_or-set_same table t (set row candidate x) [] (omega (arith, c.requires.kind))))
     (run-more m v cuts t at row x c.requires.kind c.requires.turn c.requires.row p)
+
+pub returns-clause-rest : goal.returns-clause-rest
+returns-clause-rest c = λ i other.
+    let m = c.args.market.now in
+    let t = c.args.kind in
+    let at = c.args.from_turn + c.args.turn in
+    let table = c.args.self.now in
+    let row = slice_index_or table t [] in
+    let x = c.entry-programme.result in
+    let candidate = slice_index c.order-order.result.now at in
+    let own = ap (λ (xs : List ℕ). slice_index xs at) c.order-order.ensures.order in
+    let types = c.requires.types in
+    ap (λ (xs : List (List (Option ℕ))). get_or (get_or xs t []) i None) c.set.ensures
+    ∙ ap (λ (xs : List (Option ℕ)). get_or xs i None)
+    (get_or-set_same table t (set row candidate x) [] (omega (arith, c.requires.kind)))
+    ∙ get_or-set_other row candidate i x None
+    (λ same. other (ap (turn_of m t) (same ∙ own)
+    ∙ turn_at m c.order-order.ensures.valid t at c.requires.kind c.requires.turn))
 
 pub returns-clause-others : goal.returns-clause-others
 returns-clause-others c = λ u ne.

@@ -4,10 +4,10 @@ use Rattle.piece_reader.proofs.ReadingAhead.{AllZip-more}
 use Rattle.piece_reader.proofs.ahead_rows.AheadRowsRowTable.take.Goals as goal
 
 pub returns : goal.returns
-returns g c = λ earlier row kept says.
-    let keeps = g.T.TakesAhead.keeps c.args.beside.now in (
+returns g c = λ version earlier row kept says.
+    let keeps = g.T.TakesAhead.keeps c.args.beside.now version in (
       refl,
       subst (AllZip keeps (earlier ++ row ∷ [])) (sym c.in_ok-push.ensures.items)
           (AllZip-more keeps earlier c.args.self.now.rows.items row c.in_ok-keep.field-0 kept
-          (c.in_ok-keep.ensures {u = tt} row says)),
+          (c.in_ok-keep.ensures {u = tt} version row says)),
     )

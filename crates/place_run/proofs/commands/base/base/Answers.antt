@@ -1,13 +1,7 @@
-use Rattle.std.proofs.Common.{Ok, ap, subst, sym}
-use Rattle.command_words.specs.Words.{texts}
-use Rattle.command_words.specs.declared.words.Command.TheVariants.{Base}
-use Rattle.run_frame.specs.declared.stop.FileStop.TheVariants.{Memory}
-use Rattle.run_frame.proofs.Answering.{answer-made, answer-refused}
-use Rattle.place_run.specs.Answers.{Answer, done}
-use Rattle.place_run.specs.Runs.{IsAnswering}
+use Rattle.run_frame.proofs.Readings.{answer-refused, answer-stopped}
+use Rattle.place_run.specs.Answers.{done}
 use Rattle.place_run.specs.commands.Base.{IsBaseText, bases_of}
-use Rattle.run_frame.specs.declared.stop.Stop.TheVariants.{File}
-use Rattle.place_run.proofs.Answering.{answer-error}
+use Rattle.place_run.proofs.Answering.{answer-error, tables-answered}
 use Rattle.place_run.proofs.Headline.{bases-text}
 use Rattle.place_run.proofs.Markets.{named-placement, bases-made}
 use Rattle.place_run.proofs.commands.base.base.Goals as goal
@@ -21,19 +15,17 @@ returns-clause-answers g c =
     let reading = c.in_ok-inputs.ensures.reading in
     let text = bases-made c.in_ok-inputs.inputs c.in_ok-placed.placed _ c.in_ok-placed.ensures
     c.in_ok-text.ensures in
-    let both = answer-made (λ tables. done (bases_of tables))
-    (λ reads answer. IsBaseText reads answer.text) (done c.in_ok-text.text.items) reading
-    (ap done text.made)
-    (bases-text reading.reads c.in_ok-inputs.inputs _ reading.meets text) in
-    subst (λ (v : Answer). IsAnswering (g.H.Shelf.files c.args.shelf.now) (texts c.args.words.now)
-    (Ok (Base c.args.workers)) (Ok v)
-    (g.H.Shelf.faults c.args.shelf.now) (g.H.Shelf.faults c.read.new.shelf)
-    (g.H.Shelf.tally c.args.shelf.now) (g.H.Shelf.tally c.read.new.shelf))
-    (sym c.done.ensures) (record { reading = both.0; promise = both.1 })
+    let both = tables-answered bases_of IsBaseText c.in_ok-text.text.items reading
+    c.done.ensures text.made (bases-text reading.reads c.in_ok-inputs.inputs _ reading.meets text)
+    in
+    record { reading = both.0; promise = both.1 }
 
 pub returns-in_err-text-clause-answers : goal.returns-in_err-text-clause-answers
 returns-in_err-text-clause-answers g c =
-    let reading = answer-refused (λ tables. done (bases_of tables))
-    c.in_ok-inputs.ensures.reading in
-    answer-error _ (texts c.args.words.now) _ c.from_residual-in_err-text.result (File Memory)
-    _ _ _ _ c.from_residual-in_err-text.ensures.1 (record { reading = reading; promise = tt })
+    answer-error c.from_residual-in_err-text.ensures.1
+    (answer-refused (λ tables. done (bases_of tables)) c.in_ok-inputs.ensures.reading)
+
+pub returns-in_err-inputs-clause-answers : goal.returns-in_err-inputs-clause-answers
+returns-in_err-inputs-clause-answers g c =
+    answer-error c.from_residual.ensures.1
+    (answer-stopped (λ tables. done (bases_of tables)) c.in_err-inputs.ensures.reading)

@@ -2,10 +2,10 @@ use Rattle.std.proofs.Common.{◌≡◌, ◌<◌, ℕ, List, Option, Some, IfOk,
 use Rattle.programme_table.specs.Table.{codes_of}
 use Rattle.candidate_table.specs.Table.{numbers_of}
 use Rattle.market.specs.Stability.{held_by}
-use Rattle.run_frame.specs.Files.{IsJudged}
+use Rattle.run_frame.specs.Files.{IsJudged, moment}
 use Rattle.run_frame.proofs.JudgedTables.{judged-lent, judged-stop, table-ok}
 use Rattle.place_run.specs.Tables.{Tables, placement_said}
-use Rattle.place_run.proofs.TableFaults.{placement-judges}
+use Rattle.place_run.proofs.JudgedFiles.{placement-judges}
 use Rattle.place_run.proofs.inputs.Inputs.read_placement.Goals as goal
 
 pub returns-in_err-bytes-clause-judged : goal.returns-in_err-bytes-clause-judged
@@ -20,8 +20,8 @@ returns-clause-judged g c =
     subst (λ (v : Tables). IsJudged (g.H.Shelf.files c.args.shelf.now) c.args.name.now
     (placement_said (codes_of v.programmes.rows) (numbers_of v.candidates.numbers))
     c.table_or_stop.result
-    (g.H.Shelf.faults c.args.shelf.now) (g.H.Shelf.faults c.read_file.new.shelf)
-    (g.H.Shelf.tally c.args.shelf.now) (g.H.Shelf.tally c.read_file.new.shelf)) c.self.view_is
+    (moment g.H.Shelf.faults g.H.Shelf.tally c.args.shelf.now)
+    (moment g.H.Shelf.faults g.H.Shelf.tally c.read_file.new.shelf)) c.self.view_is
     (judged-lent (placement-judges codes numbers) c.read_held.result c.deref.ensures.value
     c.in_ok-bytes.ensures.reading c.read_held.ensures.read c.table_or_stop.ensures)
 

@@ -7,7 +7,7 @@ use Rattle.placement_file.specs.SeatLists.{HasSeats, SeatRows, candidates_of}
 use Rattle.placement_file.proofs.seats.ReadSeatsRowTableUnit.take.Goals as goal
 
 pub returns-in-Some : goal.returns-in-Some
-returns-in-Some c = λ earlier row has says.
+returns-in-Some c = λ version earlier row has says.
     let seats : SeatRows = c.args.self.now.held.entries in
     let lines = c.args.self.now.lines.items in
     let found : position (nat_eq c.args.fields.number) (candidates_of seats)
@@ -24,7 +24,7 @@ returns-in-Some c = λ earlier row has says.
     )
 
 pub returns : goal.returns
-returns c = λ earlier row has says.
+returns c = λ version earlier row has says.
     let seats : SeatRows = c.args.self.now.held.entries in
     let lines = c.args.self.now.lines.items in
     let number = c.get-number.ensures.value in
@@ -45,5 +45,5 @@ returns c = λ earlier row has says.
           (seats ++ (c.args.fields.number, c.args.fields.code) ∷ []) all)
           (sym c.in_ok-push.ensures.items)
           (HasSeats-next earlier row seats lines c.args.fields has says
-          (as-few earlier c.requires.0 seats lines has c.requires.1 c.requires.2))),
+          (as-few earlier c.requires.1 seats lines has c.requires.2 c.requires.3))),
     )

@@ -3,7 +3,7 @@ use Rattle.std.proofs.Common.{◌∙◌}
 use Rattle.placement_file.proofs.table.EntriesRowTableTables.take.Goals as goal
 
 pub returns-in-Some-index : goal.returns-in-Some-index
-returns-in-Some-index g c = λ earlier row has says. (
+returns-in-Some-index g c = λ version earlier row has says. (
   meaning-repeated (g.P.Finder.numbers c.args.tables.now.programmes.now)
       (g.C.Finder.numbers c.args.tables.now.candidates.now) earlier row c.args.self.now.items.items
       c.args.fields has says c.get.result c.in-Some.index c.get.ensures.value c.in-Some.ensures
@@ -13,7 +13,7 @@ returns-in-Some-index g c = λ earlier row has says. (
 )
 
 pub returns-in-Err : goal.returns-in-Err
-returns-in-Err g c = λ earlier row has says. (
+returns-in-Err g c = λ version earlier row has says. (
   meaning-new (g.P.Finder.numbers c.args.tables.now.programmes.now)
       (g.C.Finder.numbers c.args.tables.now.candidates.now) earlier row c.args.self.now.items.items
       c.args.fields has says c.get.result c.in-Some.index c.get.ensures.value c.in-Some.ensures
@@ -23,7 +23,7 @@ returns-in-Err g c = λ earlier row has says. (
 )
 
 pub returns : goal.returns
-returns g c = λ earlier row has says.
+returns g c = λ version earlier row has says.
     let programmes = g.P.Finder.numbers c.args.tables.now.programmes.now in
     let candidates = g.C.Finder.numbers c.args.tables.now.candidates.now in
     let entries = c.args.self.now.items.items in (

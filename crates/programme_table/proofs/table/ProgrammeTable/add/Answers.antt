@@ -51,8 +51,12 @@ added c =
     c.reserve-2.ensures.entries
     ∙ ap (λ (key : ℕ). t.codes ++ (key, c.args.fields.now.line) ∷ []) code in
     let with_kind : ℕ → ProgrammeRow =
-    λ kind. record { code = c.args.fields.now.code; kind = kind; quota = c.args.fields.now.quota }
-    in
+    λ kind. record {
+      code = c.args.fields.now.code;
+      kind = kind;
+      quota = c.args.fields.now.quota;
+      bar = c.args.fields.now.bar;
+    } in
     let rows : c.push.new.self.items
     ≡ t.rows ++ with_kind (kind_named (insert_key bytes_eq t.names name) name) ∷ [] =
     (rw c.unwrap-2.ensures at c.push.ensures.items)

@@ -7,7 +7,7 @@ use Rattle.rank_lists.proofs.GivenStandings.{HasStandings-known, HasStandings-un
 use Rattle.rank_lists.proofs.part_ranks.PartRanksRowTableKnown.take.Goals as goal
 
 pub returns-in_default : goal.returns-in_default
-returns-in_default g c = λ earlier row has says.
+returns-in_default g c = λ version earlier row has says.
     let names = g.T.TypeFinder.names c.args.known.now.types.now in
     let numbers = g.C.Finder.numbers c.args.known.now.candidates.now in
     let type : position (bytes_eq (type_in row)) names ≡ None =
@@ -22,7 +22,7 @@ returns-in_default g c = λ earlier row has says.
     )
 
 pub returns-in_default-index_of : goal.returns-in_default-index_of
-returns-in_default-index_of g c = λ earlier row has says.
+returns-in_default-index_of g c = λ version earlier row has says.
     let names = g.T.TypeFinder.names c.args.known.now.types.now in
     let numbers = g.C.Finder.numbers c.args.known.now.candidates.now in
     let type : position (bytes_eq (type_in row)) names ≡ Some c.in-Some.kind =
@@ -39,7 +39,7 @@ returns-in_default-index_of g c = λ earlier row has says.
     )
 
 pub returns : goal.returns
-returns g c = λ earlier row has says.
+returns g c = λ version earlier row has says.
     let names = g.T.TypeFinder.names c.args.known.now.types.now in
     let numbers = g.C.Finder.numbers c.args.known.now.candidates.now in
     let type : position (bytes_eq (type_in row)) names ≡ Some c.in-Some.kind =

@@ -18,7 +18,7 @@ sorted g c =
     (omega (arith, c.count.type_inv)) (c.in_ok-turns.ensures {u = tt})
 
 pub read_rows-requires-clause-empty : goal.read_rows-requires-clause-empty
-read_rows-requires-clause-empty g c =
+read_rows-requires-clause-empty g c = λ version.
     c.in_ok-empty.ensures {u = tt} (g.T.TypeFinder.names c.args.types.now)
     (sym c.type_count.ensures.length)
 

@@ -1,0 +1,9 @@
+use Rattle.std.proofs.Common.{◌≡◌, length}
+use Rattle.gate_workers.proofs.ManyTurns.{AreSmall}
+use Rattle.gate_workers.proofs.tests.one_thread.falling_posts.spread_turns.Given as goal
+
+abbrev pub invariant-loop-turn : goal.invariant-loop-turn
+invariant-loop-turn l = record {
+  count : length l.lists.items ≡ l.turn;
+  small : AreSmall 130 l.lists.items;
+}

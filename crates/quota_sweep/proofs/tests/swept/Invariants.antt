@@ -1,0 +1,4 @@
+use Rattle.quota_sweep.proofs.tests.swept.Given as goal
+
+abbrev pub ghosts-counted : goal.ghosts-counted
+ghosts-counted g a = record { name = a.blank.name; parts = a.blank.parts }
