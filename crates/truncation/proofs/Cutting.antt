@@ -1,11 +1,12 @@
 -- The cuts of the first candidates: their lists, their number, and the first turn of each type that
 -- they change.
-use Rattle.std.proofs.Common.{◌≡◌, ℕ, ◌+◌, ◌<◌, ◌∙◌, true, false, ap, refl, sym, subst, length, List, Option, Some, None, arith, get_or, set, replicate}
+use Rattle.std.proofs.Common.{◌≡◌, ℕ, ◌+◌, ◌<◌, ◌∙◌, true, false, ap, refl, sym, subst, length, List, [], Option, None, arith, get_or, set, replicate, ⊎_elim}
 use Rattle.std.specs.Prelude.{slice_index, slice_index_or}
-use Rattle.std.proofs.lemmas.List.{length-replicate}
+use Rattle.std.proofs.lemmas.Bool.{cases_lt}
+use Rattle.std.proofs.lemmas.List.{get_or_past, get_or-replicate, length-replicate}
 use Rattle.market.specs.declared.limits.TheConstants.{MAX_TYPES, MAX_CANDIDATES}
 use Rattle.market.specs.Problems.{Problem, IsValid, list_of, turn_of}
-use Rattle.market.specs.Choices.{held_in_table, IsWithinCuts}
+use Rattle.market.specs.Choices.{held_in_table, empty_table, IsWithinCuts}
 use Rattle.market.specs.Reruns.{is_beyond, is_cut_away, changed_turn, noted}
 use Rattle.market.specs.Mechanism.{IsCuts, has_several_in, best_in, cut_in, cuts_in, several_in}
 use Rattle.market.proofs.Members.{count_le}
@@ -121,3 +122,16 @@ cutting-all m v table old k cuts touched e upto =
       first' = λ t l. IsFirstUpto-all m v ch old t k (slice_index_or touched.first t None) e
           (upto.first t l);
     }
+
+-- an empty table has nothing anywhere
+pub empty_table-none : (m : Problem) (t i : ℕ) → held_in_table (empty_table m) t i ≡ None
+unfolding empty_table
+empty_table-none m t i =
+    let row : List (Option ℕ) = replicate (length m.lists) None in
+    ⊎_elim
+    (λ l. ap (λ (xs : List (Option ℕ)). get_or xs i None) (get_or-replicate m.types t row [] l)
+    ∙ none_at (length m.lists) i)
+    (λ past. let n = length-replicate m.types row in
+    ap (λ (xs : List (Option ℕ)). get_or xs i None)
+    (get_or_past (replicate m.types row) t [] (omega arith)))
+    (cases_lt t m.types)
