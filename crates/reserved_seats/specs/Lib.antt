@@ -1,0 +1,9 @@
+-- The definitions, in the order in which to read them.
+-- offers: a row of the programmes file and a kind of its seats, and their indexes in a market
+pub mod Offers
+-- the fields that print an offer
+pub mod Fields
+-- how many seats are reserved, and for whom
+pub mod Reservations
+-- the market with reserved seats
+pub mod Expansion
