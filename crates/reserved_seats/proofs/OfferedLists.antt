@@ -68,7 +68,7 @@ copies-once x (y ∷ ys) distinct =
     (one_if-cases x y)
 
 -- a row's general seats stand there as often as the row does in the list of rows
-copies-general : (rows x : ℕ) (list : List ℕ) → x < rows
+pub copies-general : (rows x : ℕ) (list : List ℕ) → x < rows
     → copies x (offered_list rows true list) ≡ copies x list
 copies-general rows x [] below = refl
 copies-general rows x (p ∷ ps) below =
@@ -94,7 +94,7 @@ one_if-shifted rows y p =
     (one_if-cases (rows + y) (rows + p))
 
 -- so do its reserved seats
-copies-reserved : (rows y : ℕ) (list : List ℕ) → All (λ p. p < rows) list
+pub copies-reserved : (rows y : ℕ) (list : List ℕ) → All (λ p. p < rows) list
     → copies (rows + y) (offered_list rows true list) ≡ copies y list
 copies-reserved rows y [] h = refl
 copies-reserved rows y (p ∷ ps) h =

@@ -36,7 +36,7 @@ module _ (m : Problem) (r : Reservation) where
       (length m.lists) i i [] lt (zero-add i)
 
   -- the entries of a valid list are rows
-  entries-within : IsValid m → (i : ℕ) → i < length m.lists → All (λ p. p < rows) (list_of m i)
+  pub entries-within : IsValid m → (i : ℕ) → i < length m.lists → All (λ p. p < rows) (list_of m i)
   entries-within v i lt =
       All-from_get_or (λ p. p < rows) (list_of m i) 0 (λ k inside. v.list_entries i k lt inside)
 

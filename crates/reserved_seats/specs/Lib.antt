@@ -7,3 +7,7 @@ pub mod Fields
 pub mod Reservations
 -- the market with reserved seats
 pub mod Expansion
+-- who may hold what in it, and what stable placements give
+pub mod Holders
+-- small markets to follow by hand
+pub mod Examples

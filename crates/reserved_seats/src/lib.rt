@@ -12,9 +12,14 @@ mod offers;
 mod seats;
 // The expanded market.
 mod expansion;
+// Who may hold reserved seats, and when.
+mod laws;
+// Worked examples: what the definitions give on them.
+pub mod examples;
 #[cfg(test)]
 mod tests;
 
 pub use expansion::{expand, expand_by};
+pub use laws::{acceptable_offers, reserved_seats_last};
 pub use offers::{Offer, Seat};
 pub use seats::Reserved;
