@@ -1,10 +1,12 @@
--- Who may hold what in the market with reserved seats.
-use Rattle.std.proofs.Common.{◌≡◌, ℕ, ◌+◌, ◌<◌, length, refl, sym, ap, ◌∙◌, subst}
+-- Who may hold what in the expanded market.
+use Rattle.std.proofs.Common.{◌≡◌, ℕ, ◌+◌, ◌<◌, true, length, refl, sym, ap, ◌∙◌, subst}
+use Rattle.std.specs.Prelude.{◌↔◌, IsTrue}
 use Rattle.market.specs.declared.programme.Prog.{Prog}
 use Rattle.market.specs.Problems.{Problem, IsAcceptable, IsValid, admits, admits_rank, bar_of, kind_of, list_of, order_of, quota_of, rank_of, ranks_of, turn_of}
 use Rattle.reserved_seats.specs.Reservations.{Reservation, is_marked}
 use Rattle.reserved_seats.specs.Expansion.{expanded, offered_list}
-use Rattle.reserved_seats.specs.Holders.{AreAcceptableOffers}
+use Rattle.reserved_seats.specs.Holders.{AreAcceptableOffers, IsAcceptableOffer}
+use Rattle.reserved_seats.specs.Offers.{general, reserved}
 use Rattle.reserved_seats.proofs.BothKinds.{both-general, both-reserved}
 use Rattle.reserved_seats.proofs.Listing.{IsListed, general-listed, general-offered, reserved-listed, reserved-offered}
 use Rattle.reserved_seats.proofs.Validity.{entries-within, list-at}
@@ -18,7 +20,7 @@ module _ (m : Problem) (r : Reservation) where
   unfolding rank_of ranks_of turn_of order_of expanded
   rank-same t i = refl
 
-  -- general and reserved seats have the type and the bar of the programme, and general ones its quota
+  -- both kinds of seats have the programme's type and its bar, and the general ones its quota
   pub kind-general : (p : ℕ) → p < rows → kind_of (expanded m r) p ≡ kind_of m p
   unfolding kind_of expanded
   kind-general p lt = ap (λ (g : Prog). g.kind) (both-general m.programmes r.seats p lt)
@@ -54,35 +56,51 @@ module _ (m : Problem) (r : Reservation) where
   admits-reserved : (p i : ℕ) → p < rows → admits (expanded m r) (rows + p) i ≡ admits m p i
   admits-reserved p i lt = admits-same (rows + p) p i (bar-reserved p lt) (kind-reserved p lt)
 
-  -- whose offers are acceptable
+  -- general seats are acceptable where the programme is
+  general-acceptable : (i p : ℕ) → i < length m.lists → p < rows
+      → IsAcceptableOffer m r i (general p) ↔ IsAcceptable m i p
+  general-acceptable i p i_lt lt =
+      let at = list-at m r i i_lt in
+      let marked = is_marked r.marked i in (
+        λ a. record {
+          listed = general-listed rows marked p (list_of m i) lt (subst (IsListed p) at a.listed);
+          admitted = sym (admits-general p i lt) ∙ a.admitted;
+        },
+        λ a. record {
+          listed = subst (IsListed p) (sym at)
+              (general-offered rows marked p (list_of m i) lt a.listed);
+          admitted = admits-general p i lt ∙ a.admitted;
+        },
+      )
+
+  -- a marked candidate is offered the reserved seats of each listed row
+  marked-offered : IsValid m → (i p : ℕ) → i < length m.lists → is_marked r.marked i ≡ true
+      → IsListed p (list_of m i) → IsListed (rows + p) (list_of (expanded m r) i)
+  marked-offered v i p i_lt marked listed =
+      let at = list-at m r i i_lt ∙ ap (λ b. offered_list rows b (list_of m i)) marked in
+      subst (IsListed (rows + p)) (sym at)
+      (reserved-offered rows p (list_of m i) (entries-within m r v i i_lt) listed)
+
+  -- reserved seats are acceptable where the candidate is marked as well
+  reserved-acceptable : IsValid m → (i p : ℕ) → i < length m.lists → p < rows
+      → IsAcceptableOffer m r i (reserved p) ↔ (IsTrue (is_marked r.marked i) × IsAcceptable m i p)
+  reserved-acceptable v i p i_lt lt = (
+    λ a.
+        let both = reserved-listed rows (is_marked r.marked i) p (list_of m i)
+        (entries-within m r v i i_lt)
+        (subst (IsListed (rows + p)) (list-at m r i i_lt) a.listed) in (
+          both.0,
+          record {
+            listed = both.1;
+            admitted = sym (admits-reserved p i lt) ∙ a.admitted;
+          },
+        ),
+    λ (marked, a). record {
+      listed = marked-offered v i p i_lt marked a.listed;
+      admitted = admits-reserved p i lt ∙ a.admitted;
+    },
+  )
+
+  -- so are offers
   pub offers-acceptable : IsValid m → AreAcceptableOffers m r
-  offers-acceptable v = record {
-    of_all = λ i p i_lt lt. (
-      λ a. record {
-        listed = general-listed rows (is_marked r.marked i) p (list_of m i) lt
-            (subst (IsListed p) (list-at m r i i_lt) a.listed);
-        admitted = sym (admits-general p i lt) ∙ a.admitted;
-      },
-      λ a. record {
-        listed = subst (IsListed p) (sym (list-at m r i i_lt))
-            (general-offered rows (is_marked r.marked i) p (list_of m i) lt a.listed);
-        admitted = admits-general p i lt ∙ a.admitted;
-      },
-    );
-    of_marked = λ i p i_lt lt. (
-      λ a. let both = reserved-listed rows (is_marked r.marked i) p (list_of m i)
-          (entries-within m r v i i_lt) (subst (IsListed (rows + p)) (list-at m r i i_lt) a.listed) in (
-            both.0,
-            record {
-              listed = both.1;
-              admitted = sym (admits-reserved p i lt) ∙ a.admitted;
-            },
-          ),
-      λ (marked, a). record {
-        listed = subst (IsListed (rows + p)) (sym (list-at m r i i_lt))
-            (subst (λ b. IsListed (rows + p) (offered_list rows b (list_of m i))) (sym marked)
-            (reserved-offered rows p (list_of m i) (entries-within m r v i i_lt) a.listed));
-        admitted = admits-reserved p i lt ∙ a.admitted;
-      },
-    );
-  }
+  offers-acceptable v = record { of_all = general-acceptable; of_marked = reserved-acceptable v }

@@ -4,7 +4,7 @@ pub mod Marking
 pub mod Listing
 -- the programmes of both kinds of seats
 pub mod BothKinds
--- the parts of the market with reserved seats, and that they are valid
+-- the parts of the expanded market, and that they are valid
 pub mod Making
 pub mod Validity
 -- who may hold what, and who holds reserved seats

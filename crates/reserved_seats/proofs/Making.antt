@@ -1,4 +1,4 @@
--- The parts of the market with reserved seats.
+-- The parts of the expanded market.
 use Rattle.std.proofs.Common.{◌≡◌, ℕ, ◌<◌, List, length, ap, ◌∙◌}
 use Rattle.std.specs.Prelude.{[], slice_index_or}
 use Rattle.market.specs.declared.programme.Prog.{Prog}

@@ -1,6 +1,6 @@
--- In a stable placement of the market with reserved seats, who holds a reserved seat could get no
--- general one: the general seats of the programme stand before it in the list, so a free one, or one
--- held by a worse rank, would block.
+-- In a stable placement of the expanded market, who holds a reserved seat could get no general one:
+-- the general seats of the programme stand before it in the list, so a free one, or one held by a
+-- worse rank, would block.
 use Rattle.std.proofs.Common.{◌≡◌, ◌≢◌, ℕ, ◌+◌, ◌<◌, ◌≤◌, ◌⊎◌, List, length, true, Option, Some, refl, sym, ap, ◌∙◌, subst, arith, ⊎_elim, inl, inr}
 use Rattle.std.specs.Prelude.{IsTrue}
 use Rattle.std.proofs.lemmas.Bool.{cases_lt, cases_order}
@@ -91,7 +91,8 @@ module _ (m : Problem) (r : Reservation) (v : IsValid m) (held : List (Option �
           (sym (kind-general m r p lt))
           (subst (λ a. IsBetter a (rank_of (expanded m r) (kind_of m p) j))
           (sym (rank-same m r (kind_of m p) i))
-          (subst (IsBetter (rank_of m (kind_of m p) i)) (sym (rank-same m r (kind_of m p) j)) better));
+          (subst (IsBetter (rank_of m (kind_of m p) i))
+          (sym (rank-same m r (kind_of m p) j)) better));
     }))
 
     better : (j : ℕ) → held_by held j ≡ Some p

@@ -1,4 +1,4 @@
--- The market with reserved seats is valid.
+-- The expanded market is valid.
 use Rattle.std.proofs.Common.{◌≡◌, ℕ, ◌+◌, ◌<◌, ◌≤◌, [], length, sym, ap, subst, arith, zero-add}
 use Rattle.std.specs.Prelude.{All, slice_index, slice_index_or}
 use Rattle.std.proofs.lemmas.List.Elements.{All-from_get_or, All-get_or}

@@ -1,4 +1,4 @@
--- The market with reserved seats.
+-- The expanded market: programmes with two kinds of seats, and lists of offers.
 use Rattle.std.specs.Prelude.{◌≡◌, ℕ, ◌<◌, ◌≤◌, Bool, List, [], ◌++◌, length, map, slice_index, slice_index_or}
 use Rattle.std.specs.List.{flat_map, range_with_len}
 use Rattle.place_base.specs.declared.limits.TheConstants.{MOST_PROGRAMMES, MOST_ENTRIES}
@@ -7,18 +7,19 @@ use Rattle.market.specs.Problems.{Problem, list_of, no_programme}
 use Rattle.reserved_seats.specs.Offers.{index_of, offers_of}
 use Rattle.reserved_seats.specs.Reservations.{Reservation, is_marked}
 
--- reserved seats beside the general ones of a programme, as a programme: of its type, with its bar
+-- the reserved seats of a programme, as a programme: of its type, with its bar
 abbrev pub reserved_programme : Prog → ℕ → Prog
 reserved_programme programme seats = record programme { quota = seats }
 
--- the programmes with their general seats, and behind them all once more with their reserved seats
+-- the programmes with their general seats, and behind them all the same with their reserved seats
 abbrev pub both_kinds : List Prog → List ℕ → List Prog
 both_kinds programmes seats =
     programmes
-    ++ map (λ p. reserved_programme (slice_index_or programmes p no_programme) (slice_index seats p))
+    ++ map
+    (λ p. reserved_programme (slice_index_or programmes p no_programme) (slice_index seats p))
     (range_with_len 0 (length programmes))
 
--- the offers that a list of rows names, as indexes: of each row its general seats, and for a marked
+-- a preference list of rows as one of offers: of each row its general seats, and for a marked
 -- candidate just after them its reserved ones
 abbrev pub offered_list : ℕ → Bool → List ℕ → List ℕ
 offered_list rows marked list = map (index_of rows) (flat_map (offers_of marked) list)
@@ -29,8 +30,8 @@ offered_lists rows marked lists =
     map (λ i. offered_list rows (is_marked marked i) (slice_index_or lists i []))
     (range_with_len 0 (length lists))
 
--- the market with reserved seats: its programmes and its lists are those of offers; its types, its
--- turn orders and its ranks stay
+-- the expanded market: its programmes and its lists are those of offers; its types, its turn orders
+-- and its ranks are the market's
 unfoldable pub expanded : Problem → Reservation → Problem
 expanded m r =
     record m {
@@ -43,7 +44,8 @@ pub record IsListOf (rows : ℕ) (list : List ℕ) : Type 0 where
   pub few : length list ≤ MOST_ENTRIES
   pub within : (k : ℕ) → k < length list → slice_index list k < rows
 
--- the reservation is one of the market, which is no larger than files make it
+-- the reservation has a number for each programme and a mark for each candidate of the market,
+-- which is no larger than files make it
 pub record FitsMarket (m : Problem) (r : Reservation) : Type 0 where
   pub seats : length r.seats ≡ length m.programmes
   pub marked : length r.marked ≡ length m.lists

@@ -1,4 +1,4 @@
--- Who may hold what in the market with reserved seats, and what stable placements give there.
+-- Who may hold what in the expanded market, and what stable placements give there.
 use Rattle.std.specs.Prelude.{◌≡◌, ◌↔◌, ℕ, ◌<◌, List, length, IsTrue, Option, Some}
 use Rattle.market.specs.Counting.{count_of}
 use Rattle.market.specs.Problems.{Problem, IsAcceptable, kind_of, quota_of, rank_of}
@@ -8,12 +8,13 @@ use Rattle.reserved_seats.specs.Offers.{general, reserved, index_of}
 use Rattle.reserved_seats.specs.Reservations.{Reservation, is_marked}
 use Rattle.reserved_seats.specs.Expansion.{expanded}
 
--- the seats of an offer in the market with reserved seats
+-- the seats of an offer are acceptable to a candidate of the expanded market
 abbrev pub IsAcceptableOffer : Problem → Reservation → ℕ → Offer → Type 0
-IsAcceptableOffer m r i offer = IsAcceptable (expanded m r) i (index_of (length m.programmes) offer)
+IsAcceptableOffer m r i offer =
+    IsAcceptable (expanded m r) i (index_of (length m.programmes) offer)
 
--- the general seats of a programme are acceptable to a candidate exactly where the programme is, and
--- its reserved seats exactly where the candidate is marked as well
+-- the general seats of a programme are acceptable to a candidate exactly where the programme is in
+-- the market itself, and its reserved seats exactly where the candidate is marked as well
 pub record AreAcceptableOffers (m : Problem) (r : Reservation) : Type 0 where
   pub of_all : (i p : ℕ) → i < length m.lists → p < length m.programmes
       → IsAcceptableOffer m r i (general p) ↔ IsAcceptable m i p

@@ -5,7 +5,7 @@ pub mod Offers
 pub mod Fields
 -- how many seats are reserved, and for whom
 pub mod Reservations
--- the market with reserved seats
+-- the expanded market, in which each programme stands with both kinds of seats
 pub mod Expansion
 -- who may hold what in it, and what stable placements give
 pub mod Holders

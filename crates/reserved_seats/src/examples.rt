@@ -1,4 +1,4 @@
-// Worked examples: what the definitions give on small markets with reserved seats, computed by the
+// Worked examples: what the definitions give on small markets that are expanded, computed by the
 // checker. Who doubts a definition can follow them by hand.
 
 ghost use Rattle.std.specs.Prelude.{◌≡◌, [], ◌∷◌, Option};
@@ -12,8 +12,8 @@ ghost use Rattle.reserved_seats.specs.Examples.{one_programme, third_marked, two
 pub fn marked_candidate_last()
     ensures lists { (expanded (one_programme (0 ∷ 1 ∷ 2 ∷ [])) third_marked).lists
         ≡ (0 ∷ []) ∷ (0 ∷ []) ∷ (0 ∷ 1 ∷ []) ∷ [] }
-    ensures placement { (mechanism (expanded (one_programme (0 ∷ 1 ∷ 2 ∷ [])) third_marked)).placement
-        ≡ Option.Some 0 ∷ Option.None ∷ Option.Some 1 ∷ [] }
+    ensures placement { let m = expanded (one_programme (0 ∷ 1 ∷ 2 ∷ [])) third_marked in
+        (mechanism m).placement ≡ Option.Some 0 ∷ Option.None ∷ Option.Some 1 ∷ [] }
 {}
 
 /// The same where the marked candidate is the best: the general seat comes first in the list, so
@@ -24,9 +24,9 @@ pub fn marked_candidate_first()
         ≡ Option.None ∷ Option.None ∷ Option.Some 0 ∷ [] }
 {}
 
-/// A marked candidate takes general seats in both types, and the list is cut between the general and
-/// the reserved seats of the first programme; the second round gives the other candidate the seat
-/// that this frees.
+/// A marked candidate takes general seats in both types, and the list is cut between the general
+/// and the reserved seats of the first programme; the second round gives the other candidate the
+/// seat that this frees.
 #[tactic(auto, unfolding(market::proofs::Computes::computes, crate::specs::Expansion::expanded))]
 pub fn cut_between_two_seats()
     ensures lists { (expanded two_wishes first_marked).lists

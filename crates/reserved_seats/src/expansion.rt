@@ -10,10 +10,11 @@ use market::{List, Market, MarketParts, Prog};
 use std::alloc::{AllocError, Global};
 use std::thread::Threads;
 
-/// The market with reserved seats: each programme once more behind all others, of the same type and
-/// with the same bar, its reserved seats as its quota; and in the list of each marked candidate each
-/// programme's reserved seats just after its general ones. The market is spent; after want of
-/// memory it is gone. Nothing but memory is refused.
+/// The expanded market: behind all programmes each stands once more, of the same type and with the
+/// same bar, with its reserved seats as its quota; and in the list of each marked candidate the
+/// reserved seats of a programme stand just after its general ones. Orders and ranks are moved, and
+/// so are the lists of all others. The market is spent, also where memory is refused, and nothing
+/// else is refused.
 pub fn expand(alloc: Global, market: Market, reserved: &Reserved) -> Result<Market, AllocError>
     requires { FitsMarket market reserved.now }
 
@@ -103,7 +104,7 @@ fn with_reserved(alloc: Global, general: &[Prog], seats: &[u32]) -> Result<Vec<P
     Ok(programmes)
 }
 
-// Offers reserved seats to the marked candidates: each list over rows becomes one over offers.
+// Offers reserved seats to the marked candidates: each list of rows becomes one of offers.
 fn offer_reserved(
     alloc: Global,
     rows: u32,
@@ -112,7 +113,8 @@ fn offer_reserved(
 ) -> Result<(), AllocError>
     requires few { rows ≤ MOST_PROGRAMMES }
     requires candidates { length marked.now ≡ length lists.old }
-    requires lists { (i : ℕ) → i < length lists.old → IsListOf rows (slice_index_or lists.old i []) }
+    requires lists { (i : ℕ) → i < length lists.old
+        → IsListOf rows (slice_index_or lists.old i []) }
     ensures { OnOk result (lists.new ≡ offered_lists rows marked.now lists.old) }
 {
     for (candidate, is_marked) in marked.iter().enumerate() {
@@ -124,7 +126,7 @@ fn offer_reserved(
     Ok(())
 }
 
-// The list of a marked candidate over offers.
+// The list of a marked candidate: of each row its general seats, and then its reserved ones.
 fn with_reserved_entries(alloc: Global, rows: u32, list: &[u32]) -> Result<List, AllocError>
     requires few { rows ≤ MOST_PROGRAMMES }
     requires list { IsListOf rows list.now }

@@ -7,9 +7,9 @@ ghost use Rattle.reserved_seats.specs.Holders.{AreAcceptableOffers, HoldReserved
 use crate::Reserved;
 use market::{Market, Placement};
 
-/// In the market with reserved seats a programme's general seats are acceptable to a candidate
-/// exactly where the programme is in the market itself, and its reserved seats exactly where the
-/// candidate is marked as well.
+/// In the expanded market a programme's general seats are acceptable to a candidate exactly where
+/// the programme is in the market itself, and its reserved seats exactly where the candidate is
+/// marked as well.
 ///
 /// A law: it changes and answers nothing, and a call gives it to a proof.
 pub fn acceptable_offers(market: &Market, reserved: &Reserved)
@@ -19,8 +19,8 @@ pub fn acceptable_offers(market: &Market, reserved: &Reserved)
     let _ = market.type_count();
 }
 
-/// In every stable placement of the market with reserved seats, who holds a reserved seat is marked,
-/// and the general seats of the same programme are all held by candidates with a better rank.
+/// In every stable placement of the expanded market, who holds a reserved seat is marked, and the
+/// general seats of the same programme are all held by candidates with a better rank.
 ///
 /// A law: it changes and answers nothing, and a call gives it to a proof.
 pub fn reserved_seats_last(market: &Market, reserved: &Reserved, placement: &Placement)

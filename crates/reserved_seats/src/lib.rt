@@ -1,9 +1,8 @@
-//! Seats that only marked candidates may hold: the market in which each programme stands twice, with
-//! its general and with its reserved seats.
+//! A second kind of seats, which only marked candidates may hold: the expanded market, in which
+//! each programme stands once with its general and once with its reserved seats.
 //!
-//! Between a row of the programmes file and an index of a market stands an offer: the row, and which
-//! of its seats are meant. In a market without reserved seats each row has one offer, at its own
-//! index.
+//! Between a row of the programmes file and an index of a market stands an offer: the row, and
+//! which of its seats. In a market that is not expanded each row has one offer, at its own index.
 #![tactic(auto)]
 
 // The two kinds of seats, and offers.
