@@ -9,5 +9,12 @@
 mod second;
 // The programmes and the lists of that market.
 mod seats_left;
+// A registrations file beside the candidates.
+mod registrations;
+// A market with a second placement to follow by hand.
+pub mod example;
+#[cfg(test)]
+mod tests;
 
+pub use registrations::read_registrations;
 pub use second::second_market;
