@@ -15,6 +15,7 @@ use Rattle.place_base.specs.declared.fault.FileFault.{FileFault}
 use Rattle.place_base.specs.declared.fault.FileKind.TheVariants.{Placement}
 use Rattle.record_files.specs.FirstFaults.{duplicate_at, fault_at, fault_if, first_of}
 use Rattle.record_files.specs.Rows.{Row}
+use Rattle.placement_file.proofs.FoundRows.{found-other, found-own}
 use Rattle.placement_file.specs.Growth.{HasRows, IsFieldsOf, clash, entry_in, held_of, programme_held}
 use Rattle.placement_file.specs.Rows.{code_in, meaning, number_in, unknown_fault}
 use Rattle.placement_file.specs.Table.{held_in, programme_in, programme_of}
@@ -110,35 +111,13 @@ held-listed programmes rows (c ∷ cs) (suc i) p holds = held-listed programmes 
 entry-other : (programmes : List ℕ) (rows : List Row) (row : Row) (number : ℕ)
     → number ≢ number_in row
     → entry_in programmes rows number ≡ entry_in programmes (rows ++ row ∷ []) number
-entry-other programmes rows row number other =
-    let same = λ (r : Row). number == number_in r in
-    let absent : same row ≡ false = ne_eqb number (number_in row) other in
-    let last : find same (row ∷ []) ≡ None = rw absent refl in
-    ap (option_map (held_of programmes))
-    (sym (find-append same rows (row ∷ []) ∙ ap (option_or (find same rows)) last
-    ∙ or-none (find same rows)))
-  where
-    or-none : (r : Option Row) → option_or r None ≡ r
-    or-none None = refl
-    or-none (Some r) = refl
+entry-other programmes = found-other number_in (held_of programmes)
 
 -- a row gives its candidate what it holds, where no earlier row does
 entry-own : (programmes : List ℕ) (rows : List Row) (row : Row)
     → entry_in programmes rows (number_in row) ≡ None
     → entry_in programmes (rows ++ row ∷ []) (number_in row) ≡ Some (held_of programmes row)
-entry-own programmes rows row free =
-    let same = λ (r : Row). number_in row == number_in r in
-    let last : find same (row ∷ []) ≡ Some row = rw (eqb-same (number_in row)) refl in
-    ap (option_map (held_of programmes))
-    (find-append same rows (row ∷ [])
-    ∙ ap (λ r. option_or r (find same (row ∷ []))) (absent (find same rows) free) ∙ last)
-  where
-    absent : (r : Option Row) → option_map (held_of programmes) r ≡ None → r ≡ None
-    absent None e = refl
-    absent (Some r) e = cc
-
-    eqb-same : (n : ℕ) → (n == n) ≡ true
-    eqb-same n = grind (arith, nat_tests)
+entry-own programmes = found-own number_in (held_of programmes)
 
 -- a repeated candidate is told by the line of what the earlier row gives
 repeated : (programmes : List ℕ) (line : ℕ) (row : Option Row)

@@ -1,3 +1,4 @@
+pub mod FoundRows
 pub mod Growing
 pub mod PlacementTexts
 pub mod SeatsGrowing

@@ -15,7 +15,7 @@ mod seats;
 // The requests of a registrations file.
 mod requests;
 
-pub use requests::read_requests;
+pub use requests::{read_candidate, read_requests, requests_form};
 pub use seats::{SeatList, read_alone};
 pub use table::read_placement;
 pub use texts::placement_text;

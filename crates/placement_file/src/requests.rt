@@ -1,8 +1,9 @@
 // The requests of a registrations file.
 
-ghost use Rattle.std.specs.Prelude.{◌≡◌, ◌≤◌, length, IfOk};
+ghost use Rattle.std.specs.Prelude.{◌≡◌, ◌≤◌, length, None, Some, IfOk, MatchResult};
 ghost use Rattle.record_files.specs.ReadTo.{IsFileRead};
-ghost use Rattle.placement_file.specs.Requests.{requests_fault, requests_in};
+ghost use Rattle.record_files.specs.Rows.{fields_of};
+ghost use Rattle.placement_file.specs.Requests.{candidate_in, requests_fault, requests_form, requests_in, requests_reading};
 
 use place_base::limits::{LARGEST_FILE, LARGEST_NUMBER, MOST_REQUESTS};
 use place_base::{CandidateNo, FileFault, FileKind};
@@ -27,6 +28,26 @@ pub fn read_requests(alloc: Global, bytes: &[u8]) -> Result<Vec<CandidateNo>, Ta
     Ok(read.candidates)
 }
 
+/// The form of a registrations file: its header, and how many data rows it may have.
+pub fn requests_form() -> FileForm
+    ensures { result ≡ requests_form }
+{
+    FileForm::new(FileKind::Registrations, &[b"candidate"], MOST_REQUESTS)
+}
+
+/// The candidate that a row of a registrations file names, or what is wrong with the row's field by
+/// itself.
+pub fn read_candidate(row: &RecordRow<'_>) -> Result<CandidateNo, FileFault>
+    requires { 1 ≤ length (fields_of row.now) }
+    ensures { MatchResult result
+        (λ candidate. (requests_reading row.now ≡ None) × (candidate ≡ candidate_in row.now))
+        (λ fault. requests_reading row.now ≡ Some fault) }
+{
+    let file = FileKind::Registrations;
+    let number = in_field(file, row, 1, number(row.field(0), 1, LARGEST_NUMBER))?;
+    Ok(CandidateNo::new(number).unwrap())
+}
+
 // The candidates named so far.
 #[derive(Drop)]
 struct Requests {
@@ -46,7 +67,7 @@ impl RowTable<()> for Requests {
     ghost has_rows = { λ _ version rows table. HasRequests rows table.candidates.items };
 
     fn form(_beside: &()) -> FileForm {
-        FileForm::new(FileKind::Registrations, &[b"candidate"], MOST_REQUESTS)
+        requests_form()
     }
 
     fn read_fields(
@@ -54,9 +75,7 @@ impl RowTable<()> for Requests {
         _header: Header,
         row: &RecordRow<'_>,
     ) -> Result<CandidateNo, FileFault> {
-        let file = FileKind::Registrations;
-        let number = in_field(file, row, 1, number(row.field(0), 1, LARGEST_NUMBER))?;
-        Ok(CandidateNo::new(number).unwrap())
+        read_candidate(row)
     }
 
     fn take(
