@@ -1,5 +1,5 @@
 #!/usr/bin/env python3
-"""Times base, reasons and audit beside place on the same files: commands.py SIZE..
+"""Times base, fixed, reasons and audit beside place on the same files: commands.py SIZE..
 
 The sizes are those of run.py. The audit is of the placement that place printed in the same run, so it looks at every
 list. All run with four workers. For each command the wall time, the processor time, the peak memory and the size of
@@ -34,12 +34,14 @@ def main():
         shutil.copyfile(place.printed, placement)
         base = timed(PROGRAM, files, "--workers", "4", do="base")
         shown("base", base)
+        fixed = timed(PROGRAM, files, "--workers", "4", do="fixed")
+        shown("fixed", fixed)
         reasons = timed(PROGRAM, files, "--workers", "4", do="reasons")
         text = shown("reasons", reasons)
         audit = timed(PROGRAM, [*files, placement], "--workers", "4", do="audit")
         shown("audit", audit)
-        print("  wall, base to place %.2f, audit to place %.2f" % (base.wall / place.wall, audit.wall / place.wall))
-        print("  processors, base to place %.2f, audit to place %.2f" % (base.cpu / place.cpu, audit.cpu / place.cpu))
+        for name, run in (("base", base), ("fixed", fixed), ("audit", audit)):
+            print("  %s to place: wall %.2f, processors %.2f" % (name, run.wall / place.wall, run.cpu / place.cpu))
         print("  reasons beyond place: %.1f s a GB of text" % ((reasons.wall - place.wall) / (text / GIGABYTE)))
 
 

@@ -46,10 +46,10 @@ fn line_end(bytes: &[u8]) -> usize {
     bytes.iter().position(|byte| *byte == b'\n').unwrap_or(bytes.len())
 }
 
-/// Calls `row` with the text of each data row; false refuses the file.
-fn rows(file: &str, bytes: &[u8], header: &[u8], mut row: impl FnMut(&[u8]) -> bool) {
+/// Calls `row` with the place of the file's header among these and the text of each data row; false refuses the file.
+fn rows(file: &str, bytes: &[u8], headers: &[&[u8]], mut row: impl FnMut(usize, &[u8]) -> bool) {
     let mut rest = bytes.strip_prefix(b"\xef\xbb\xbf").unwrap_or(bytes);
-    let mut first = true;
+    let mut version = None;
     while !rest.is_empty() {
         let end = line_end(rest);
         let line = &rest[..end];
@@ -58,13 +58,16 @@ fn rows(file: &str, bytes: &[u8], header: &[u8], mut row: impl FnMut(&[u8]) -> b
         if text.is_empty() {
             continue;
         }
-        let fine = text.len() <= 1024 && if first { text == header } else { row(text) };
-        first = false;
-        if !fine {
+        if text.len() > 1024 {
             refuse(file)
         }
+        match version {
+            Some(version) if row(version, text) => {}
+            Some(_) => refuse(file),
+            None => version = Some(headers.iter().position(|header| *header == text).unwrap_or_else(|| refuse(file))),
+        }
     }
-    if first {
+    if version.is_none() {
         refuse(file)
     }
 }
@@ -97,15 +100,24 @@ struct Programmes {
     codes: Vec<u32>,
     kinds: Vec<u32>,
     quotas: Vec<u32>,
+    /// The worst rank that each admits.
+    bars: Vec<u32>,
     names: Vec<Vec<u8>>,
 }
 
 fn read_programmes(bytes: &[u8]) -> Programmes {
     let mut table = Programmes::default();
-    rows("programmes", bytes, b"programme,type,quota", |text| {
+    rows("programmes", bytes, &[b"programme,type,quota", b"programme,type,quota,bar"], |version, text| {
         let (code, Some(rest)) = split(text, b',') else { return false };
-        let (name, Some(quota)) = split(rest, b',') else { return false };
-        let (Some(code), true, Some(quota)) = (number(code, 1, 999_999_999), is_type(name), number(quota, 0, 100_000))
+        let (name, Some(rest)) = split(rest, b',') else { return false };
+        let (quota, bar) = if version == 0 { (rest, Some(&b"-"[..])) } else { split(rest, b',') };
+        let bar = match bar {
+            Some(b"-") => Some(u64::from(u32::MAX)),
+            Some(bar) => number(bar, 1, 99_999_999),
+            None => None,
+        };
+        let (Some(code), true, Some(quota), Some(bar)) =
+            (number(code, 1, 999_999_999), is_type(name), number(quota, 0, 100_000), bar)
         else {
             return false;
         };
@@ -116,6 +128,7 @@ fn read_programmes(bytes: &[u8]) -> Programmes {
         table.codes.push(code as u32);
         table.kinds.push(kind as u32);
         table.quotas.push(quota as u32);
+        table.bars.push(bar as u32);
         table.index.insert(code as u32, table.codes.len() as u32 - 1).is_none()
             && table.names.len() <= 16
             && table.codes.len() <= 60_000
@@ -133,7 +146,7 @@ struct Candidates {
 
 fn read_candidates(bytes: &[u8], programmes: &Programmes) -> Candidates {
     let mut table = Candidates::default();
-    rows("candidates", bytes, b"candidate,list", |text| {
+    rows("candidates", bytes, &[b"candidate,list"], |_, text| {
         let (candidate, Some(list)) = split(text, b',') else { return false };
         let Some(candidate) = number(candidate, 1, 99_999_999_999) else { return false };
         let start = table.items.len();
@@ -160,13 +173,13 @@ fn are_distinct(keys: &mut Vec<u64>) -> bool {
     keys.windows(2).all(|pair| pair[0] != pair[1])
 }
 
-/// For each type the candidates with a rank in it, best first.
-fn read_ranks(bytes: &[u8], programmes: &Programmes, candidates: &Candidates) -> Vec<Vec<u32>> {
+/// For each type the candidates with a rank in it, best first, each behind the rank in the upper half.
+fn read_ranks(bytes: &[u8], programmes: &Programmes, candidates: &Candidates) -> Vec<Vec<u64>> {
     let mut names: Vec<Vec<u8>> = programmes.names.clone();
     let mut pairs = Vec::new();
     let mut places = Vec::new();
     let mut ranked: Vec<Vec<u64>> = vec![Vec::new(); programmes.names.len()];
-    rows("ranks", bytes, b"candidate,type,rank", |text| {
+    rows("ranks", bytes, &[b"candidate,type,rank"], |_, text| {
         let (candidate, Some(rest)) = split(text, b',') else { return false };
         let (name, Some(rank)) = split(rest, b',') else { return false };
         let (Some(candidate), true, Some(rank)) =
@@ -192,7 +205,7 @@ fn read_ranks(bytes: &[u8], programmes: &Programmes, candidates: &Candidates) ->
     for of_kind in &mut ranked {
         of_kind.sort_unstable();
     }
-    ranked.iter().map(|of_kind| of_kind.iter().map(|key| *key as u32).collect()).collect()
+    ranked
 }
 
 /// A type's turns: each turn's programmes of the type and their places in the whole list.
@@ -203,19 +216,20 @@ struct Turns {
     places: Vec<u8>,
 }
 
-fn turns_of(kind: u32, order: Vec<u32>, programmes: &Programmes, candidates: &Candidates) -> Turns {
-    let (mut ends, mut items, mut places) = (Vec::with_capacity(order.len()), Vec::new(), Vec::new());
-    for candidate in &order {
-        let at = *candidate as usize;
+fn turns_of(kind: u32, ranked: Vec<u64>, programmes: &Programmes, candidates: &Candidates) -> Turns {
+    let (mut ends, mut items, mut places) = (Vec::with_capacity(ranked.len()), Vec::new(), Vec::new());
+    for key in &ranked {
+        let (rank, at) = ((key >> 32) as u32, *key as u32 as usize);
         let start = if at == 0 { 0 } else { candidates.ends[at - 1] as usize };
         for (place, programme) in candidates.items[start..candidates.ends[at] as usize].iter().enumerate() {
-            if programmes.kinds[*programme as usize] == kind {
+            if programmes.kinds[*programme as usize] == kind && rank <= programmes.bars[*programme as usize] {
                 items.push(*programme);
                 places.push(place as u8);
             }
         }
         ends.push(items.len() as u32);
     }
+    let order = ranked.iter().map(|key| *key as u32).collect();
     Turns { order, ends, items, places }
 }
 
@@ -276,8 +290,8 @@ fn text_of(held: &[u32], programmes: &Programmes, candidates: &Candidates) -> Ve
     text
 }
 
-fn market_of(orders: Vec<Vec<u32>>, programmes: &Programmes, candidates: &Candidates) -> Vec<Turns> {
-    orders.into_iter().enumerate().map(|(kind, order)| turns_of(kind as u32, order, programmes, candidates)).collect()
+fn market_of(ranked: Vec<Vec<u64>>, programmes: &Programmes, candidates: &Candidates) -> Vec<Turns> {
+    ranked.into_iter().enumerate().map(|(kind, ranked)| turns_of(kind as u32, ranked, programmes, candidates)).collect()
 }
 
 /// The summary of a made market, a line for each word.
@@ -285,11 +299,13 @@ fn make(words: &[String], phase: impl Fn(&str)) {
     let number = |at: usize| words[at].parse::<u64>().expect("a number");
     let sizes = [number(2), number(3), number(4)].map(|size| size as u32);
     let made = maker::make(number(1), sizes[0], sizes[1], sizes[2]);
-    let programmes = Programmes { kinds: made.kinds, quotas: made.quotas, ..Programmes::default() };
+    let bars = vec![u32::MAX; made.kinds.len()];
+    let programmes = Programmes { kinds: made.kinds, quotas: made.quotas, bars, ..Programmes::default() };
     let numbers = (1..=u64::from(sizes[0])).collect();
     let candidates = Candidates { numbers, items: made.items, ends: made.ends, ..Candidates::default() };
     phase("made");
-    let turns = market_of(made.orders, &programmes, &candidates);
+    let ranked = made.orders.into_iter().map(|order| order.into_iter().map(u64::from).collect()).collect();
+    let turns = market_of(ranked, &programmes, &candidates);
     phase("market");
     let (held, rounds, cuts) = mechanism(&turns, &programmes, &candidates);
     phase("rounds");

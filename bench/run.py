@@ -1,8 +1,8 @@
 #!/usr/bin/env python3
 """Times the program beside plain Rust on the same files: run.py SIZE..
 
-A size is one of small, middle, million, full and unlisted. Each market is made once under bench/out. The program runs with one
-worker and with four. For each run the wall time, the processor time, the peak memory and the wall time of each phase are
+A size is one of small, middle, barred, million, full and unlisted. Each market is made once under bench/out. The program
+runs with one worker and with four. For each run the wall time, the processor time, the peak memory and the wall time of each phase are
 printed, and the ratios to plain Rust, which has one thread. A phase ends where the program opens its next file, or writes
 its first byte; it is seen from outside, the same way for both programs.
 
@@ -41,11 +41,31 @@ def without_lists(folder):
         out.writelines(row.split(",")[0] + ",\n" for row in listed)
 
 
+def with_bars(folder):
+    """The middle market with a bar at every second programme: a half of the worst rank of the score type."""
+    middle, worst = files_of("middle"), {}
+    os.makedirs(folder, exist_ok=True)
+    for at in (1, 2):
+        shutil.copyfile(middle[at], os.path.join(folder, FILES[at]))
+    with open(middle[2]) as ranks:
+        next(ranks)
+        for row in ranks:
+            _, kind, rank = row.split(",")
+            worst[kind] = max(worst.get(kind, 2), int(rank))
+    with open(middle[0]) as programmes, open(os.path.join(folder, FILES[0]), "w") as out:
+        out.write(next(programmes).rstrip() + ",bar\n")
+        for at, row in enumerate(programmes):
+            out.write("%s,%s\n" % (row.rstrip(), "-" if at % 2 else worst[row.split(",")[1]] // 2))
+
+
+MADE_OF_OTHERS = {"unlisted": without_lists, "barred": with_bars}
+
+
 def files_of(size):
     folder = os.path.join(OUT, size)
-    if size == "unlisted":
+    if size in MADE_OF_OTHERS:
         if not os.path.exists(folder):
-            without_lists(folder)
+            MADE_OF_OTHERS[size](folder)
         return [os.path.join(folder, name) for name in FILES]
     if not os.path.exists(os.path.join(folder, "ranks.csv")):
         words = [str(number) for number in SIZES[size]]

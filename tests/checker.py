@@ -8,11 +8,12 @@ Build the program first, as with ./place. Of each market, 1,000 where no number 
   stable, or not; a candidate who is left out and a wrong number among the base ranks are seen;
 - the stable placement that is best for candidates, who ask in the order of their lists, is stable by both, and where it
   is another one than the program's the checker's fifth question says so, and names whom;
+- what `fixed` prints is true of the program's placement and of that best one;
 - with the rows of each file in the other order the program places the same;
 - and of every fifth market all placements there are are looked through: that of the checker's offers is stable, and no
   stable one gives any candidate less.
 
-Every second market has bars. Where the program does not read them yet, these markets are tried without it.
+Every second market has bars.
 """
 import importlib.machinery
 import importlib.util
@@ -47,7 +48,7 @@ class Files:
 
     def __init__(self, seed, folder):
         draw = random.Random(seed)
-        self.draw, self.has_bars = draw, seed % 2 == 1
+        self.draw = draw
         self.path = {name: os.path.join(folder, f"{name}-{seed}.csv") for name in NAMES}
         # in a crossed market each programme has a type of its own and one seat, and everybody is ranked and lists all
         crossed = seed % 4 < 2
@@ -56,9 +57,10 @@ class Files:
         codes = draw.sample(range(1, 50), programmes)
         kinds = [f"{code},T{at if crossed else draw.randrange(types)},{1 if crossed else draw.randint(0, 2)}"
                  for at, code in enumerate(codes)]
-        if self.has_bars:
+        has_bars = seed % 2 == 1
+        if has_bars:
             kinds = [f"{kind},{draw.choice(('-', '-', draw.randint(1, 30)))}" for kind in kinds]
-        self.write("programmes", "programme,type,quota" + ",bar" * self.has_bars, kinds)
+        self.write("programmes", "programme,type,quota" + ",bar" * has_bars, kinds)
         self.lists = {who: draw.sample(codes, programmes if crossed else draw.randint(0, programmes))
                       for who in draw.sample(range(1, 99), candidates)}
         self.write("candidates", "candidate,list",
@@ -132,7 +134,13 @@ def audit_differs(files, market, held):
     return asked, (status, text) != wanted or (status == 7 and text == "STABLE\n")
 
 
-def examine(seed, folder, with_program):
+def shared(held, codes):
+    """What `fixed` prints, if a placement leaves and fills what every stable one does."""
+    return "".join(["row,number,held\n", *(f"CANDIDATE,{who},0\n" for who in held if held[who] is None),
+                    *(f"PROGRAMME,{code},{list(held.values()).count(code)}\n" for code in codes)])
+
+
+def examine(seed, folder):
     """What differs in one market, and how many placements of it were stable, and another's than the program's."""
     files = Files(seed, folder)
     market = CHECKER.Market(*(files.path[name] for name in NAMES[:3]))
@@ -140,10 +148,6 @@ def examine(seed, folder, with_program):
     if seed % 5 == 0 and least_of_all(market) != CHECKER.by_offers(market):
         wrong.append("the offers do not come to the least of all stable placements")
     best = by_asking(market)
-    if not with_program:
-        if not is_stable(CHECKER.questions(market, best)):
-            wrong.append("what candidates come to by asking is not stable")
-        return wrong, stable, 0
     text = files.run("place")[1]
     for name, printed in (("placement", text), ("base", files.run("base")[1])):
         with open(files.path[name], "w", encoding="ascii") as out:
@@ -167,30 +171,25 @@ def examine(seed, folder, with_program):
     others = [who for who in placed if placed[who] != best[who]]
     if differs or not is_stable(asked) or len(asked["5 least of all stable"]) != len(others):
         wrong.append("the stable placement that is best for candidates is judged wrong")
+    fixed = files.run("fixed")[1]
+    if any(fixed != shared(held, market.programmes) for held in (placed, best)):
+        wrong.append("what all stable placements share is another thing")
     files.turn_round()
     if sorted(files.run("place")[1].splitlines()) != sorted(text.splitlines()):
         wrong.append("with the rows in the other order another placement is printed")
     return wrong, stable, bool(others)
 
 
-def reads_bars(folder):
-    """Whether the program accepts a programmes file with bars."""
-    files = Files(1, folder)
-    return files.run("place")[0] == 0
-
-
 def main():
     markets = int(sys.argv[1]) if len(sys.argv) > 1 else 1_000
     with tempfile.TemporaryDirectory() as folder, ThreadPoolExecutor(os.cpu_count()) as pool:
-        bars = reads_bars(folder)
-        found = list(pool.map(lambda seed: examine(seed, folder, bars or seed % 2 == 0), range(markets)))
+        found = list(pool.map(lambda seed: examine(seed, folder), range(markets)))
     for seed, (wrong, _, _) in enumerate(found):
         for line in wrong:
             print(f"checker: market {seed}: {line}", file=sys.stderr)
     failed = sum(bool(wrong) for wrong, _, _ in found)
     print(f"checker: {markets} markets, {sum(it[1] for it in found)} placements by chance stable,"
-          f" {sum(it[2] for it in found)} markets with another stable placement, {failed} wrong"
-          + ("" if bars else "; markets with bars were tried without the program, which refuses their header"))
+          f" {sum(it[2] for it in found)} markets with another stable placement, {failed} wrong")
     sys.exit(failed != 0)
 
 

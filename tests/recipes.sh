@@ -75,6 +75,27 @@ echo '1,101;x' >>candidates.csv
 [ $? = 3 ] && grep -q '^fault candidates ' notes && [ "$(ls | tr '\n' ' ')" = 'candidates.csv notes programmes.csv ranks.csv ' ] ||
     not "a refused run says why, and leaves nothing"
 
+# Bars: their mistakes are told, nobody behind one is placed, and seats of such a programme stay free.
+cp -r ../database "$room/bars" && rm -r "$room/bars/results" && cd "$room/bars" || exit 1
+sqlite3 office.db 'create table bar (code integer, rank); insert into bar select code, 300 from programme where code % 3 = 0;
+    insert into bar values (299999999, 300); insert into bar select min(code), 0 from programme where code % 3 > 0;
+    insert into bar select min(code), 300 from bar;'
+sql 3_bars.sql >told
+cut -d' ' -f1,2,3,4 told | sed -E 's/( [0-9]+)+$//' >kinds
+printf '%s\n' 'F03 or F04 bar' 'bar twice' 'bar of no programme' | cmp -s kinds - || not "wrong bars are told: $(cat told)"
+sqlite3 office.db 'delete from bar where rank = 0 or code = 299999999 or rowid not in (select min(rowid) from bar group by code)'
+[ -z "$(sql 3_bars.sql)" ] || not "no bar is told once all is mended"
+"$recipes/4_run.sh" || not "files with bars are placed"
+(cd results && "$top/tools/check_placement" programmes.csv candidates.csv ranks.csv placement.csv base.csv) >checked ||
+    not "the checker finds a placement with bars right: $(cat checked)"
+sql 5_load.sql >summary
+sqlite3 office.db 'select count(*), max(base.base) <= 300, sum(base.held) < sum(base.quota)
+    from bar join base using (code)' >held
+[ "$(cat held)" = "$(sqlite3 office.db 'select count(*) from bar')|1|1" ] || not "bars keep ranks out: $(cat held)"
+[ "$(sqlite3 office.db "select count(*) > 0 from reason where reason = 'BAR' and base = 300")" = 1 ] ||
+    not "the bar is a reason"
+cd "$room/night" || exit 1
+
 # Nights: one that goes well, one that is refused, one beside another.
 cp ../database/candidates.csv .
 "$recipes/nightly.sh" . >log && [ -L results ] && cmp -s results/placement.csv ../database/results/placement.csv ||

@@ -1,10 +1,12 @@
 #!/usr/bin/env python3
-"""Runs tools/check_placement, explain, show_fault and report on small files, and looks at what they say.
+"""Runs tools/check_placement, explain, show_fault and report on small files, and looks at what they say, and at what they
+and tools/definitions say where nobody reads on.
 
 Build the programs first, as with ./place and ./place-desk. tests/checker.py tries check_placement on many markets.
 """
 import os
 import re
+import signal
 import subprocess
 import sys
 import tempfile
@@ -162,8 +164,20 @@ def reports(room):
     check("a report of other files", status == 2 and "first row" in notes, notes)
 
 
+def closed_pipes(room):
+    """A tool whose reader has gone, as `head` does, ends without a word."""
+    for tool, *words in (("check_placement", *FILES, "placement.csv"), ("explain", "3"), ("definitions",),
+                         ("report", *FILES[:2], "placement.csv", "base.csv")):
+        reader, writer = os.pipe()
+        os.close(reader)
+        ended = subprocess.run([os.path.join(ROOT, "tools", tool), *words], cwd=room, stdout=writer,
+                               stderr=subprocess.PIPE, text=True, check=False)
+        os.close(writer)
+        check(f"{tool} into a closed pipe", (ended.returncode, ended.stderr) == (-signal.SIGPIPE, ""), ended.stderr)
+
+
 def main():
-    for part in (usage, checks, explains, faults, reports):
+    for part in (usage, checks, explains, faults, reports, closed_pipes):
         with tempfile.TemporaryDirectory() as room:
             write(room, MARKET)
             part(room)

@@ -15,6 +15,6 @@ mod team;
 #[cfg(test)]
 mod tests;
 
-pub use gate::{Gate, GatePoint, OpenGate};
+pub use gate::{Gate, GatePoint, OpenGate, RestingGate};
 pub use team::run_team;
 pub use worker::work;

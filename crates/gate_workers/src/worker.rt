@@ -13,20 +13,13 @@ use claim_words::{claim, post, read_entry};
 use commit_book::{commit_turn, look, release, take};
 use full_flags::read_flags;
 use market::Dict;
-use std::hint::spin_loop;
 use word_rule::{SharedRound, WorkSeat};
-
-// How often a worker spins after a miss, at least.
-const SHORTEST_PAUSE: u32 = 64;
-
-// How often it spins at most, after many misses.
-const LONGEST_PAUSE: u32 = 16_384;
 
 /// Draws a turn, goes along its list up to the first entry that has a seat left, posts the place
 /// found and tries the mark once; who takes it commits turns until a look finds none, and gives it
 /// back. So on until no turn is left: the seat is then done, and has no claim, no debt and not the
-/// mark. It is written to stand back for a while after a miss, and longer after the next one, since
-/// who holds the mark is quickest alone.
+/// mark. It is written to stand back as the gate says after a miss, and longer after the next one,
+/// since who holds the mark is quickest alone.
 pub fn work<G: Gate>(round: &SharedRound, dict: &Dict, me: &mut WorkSeat, gate: &G)
     requires seat { IsSeatOf round.now me.old }
     requires dict { dict.now ≡ dict_of round.now }
@@ -35,27 +28,25 @@ pub fn work<G: Gate>(round: &SharedRound, dict: &Dict, me: &mut WorkSeat, gate: 
     ensures over { IsOver round.now me.new }
     ensures worked { HasWorked me.old me.new }
 {
-    let mut pause = SHORTEST_PAUSE;
+    let mut misses: u32 = 0;
     while let Some(turn) = claim(round, me) {
         pass(gate, me, GatePoint::Claimed(turn));
         read_list(round, dict, me, turn, gate);
         post(round, dict, me);
         pass(gate, me, GatePoint::Posted(turn));
         let held = try_mark(round, dict, me, gate);
-        pause = stand_back(held, pause);
+        misses = after_try(gate, held, misses);
     }
 }
 
-// Spins so often after a miss. How often to spin after the next one: twice as often after a miss,
-// and half as often after a take.
-fn stand_back(held: bool, pause: u32) -> u32 {
+// Stands back after a miss. How many misses to count from then on: one more, and one fewer after a
+// take.
+fn after_try<G: Gate>(gate: &G, held: bool, misses: u32) -> u32 {
     if held {
-        return SHORTEST_PAUSE.max(pause / 2);
+        return misses.saturating_sub(1);
     }
-    for _ in 0..pause {
-        spin_loop();
-    }
-    LONGEST_PAUSE.min(pause.saturating_mul(2))
+    gate.stand_back(misses);
+    misses.saturating_add(1)
 }
 
 // Lets the worker pass the gate at a point that its seat has come to.

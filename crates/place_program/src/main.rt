@@ -1,7 +1,7 @@
 //! Does what its words say over the system's files and streams.
 #![tactic(auto)]
 
-use gate_workers::OpenGate;
+use gate_workers::RestingGate;
 use place_edges::{RealShelf, RealSink};
 use place_run::run_words;
 use std::env;
@@ -21,8 +21,9 @@ fn main(rt: HostRuntime) -> ExitCode {
     let mut shelf = RealShelf::new(rt);
     let mut out = RealSink::new(rt.stdout());
     let mut notes = RealSink::new(rt.stderr());
+    let gate = RestingGate::new(&rt);
     let status = run_words(
-        &rt, alloc, &words, &mut shelf, &mut out, &mut notes, &OpenGate,
+        &rt, alloc, &words, &mut shelf, &mut out, &mut notes, &gate,
     );
     ExitCode::from(status.code())
 }

@@ -9,7 +9,7 @@ mod refused_in_turn;
 
 use self::gates::{Come, Meeting, OneWay};
 use crate::{
-    Clerk, Desk, DeskGate, DeskPoint, DeskState, DeskStatus, DeskWords, OpenDesk, Reply, run_desk,
+    Clerk, Desk, DeskGate, DeskPoint, DeskState, DeskStatus, OpenDesk, Reply, run_desk,
     serve_next,
 };
 use place_edges::{MemShelf, MemSink, SureShelf, SureSink};
@@ -20,10 +20,8 @@ use std::sync::Wait;
 use std::test::Fail;
 use std::thread::Threads;
 
-// Candidates 1 and 3 are placed, and 2 holds none; without and with the kinds of the seats.
+// Candidates 1 and 3 are placed, and 2 holds none.
 const PLACEMENT: &[u8] = b"candidate,programme\n1,101\n2,-\n3,201\n";
-
-const SEATED: &[u8] = b"candidate,programme,seat\n1,101,G\n2,-,-\n3,201,R\n";
 
 const REQUESTS: &[u8] = b"candidate\n3\n2\n9\n1\n3\n";
 
@@ -109,159 +107,6 @@ fn ends(
         ((code, out, note), faults, calls)
     );
     Ok(ran.status)
-}
-
-// A placement, requests, the number of the status, the text, the line, and the calls of the shelf.
-type Case = (
-    &'static [u8],
-    &'static [u8],
-    u8,
-    &'static [u8],
-    &'static [u8],
-    u64,
-);
-
-// Files that are served, and files with a fault.
-const FILES: [Case; 16] = [
-    (PLACEMENT, REQUESTS, 0, REGISTERED, NUMBERS, 6),
-    (SEATED, REQUESTS, 0, REGISTERED, NUMBERS, 6),
-    (
-        b"\xEF\xBB\xBFcandidate,programme\r\n\r\n3,201\r\n2,-\n001,101",
-        b"\xEF\xBB\xBFcandidate\r\n003\r\n\n2\n9\n1\n3",
-        0,
-        b"candidate\n3\n1\n",
-        NUMBERS,
-        6,
-    ),
-    (
-        PLACEMENT,
-        b"candidate\n",
-        0,
-        b"candidate\n",
-        b"registered 0 again 0 notplaced 0 unknown 0\n",
-        6,
-    ),
-    (
-        b"candidate,programme\n",
-        b"candidate\n5\n5\n",
-        0,
-        b"candidate\n",
-        b"registered 0 again 0 notplaced 0 unknown 2\n",
-        6,
-    ),
-    (
-        b"",
-        REQUESTS,
-        3,
-        b"",
-        b"fault placement line 1 field 0 F01 Header earlier 0\n",
-        2,
-    ),
-    (
-        PLACEMENT,
-        b"",
-        3,
-        b"",
-        b"fault registrations line 1 field 0 F01 Header earlier 0\n",
-        5,
-    ),
-    (
-        b"candidate,seat\n",
-        b"x",
-        3,
-        b"",
-        b"fault placement line 1 field 0 F01 Header earlier 0\n",
-        3,
-    ),
-    (
-        b"candidate,programme\n1,101,G\n",
-        REQUESTS,
-        3,
-        b"",
-        b"fault placement line 2 field 0 F02 FieldCount earlier 0\n",
-        3,
-    ),
-    (
-        b"candidate,programme\n1,x\n",
-        REQUESTS,
-        3,
-        b"",
-        b"fault placement line 2 field 2 F03 NotNumber earlier 0\n",
-        3,
-    ),
-    (
-        b"candidate,programme\n1,101\n\n1,-\n",
-        REQUESTS,
-        3,
-        b"",
-        b"fault placement line 4 field 1 F06 Duplicate earlier 2\n",
-        3,
-    ),
-    (
-        b"candidate,programme,seat\n1,101,-\n",
-        REQUESTS,
-        3,
-        b"",
-        b"fault placement line 2 field 3 F13 BadSeat earlier 0\n",
-        3,
-    ),
-    (
-        PLACEMENT,
-        b"candidates\n",
-        3,
-        b"",
-        b"fault registrations line 1 field 0 F01 Header earlier 0\n",
-        6,
-    ),
-    (
-        PLACEMENT,
-        b"candidate\n1\n2,3\n",
-        3,
-        b"",
-        b"fault registrations line 3 field 0 F02 FieldCount earlier 0\n",
-        6,
-    ),
-    (
-        PLACEMENT,
-        b"candidate\n1\n-\n0\n",
-        3,
-        b"",
-        b"fault registrations line 3 field 1 F03 NotNumber earlier 0\n",
-        6,
-    ),
-    (
-        PLACEMENT,
-        b"candidate\n100000000000\n",
-        3,
-        b"",
-        b"fault registrations line 2 field 1 F04 OutOfRange earlier 0\n",
-        6,
-    ),
-];
-
-// Each two files come to this.
-fn are_served(
-    rt: &(impl Threads + Wait + Sync + Abort),
-    alloc: Global,
-    texts: &[&str],
-    cases: &[Case],
-) -> Result<(), Fail> {
-    for (placement, requests, code, out, note, calls) in cases {
-        let shelf = shelf(alloc, &[("p", *placement), ("r", *requests)])?;
-        let wanted = (*code, *out, *note, 0, *calls);
-        ends(rt, alloc, texts, shelf, &OpenDesk, wanted)?;
-    }
-    Ok(())
-}
-
-#[test]
-fn files_are_served_or_their_first_fault_is_noted_by_any_number_of_clerks(
-    rt: HostRuntime,
-) -> Result<(), Fail> {
-    for texts in DESK_BY {
-        are_served(&rt, rt.alloc(), texts, &FILES)?;
-    }
-    Ok(())
 }
 
 #[test]
@@ -388,107 +233,6 @@ fn each_request_has_its_own_reply(rt: HostRuntime) -> Result<(), Fail> {
     for (index, reply) in wanted.iter().enumerate() {
         assert!(rt; closed.reply(index as u32) == *reply);
     }
-    Ok(())
-}
-
-// Words that are refused: their status, and its line.
-const REFUSED: [(&[&str], DeskWords, &[u8]); 12] = [
-    (&[], DeskWords::WordCount(1), b"words WordCount 1\n"),
-    (&["p"], DeskWords::WordCount(2), b"words WordCount 2\n"),
-    (
-        &["p", "r", "x"],
-        DeskWords::WordCount(3),
-        b"words WordCount 3\n",
-    ),
-    (
-        &["p", "r", "x", "1"],
-        DeskWords::WordCount(3),
-        b"words WordCount 3\n",
-    ),
-    (
-        &["p", "r", "x", "1", "y"],
-        DeskWords::WordCount(3),
-        b"words WordCount 3\n",
-    ),
-    (
-        &["p", "r", "--clerks=2"],
-        DeskWords::WordCount(3),
-        b"words WordCount 3\n",
-    ),
-    (
-        &["p", "r", "--clerks"],
-        DeskWords::WordCount(4),
-        b"words WordCount 4\n",
-    ),
-    (
-        &["p", "r", "--clerks", "x", "y"],
-        DeskWords::WordCount(5),
-        b"words WordCount 5\n",
-    ),
-    (
-        &["p", "r", "--clerks", "x"],
-        DeskWords::BadNumber(4),
-        b"words BadNumber 4\n",
-    ),
-    (
-        &["p", "r", "--clerks", ""],
-        DeskWords::BadNumber(4),
-        b"words BadNumber 4\n",
-    ),
-    (
-        &["p", "r", "--clerks", "0"],
-        DeskWords::BadNumber(4),
-        b"words BadNumber 4\n",
-    ),
-    (
-        &["p", "r", "--clerks", "65"],
-        DeskWords::BadNumber(4),
-        b"words BadNumber 4\n",
-    ),
-];
-
-// These words are refused so, over a shelf without a file.
-fn are_refused(
-    rt: &(impl Threads + Wait + Sync + Abort),
-    alloc: Global,
-    words: &[(&[&str], DeskWords, &[u8])],
-) -> Result<(), Fail> {
-    for (texts, refused, note) in words {
-        let shelf = shelf(alloc, &[])?;
-        let status = ends(rt, alloc, texts, shelf, &OpenDesk, (2, b"", *note, 0, 0))?;
-        assert_eq!(rt; status, DeskStatus::Words(*refused));
-    }
-    Ok(())
-}
-
-#[test]
-fn refused_words_open_no_file(rt: HostRuntime) -> Result<(), Fail> {
-    are_refused(&rt, rt.alloc(), &REFUSED)
-}
-
-#[test]
-fn a_number_of_clerks_may_have_zeros_in_front(rt: HostRuntime) -> Result<(), Fail> {
-    let shelf = shelf(rt.alloc(), &[("p", PLACEMENT), ("r", REQUESTS)])?;
-    let texts = ["p", "r", "--clerks", "00064"];
-    let wanted = (0, REGISTERED, NUMBERS, 0, 6);
-    ends(&rt, rt.alloc(), &texts, shelf, &OpenDesk, wanted)?;
-    Ok(())
-}
-
-#[test]
-fn a_missing_file_is_a_read_fault(rt: HostRuntime) -> Result<(), Fail> {
-    let missing = shelf(rt.alloc(), &[("p", PLACEMENT)])?;
-    let wanted = (4, b"".as_slice(), b"read fault\n".as_slice(), 1, 4);
-    ends(&rt, rt.alloc(), &DESK, missing, &OpenDesk, wanted)?;
-    Ok(())
-}
-
-#[test]
-fn a_placement_with_a_fault_keeps_the_registrations_closed(rt: HostRuntime) -> Result<(), Fail> {
-    let alloc = rt.alloc();
-    let shelf = shelf(alloc, &[("p", b"candidate,programme\n0,1\n")])?;
-    let note = b"fault placement line 2 field 1 F04 OutOfRange earlier 0\n";
-    ends(&rt, alloc, &DESK, shelf, &OpenDesk, (3, b"", note, 0, 3))?;
     Ok(())
 }
 

@@ -11,14 +11,16 @@ ghost use Rattle.market.specs.Mechanism.{IsCuts, mechanism_placement, mechanism_
 ghost use Rattle.market.specs.Choices.{IsRound};
 ghost use Rattle.market.specs.Reruns.{IsRunUpto, placement_turns};
 ghost use Rattle.round_rerun.specs.Runs.{first_turn_of, run_turns};
+ghost use Rattle.round_rerun.specs.Kept.{IsKept, KeepsUnmarked};
 
+use crate::kept::Kept;
 use crate::rerun::run_touched;
 use gate_workers::{Gate, OpenGate};
-use market::{Cuts, Market, Outcome, Placement, Placer, Steps, Tentative};
+use market::{Cuts, Market, Outcome, Placement, Placer, Steps};
 use std::alloc::{AllocError, Global};
 use std::sync::ledger::Ledger;
 use std::thread::Threads;
-use truncation::{Touched, cut_lists};
+use truncation::{Touched, cut_marked};
 
 /// Places by rounds over teams of 1 to `MAX_WORKERS` workers, who pass this gate.
 #[derive(Drop)]
@@ -107,27 +109,19 @@ fn place_rounds<R: Threads + Sync, G: Gate, L: Ledger>(
         (placement_turns market.now)) }
 {
     let mut cuts = Cuts::whole(alloc, market)?;
-    let mut tentative = Tentative::none(alloc, market)?;
+    let mut kept = Kept::none(alloc, market)?;
     let mut touched = Touched::all();
     let mut rounds: u32 = 0;
     let mut total: u32 = 0;
     let mut done: u64 = 0;
     'rounds: loop {
         done += run_round(
-            rt,
-            alloc,
-            workers,
-            gate,
-            market,
-            &cuts,
-            &touched,
-            &mut tentative,
-            turns,
+            rt, alloc, workers, gate, market, &cuts, &touched, &mut kept, turns,
         )?;
-        touched = cut_lists(market, &tentative, &mut cuts);
+        touched = cut_marked(market, &kept.table, kept.changed(), &mut cuts);
         let count = touched.several();
         if count == 0 {
-            let held = tentative.best_programmes(alloc, market)?;
+            let held = kept.table.best_programmes(alloc, market)?;
             return Ok(Outcome {
                 placement: Placement::from_vec(held),
                 rounds: rounds + 1,
@@ -135,6 +129,7 @@ fn place_rounds<R: Threads + Sync, G: Gate, L: Ledger>(
                 turns: done,
             });
         }
+        kept.forget_changes();
         rounds += 1;
         total += count;
     }
@@ -149,17 +144,19 @@ fn run_round<R: Threads + Sync, G: Gate, L: Ledger>(
     market: &Market,
     cuts: &Cuts,
     touched: &Touched,
-    tentative: &mut Tentative,
+    kept: &mut Kept,
     turns: &mut Steps<L>,
 ) -> Result<u64, AllocError>
     requires workers { (0 < workers) × (workers ≤ MAX_WORKERS) }
     requires cuts { IsCuts market.now cuts.now }
-    requires types { length tentative.old ≡ market.now.types }
+    requires choices { IsKept market.now kept.old }
     requires within { (t : ℕ) → t < market.now.types
         → first_turn_of market.now touched.now.first t ≤ length (order_of market.now t) }
     requires kept { (t : ℕ) → t < market.now.types → IsRunUpto market.now cuts.now t
-        (first_turn_of market.now touched.now.first t) (slice_index_or tentative.old t []) }
-    ensures round { IfOk result (λ _. IsRound market.now cuts.now tentative.new) }
+        (first_turn_of market.now touched.now.first t) (slice_index_or kept.old.table t []) }
+    ensures round { IfOk result (λ _. IsRound market.now cuts.now kept.new.table) }
+    ensures choices { IfOk result (λ _. IsKept market.now kept.new) }
+    ensures unmarked { IfOk result (λ _. KeepsUnmarked kept.old kept.new) }
     ensures count { IfOk result (λ n. n ≡ run_turns market.now touched.now.first) }
     ensures few { IfOk result (λ n. n ≤ MAX_TYPES * MAX_CANDIDATES) }
     ensures turns { IfOk result (λ n. turns.new ≡ turns.old + n) }
@@ -171,7 +168,7 @@ fn run_round<R: Threads + Sync, G: Gate, L: Ledger>(
     for kind in 0..market.type_count() {
         let first = touched.first(kind);
         let ran = run_touched(
-            rt, alloc, workers, gate, market, kind, cuts, first, tentative, turns,
+            rt, alloc, workers, gate, market, kind, cuts, first, kept, turns,
         )?;
         done += u64::from(ran);
     }

@@ -7,7 +7,9 @@ ghost use Rattle.market.specs.Problems.{order_of, kind_of};
 ghost use Rattle.market.specs.Mechanism.{IsCuts};
 ghost use Rattle.market.specs.Choices.{held_in_table};
 ghost use Rattle.market.specs.Reruns.{IsRunUpto, IsKeptFill};
+ghost use Rattle.round_rerun.specs.Kept.{IsKept, KeepsUnmarked};
 
+use crate::kept::Kept;
 use gate_workers::{Gate, run_team};
 use market::{Cuts, Market, Steps, Tentative};
 use std::alloc::{AllocError, Global};
@@ -25,7 +27,7 @@ pub fn run_touched<R: Threads + Sync, G: Gate, L: Ledger>(
     kind: u32,
     cuts: &Cuts,
     first: Option<u32>,
-    tentative: &mut Tentative,
+    kept: &mut Kept,
     turns: &mut Steps<L>,
 ) -> Result<u32, AllocError>
     requires workers { (0 < workers) × (workers ≤ MAX_WORKERS) }
@@ -33,15 +35,16 @@ pub fn run_touched<R: Threads + Sync, G: Gate, L: Ledger>(
     requires cuts { IsCuts market.now cuts.now }
     requires from { unwrap_or first (length (order_of market.now kind))
         ≤ length (order_of market.now kind) }
-    requires types { length tentative.old ≡ market.now.types }
+    requires choices { IsKept market.now kept.old }
     requires kept { IsRunUpto market.now cuts.now kind
         (unwrap_or first (length (order_of market.now kind)))
-        (slice_index_or tentative.old kind []) }
-    ensures types { IfOk result (λ _. length tentative.new ≡ market.now.types) }
+        (slice_index_or kept.old.table kind []) }
+    ensures choices { IfOk result (λ _. IsKept market.now kept.new) }
+    ensures unmarked { IfOk result (λ _. KeepsUnmarked kept.old kept.new) }
     ensures row { IfOk result (λ _. IsRunUpto market.now cuts.now kind
-        (length (order_of market.now kind)) (slice_index_or tentative.new kind [])) }
+        (length (order_of market.now kind)) (slice_index_or kept.new.table kind [])) }
     ensures others { IfOk result (λ _. (t : ℕ) → (t ≡ kind → ⊥)
-        → slice_index_or tentative.new t [] ≡ slice_index_or tentative.old t []) }
+        → slice_index_or kept.new.table t [] ≡ slice_index_or kept.old.table t []) }
     ensures count { IfOk result (λ n. n ≡ length (order_of market.now kind)
         - unwrap_or first (length (order_of market.now kind))) }
     ensures turns { IfOk result (λ n. turns.new ≡ turns.old + n) }
@@ -49,7 +52,7 @@ pub fn run_touched<R: Threads + Sync, G: Gate, L: Ledger>(
 {
     match first {
         Some(from) => run_type(
-            rt, alloc, workers, gate, market, kind, cuts, from, tentative, turns,
+            rt, alloc, workers, gate, market, kind, cuts, from, kept, turns,
         ),
         None => Ok(0),
     }
@@ -65,31 +68,32 @@ fn run_type<R: Threads + Sync, G: Gate, L: Ledger>(
     kind: u32,
     cuts: &Cuts,
     from: u32,
-    tentative: &mut Tentative,
+    kept: &mut Kept,
     turns: &mut Steps<L>,
 ) -> Result<u32, AllocError>
     requires workers { (0 < workers) × (workers ≤ MAX_WORKERS) }
     requires kind { kind < market.now.types }
     requires cuts { IsCuts market.now cuts.now }
     requires from { from ≤ length (order_of market.now kind) }
-    requires types { length tentative.old ≡ market.now.types }
-    requires kept { IsRunUpto market.now cuts.now kind from (slice_index_or tentative.old kind []) }
-    ensures types { IfOk result (λ _. length tentative.new ≡ market.now.types) }
+    requires choices { IsKept market.now kept.old }
+    requires kept { IsRunUpto market.now cuts.now kind from (slice_index_or kept.old.table kind []) }
+    ensures choices { IfOk result (λ _. IsKept market.now kept.new) }
+    ensures unmarked { IfOk result (λ _. KeepsUnmarked kept.old kept.new) }
     ensures row { IfOk result (λ _. IsRunUpto market.now cuts.now kind
-        (length (order_of market.now kind)) (slice_index_or tentative.new kind [])) }
+        (length (order_of market.now kind)) (slice_index_or kept.new.table kind [])) }
     ensures others { IfOk result (λ _. (t : ℕ) → (t ≡ kind → ⊥)
-        → slice_index_or tentative.new t [] ≡ slice_index_or tentative.old t []) }
+        → slice_index_or kept.new.table t [] ≡ slice_index_or kept.old.table t []) }
     ensures count { IfOk result (λ n. n ≡ length (order_of market.now kind) - from) }
     ensures turns { IfOk result (λ n. turns.new ≡ turns.old + n) }
     ensures refused { IfErr result (λ _. turns.new ≡ turns.old) }
 {
     // Its clause says that the market is valid.
     let _ = market.type_count();
-    let fill = kept_fill(alloc, market, kind, from, tentative)?;
+    let fill = kept_fill(alloc, market, kind, from, &kept.table)?;
     let dict = market.dict(alloc, kind, cuts, from, &fill)?;
     let words = run_team(rt, alloc, &dict, workers, gate, turns)?;
     for turn in 0..dict.turns() {
-        tentative.write_turn(market, cuts, kind, from, &dict, turn, words.choice(turn));
+        kept.write_turn(market, cuts, kind, from, &dict, turn, words.choice(turn));
     }
     Ok(dict.turns())
 }

@@ -9,5 +9,5 @@ mod cut;
 #[cfg(test)]
 mod tests;
 
-pub use cut::cut_lists;
+pub use cut::{cut_lists, cut_marked};
 pub use touched::Touched;

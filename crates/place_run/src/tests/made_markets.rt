@@ -4,9 +4,8 @@
 ghost use Rattle.std.specs.Prelude.{◌≡◌, ◌<◌};
 
 use super::gates::Draws;
-use super::{are_refused, ends, shelf};
+use super::{ends, shelf};
 use case_maker::make_market;
-use command_words::WordsFault;
 use dictatorship::PlainPlacer;
 use market::{Market, Placer, Steps};
 use std::alloc::{AllocError, Global};
@@ -128,28 +127,4 @@ fn the_plain_placer_finds_the_same_in_a_large_market(rt: HostRuntime) -> Result<
     let market = make_market(alloc, 1, 20_000, 500, 5)?;
     assert_eq!(rt; plain_counts(&rt, alloc, &market)?, (19, 23_896, 18_534));
     Ok(())
-}
-
-// Words of numbers that are refused, over a shelf that is not called.
-const BAD_NUMBERS: [(&[&str], WordsFault, &[u8]); 3] = [
-    (
-        &["make", "1", "x", "4", "2"],
-        WordsFault::BadNumber(3),
-        b"words BadNumber 3\n",
-    ),
-    (
-        &["make", "1", "3500000", "4", "6"],
-        WordsFault::BadNumber(5),
-        b"words BadNumber 5\n",
-    ),
-    (
-        &["make", "1", "x", "4"],
-        WordsFault::WordCount(5),
-        b"words WordCount 5\n",
-    ),
-];
-
-#[test]
-fn the_first_bad_number_of_a_market_is_noted(rt: HostRuntime) -> Result<(), Fail> {
-    are_refused(&rt, rt.alloc(), &BAD_NUMBERS)
 }

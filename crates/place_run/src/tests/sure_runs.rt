@@ -1,5 +1,5 @@
 // Runs over a shelf and a sink that never fail.
-use super::{BAD_RANKS, CANDIDATES, PLACE, PROGRAMMES, RANKS, words};
+use super::{CANDIDATES, PLACE, PROGRAMMES, RANKS, words};
 use crate::run_words;
 use gate_workers::OpenGate;
 use place_edges::{MemSink, SureShelf, SureSink};
@@ -7,6 +7,8 @@ use std::alloc::{AllocError, Global};
 use std::process::Abort;
 use std::test::Fail;
 use std::thread::Threads;
+
+const BAD_RANKS: &[u8] = b"candidate,type,rank\n1,say,1\n";
 
 // Words, the files beside which all others are empty, the number of the status, and its line.
 const ENDS: [(&[&str], &[(&str, &[u8])], u8, &[u8]); 5] = [

@@ -17,16 +17,14 @@ pub(super) const CHAIN_REASONS: &[u8] =
     b"candidate,programme,reason,base\n1,11,PLACED,-\n1,21,BELOW,-\n2,21,PLACED,-\n\
     2,11,BELOW,-\n2,12,BELOW,-\n3,12,PLACED,-\n";
 
-// A market as its three files, what `place`, `base` and `reasons` print of it, and how many rounds,
-// cuts and turns it takes.
+// A market as its three files, what `place` prints of it, and how many rounds, cuts and turns it
+// takes.
 #[derive(Clone, Copy)]
 pub(super) struct Worked {
     pub(super) programmes: &'static [u8],
     pub(super) candidates: &'static [u8],
     pub(super) ranks: &'static [u8],
     pub(super) placed: &'static [u8],
-    pub(super) base: &'static [u8],
-    pub(super) reasons: &'static [u8],
     pub(super) counts: (u32, u32, u64),
 }
 
@@ -41,9 +39,6 @@ pub(super) const MARKETS: [Worked; 14] = [
         candidates: b"candidate,list\n1,101;201\n2,201;101\n",
         ranks: b"candidate,type,rank\n2,SAY,1\n1,SAY,2\n1,EA,1\n2,EA,2\n",
         placed: b"candidate,programme\n1,201\n2,101\n",
-        base: b"programme,quota,held,base\n101,1,1,1\n201,1,1,1\n",
-        reasons: b"candidate,programme,reason,base\n1,101,FULL,1\n1,201,PLACED,-\n2,201,FULL,1\n\
-            2,101,PLACED,-\n",
         counts: (1, 0, 4),
     },
     Worked {
@@ -51,9 +46,6 @@ pub(super) const MARKETS: [Worked; 14] = [
         candidates: CANDIDATES,
         ranks: RANKS,
         placed: PLACED,
-        base: b"programme,quota,held,base\n101,1,1,1\n201,1,1,2\n",
-        reasons: b"candidate,programme,reason,base\n1,101,PLACED,-\n1,201,BELOW,-\n\
-            2,201,PLACED,-\n",
         counts: (2, 1, 6),
     },
     // Three rounds.
@@ -62,8 +54,6 @@ pub(super) const MARKETS: [Worked; 14] = [
         candidates: CHAIN_CANDIDATES,
         ranks: CHAIN_RANKS,
         placed: CHAIN_PLACED,
-        base: CHAIN_BASE,
-        reasons: CHAIN_REASONS,
         counts: (3, 2, 11),
     },
     // Headers alone.
@@ -72,8 +62,6 @@ pub(super) const MARKETS: [Worked; 14] = [
         candidates: b"candidate,list\n",
         ranks: b"candidate,type,rank\n",
         placed: b"candidate,programme\n",
-        base: b"programme,quota,held,base\n",
-        reasons: b"candidate,programme,reason,base\n",
         counts: (1, 0, 0),
     },
     // No seat.
@@ -82,8 +70,6 @@ pub(super) const MARKETS: [Worked; 14] = [
         candidates: b"candidate,list\n1,101\n",
         ranks: b"candidate,type,rank\n1,SAY,1\n",
         placed: b"candidate,programme\n1,-\n",
-        base: b"programme,quota,held,base\n101,0,0,-\n",
-        reasons: b"candidate,programme,reason,base\n1,101,FULL,-\n",
         counts: (1, 0, 1),
     },
     // No rank at all.
@@ -92,8 +78,6 @@ pub(super) const MARKETS: [Worked; 14] = [
         candidates: b"candidate,list\n1,101\n",
         ranks: b"candidate,type,rank\n",
         placed: b"candidate,programme\n1,-\n",
-        base: b"programme,quota,held,base\n101,1,0,-\n",
-        reasons: b"candidate,programme,reason,base\n1,101,NORANK,-\n",
         counts: (1, 0, 0),
     },
     // The same, and a candidate with an empty list.
@@ -102,8 +86,6 @@ pub(super) const MARKETS: [Worked; 14] = [
         candidates: b"candidate,list\n1,101\n2,\n",
         ranks: b"candidate,type,rank\n",
         placed: b"candidate,programme\n1,-\n2,-\n",
-        base: b"programme,quota,held,base\n101,1,0,-\n",
-        reasons: b"candidate,programme,reason,base\n1,101,NORANK,-\n",
         counts: (1, 0, 0),
     },
     // Ranks of an unknown candidate and in an unknown type.
@@ -112,9 +94,6 @@ pub(super) const MARKETS: [Worked; 14] = [
         candidates: CANDIDATES,
         ranks: b"candidate,type,rank\n1,SAY,1\n2,SAY,2\n1,EA,1\n2,EA,2\n99,SAY,7\n1,TYT,1\n",
         placed: PLACED,
-        base: b"programme,quota,held,base\n101,1,1,1\n201,1,1,2\n",
-        reasons: b"candidate,programme,reason,base\n1,101,PLACED,-\n1,201,BELOW,-\n\
-            2,201,PLACED,-\n",
         counts: (2, 1, 6),
     },
     // A list of 24 entries.
@@ -123,15 +102,6 @@ pub(super) const MARKETS: [Worked; 14] = [
         candidates: b"candidate,list\n1,1;2;3;4;5;6;7;8;9;10;11;12;13;14;15;16;17;18;19;20;21;22;23;24\n",
         ranks: ONE_RANK,
         placed: b"candidate,programme\n1,1\n",
-        base: b"programme,quota,held,base\n1,1,1,1\n2,1,0,-\n3,1,0,-\n4,1,0,-\n5,1,0,-\n\
-            6,1,0,-\n7,1,0,-\n8,1,0,-\n9,1,0,-\n10,1,0,-\n11,1,0,-\n12,1,0,-\n13,1,0,-\n\
-            14,1,0,-\n15,1,0,-\n16,1,0,-\n17,1,0,-\n18,1,0,-\n19,1,0,-\n20,1,0,-\n\
-            21,1,0,-\n22,1,0,-\n23,1,0,-\n24,1,0,-\n25,1,0,-\n",
-        reasons: b"candidate,programme,reason,base\n1,1,PLACED,-\n1,2,BELOW,-\n1,3,BELOW,-\n\
-            1,4,BELOW,-\n1,5,BELOW,-\n1,6,BELOW,-\n1,7,BELOW,-\n1,8,BELOW,-\n1,9,BELOW,-\n\
-            1,10,BELOW,-\n1,11,BELOW,-\n1,12,BELOW,-\n1,13,BELOW,-\n1,14,BELOW,-\n\
-            1,15,BELOW,-\n1,16,BELOW,-\n1,17,BELOW,-\n1,18,BELOW,-\n1,19,BELOW,-\n\
-            1,20,BELOW,-\n1,21,BELOW,-\n1,22,BELOW,-\n1,23,BELOW,-\n1,24,BELOW,-\n",
         counts: (1, 0, 1),
     },
     // A byte order mark, lines that end in CR LF, an empty line, no last LF.
@@ -140,9 +110,6 @@ pub(super) const MARKETS: [Worked; 14] = [
         candidates: CANDIDATES,
         ranks: RANKS,
         placed: PLACED,
-        base: b"programme,quota,held,base\n101,1,1,1\n201,1,1,2\n",
-        reasons: b"candidate,programme,reason,base\n1,101,PLACED,-\n1,201,BELOW,-\n\
-            2,201,PLACED,-\n",
         counts: (2, 1, 6),
     },
     // The limits of numbers and of a type name, and leading zeros.
@@ -151,9 +118,6 @@ pub(super) const MARKETS: [Worked; 14] = [
         candidates: b"candidate,list\n99999999999,0007;0999999999\n",
         ranks: b"candidate,type,rank\n99999999999,ABCDEFG8,99999999\n",
         placed: b"candidate,programme\n99999999999,999999999\n",
-        base: b"programme,quota,held,base\n999999999,100000,1,99999999\n7,7,0,-\n",
-        reasons: b"candidate,programme,reason,base\n99999999999,7,NORANK,-\n\
-            99999999999,999999999,PLACED,-\n",
         counts: (1, 0, 1),
     },
     // Five score types.
@@ -168,13 +132,6 @@ pub(super) const MARKETS: [Worked; 14] = [
             10000000320,TYT,61200\n10000000412,TYT,15000\n10000000412,DIL,412\n",
         placed: b"candidate,programme\n10000000146,102210277\n10000000238,103910169\n\
             10000000320,102210277\n10000000412,106510077\n",
-        base: b"programme,quota,held,base\n102210277,2,2,98004\n103910169,1,1,5121\n\
-            105510032,1,0,-\n106510077,1,1,412\n202110455,1,0,-\n",
-        reasons: b"candidate,programme,reason,base\n10000000146,102210277,PLACED,-\n\
-            10000000146,103910169,BELOW,-\n10000000238,103910169,PLACED,-\n\
-            10000000238,105510032,BELOW,-\n10000000238,202110455,BELOW,-\n\
-            10000000320,102210277,PLACED,-\n10000000320,202110455,BELOW,-\n\
-            10000000412,106510077,PLACED,-\n",
         counts: (3, 4, 16),
     },
     // A quota with leading zeros.
@@ -183,9 +140,6 @@ pub(super) const MARKETS: [Worked; 14] = [
         candidates: CANDIDATES,
         ranks: RANKS,
         placed: PLACED,
-        base: b"programme,quota,held,base\n101,7,1,1\n201,1,1,2\n",
-        reasons: b"candidate,programme,reason,base\n1,101,PLACED,-\n1,201,BELOW,-\n\
-            2,201,PLACED,-\n",
         counts: (2, 1, 6),
     },
     // The ranks end before their last row.
@@ -194,20 +148,6 @@ pub(super) const MARKETS: [Worked; 14] = [
         candidates: CANDIDATES,
         ranks: b"candidate,type,rank\n1,SAY,1\n2,SAY,2\n1,EA,1\n",
         placed: b"candidate,programme\n1,101\n2,-\n",
-        base: b"programme,quota,held,base\n101,1,1,1\n201,1,0,-\n",
-        reasons: b"candidate,programme,reason,base\n1,101,PLACED,-\n1,201,BELOW,-\n\
-            2,201,NORANK,-\n",
         counts: (2, 1, 4),
     },
-];
-
-// What `fixed` prints of the exchange, which has two stable placements, of the market without a seat,
-// and of that without a rank.
-pub(super) const SHARED: [(usize, &[u8]); 3] = [
-    (0, b"row,number,held\nPROGRAMME,101,1\nPROGRAMME,201,1\n"),
-    (4, b"row,number,held\nCANDIDATE,1,0\nPROGRAMME,101,0\n"),
-    (
-        6,
-        b"row,number,held\nCANDIDATE,1,0\nCANDIDATE,2,0\nPROGRAMME,101,0\n",
-    ),
 ];

@@ -8,6 +8,7 @@ use Rattle.market.proofs.Dicts.{order-le}
 use Rattle.market.proofs.Plain.{sum_next}
 use Rattle.market.proofs.Replays.{round-rows}
 use Rattle.round_rerun.specs.Runs.{first_turn_of, run_turns}
+use Rattle.round_rerun.proofs.Keeping.{unmarked-both}
 use Rattle.round_rerun.proofs.Replaying.{err_too, sum_fewer}
 use Rattle.round_rerun.proofs.placing.run_round.Goals as goal
 
@@ -26,10 +27,12 @@ loop-kind-preserved g c =
     let e = c.first-first.ensures in
     let wide = c.from-done.ensures in
     let here = r.count in
-    let new = c.run_touched.new.tentative in
+    let new = c.run_touched.new.kept.table in
     let f = λ (t : ℕ). length (order_of m t) - first_turn_of m c.args.touched.now.first t in
     record {
-      types = r.types;
+      choices = r.choices;
+      unmarked = unmarked-both c.args.kept.now c.loop-kind.kept c.run_touched.new.kept
+          inv.unmarked r.unmarked;
       ran = λ t l.
           ⊎_elim
           (λ same. subst (λ (u : ℕ). IsRunUpto m cuts u (length (order_of m u)) (slice_index_or new
@@ -49,7 +52,7 @@ pub returns-clause-round : goal.returns-clause-round
 returns-clause-round g c =
     let m = c.args.market.now in
     let n = c.type_count-kind-end.ensures.count in
-    round-rows m c.args.cuts.now c.loop-kind.tentative c.loop-kind.invariant.types (λ t l.
+    round-rows m c.args.cuts.now c.loop-kind.kept.table c.loop-kind.invariant.choices.types (λ t l.
     c.loop-kind.invariant.ran t (omega arith))
 
 pub returns-clause-count : goal.returns-clause-count

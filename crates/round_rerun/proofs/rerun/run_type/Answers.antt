@@ -7,11 +7,12 @@ use Rattle.market.specs.Reruns.{IsKeptFill, IsRunUpto}
 use Rattle.market.specs.Problems.{order_of}
 use Rattle.market.proofs.Locals.{local-turns, local-fill}
 use Rattle.market.proofs.Replays.{kept_kind, kept_fills, kept_fill-fits}
+use Rattle.round_rerun.proofs.Keeping.{unmarked-none, unmarked-both}
 use Rattle.round_rerun.proofs.rerun.run_type.Goals as goal
 
 pub kept_fill-requires-clause-programmes : goal.kept_fill-requires-clause-programmes
 kept_fill-requires-clause-programmes g c = λ j p l e.
-    kept_kind c.args.market.now c.type_count.ensures.valid c.args.cuts.now c.args.tentative.now
+    kept_kind c.args.market.now c.type_count.ensures.valid c.args.cuts.now c.args.kept.now.table
     c.args.kind c.args.from j p c.requires.kind c.requires.from l c.requires.kept e
 
 pub dict-requires-clause-fill : goal.dict-requires-clause-fill
@@ -19,11 +20,11 @@ dict-requires-clause-fill g c =
     let m = c.args.market.now in
     let t = c.args.kind in
     let k = c.args.from in
-    let s = subst (IsKeptFill m (held_in_table c.args.tentative.now) t k)
+    let s = subst (IsKeptFill m (held_in_table c.args.kept.now.table) t k)
     (sym c.deref.ensures.value) c.in_ok-fill.ensures in
     kept_fill-fits m c.args.cuts.now c.deref.result.now t k s.programmes
     (kept_fills m c.type_count.ensures.valid c.args.cuts.now c.deref.result.now
-    c.args.tentative.now t k c.requires.kind c.requires.from c.requires.kept s)
+    c.args.kept.now.table t k c.requires.kind c.requires.from c.requires.kept s)
 
 pub choice-requires : goal.choice-requires
 choice-requires g c =
@@ -53,12 +54,12 @@ write_turn-requires-clause-fill g c =
     let k = c.args.from in
     let cuts = c.args.cuts.now in
     let fill = c.deref.result.now in
-    let s = subst (IsKeptFill m (held_in_table c.args.tentative.now) t k)
+    let s = subst (IsKeptFill m (held_in_table c.args.kept.now.table) t k)
     (sym c.deref.ensures.value) c.in_ok-fill.ensures in
     let f = ap (λ (x : Dictatorship). x.fill) c.in_ok-dict.ensures.dictatorship
     ∙ local-fill m cuts fill t k in
     subst (IsFillBefore m cuts t k) (sym f)
-    (kept_fills m c.type_count.ensures.valid cuts fill c.args.tentative.now t k c.requires.kind
+    (kept_fills m c.type_count.ensures.valid cuts fill c.args.kept.now.table t k c.requires.kind
     c.requires.from c.requires.kept s)
 
 pub write_turn-requires-clause-choice : goal.write_turn-requires-clause-choice
@@ -71,10 +72,12 @@ loop-turn-preserved g c =
     let at = c.args.from + c.loop-turn.turn in
     let e : at + 1 ≡ c.args.from + (c.loop-turn.turn + 1) = omega arith in
     record {
-      types = c.write_turn.ensures.types;
       row = subst (λ (n : ℕ). IsRunUpto c.args.market.now c.args.cuts.now c.args.kind n
-          (slice_index_or c.write_turn.new.self c.args.kind [])) e c.write_turn.ensures.row;
+          (slice_index_or c.write_turn.new.self.table c.args.kind [])) e c.write_turn.ensures.row;
       others = λ u ne. c.write_turn.ensures.others u ne ∙ c.loop-turn.invariant.others u ne;
+      choices = c.write_turn.ensures.kept;
+      unmarked = unmarked-both c.args.kept.now c.loop-turn.kept c.write_turn.new.self
+          c.loop-turn.invariant.unmarked c.write_turn.ensures.unmarked;
     }
 
 pub returns-clause-row : goal.returns-clause-row
@@ -86,7 +89,7 @@ returns-clause-row g c =
     let k = c.turns-turn-end.ensures.count in
     let e : c.args.from + c.loop-turn.turn ≡ length (order_of m t) =
     omega (arith, c.requires.from) in
-    subst (λ (x : ℕ). IsRunUpto m c.args.cuts.now t x (slice_index_or c.loop-turn.tentative t [])) e
+    subst (λ (x : ℕ). IsRunUpto m c.args.cuts.now t x (slice_index_or c.loop-turn.kept.table t [])) e
     c.loop-turn.invariant.row
 
 pub returns-clause-count : goal.returns-clause-count
@@ -101,10 +104,11 @@ loop-turn-init g c =
     let t = c.args.kind in
     let at : c.args.from ≡ c.args.from + 0 = omega arith in
     record {
-      types = c.requires.types;
       row = subst (λ (n : ℕ). IsRunUpto m c.args.cuts.now t n
-          (slice_index_or c.args.tentative.now t [])) at c.requires.kept;
+          (slice_index_or c.args.kept.now.table t [])) at c.requires.kept;
       others = λ _ _. refl;
+      choices = c.requires.choices;
+      unmarked = unmarked-none c.args.kept.now;
     }
 
 pub returns-clause-turns : goal.returns-clause-turns

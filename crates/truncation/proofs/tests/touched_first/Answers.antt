@@ -1,27 +1,11 @@
-use Rattle.std.proofs.Common.{◌≡◌, ℕ, ◌∙◌, ap, sym, subst, length, List, [], Option, None, arith, get_or, replicate, ⊎_elim}
-use Rattle.std.proofs.lemmas.Bool.{cases_lt}
-use Rattle.std.proofs.lemmas.List.{get_or_past, get_or-replicate, length-replicate}
+use Rattle.std.proofs.Common.{ℕ, ◌∙◌, ap, sym, subst, List, Option}
 use Rattle.std.proofs.lemmas.Option.{none-some}
-use Rattle.market.specs.Problems.{Problem}
 use Rattle.market.specs.Mechanism.{IsCuts}
-use Rattle.market.specs.Choices.{held_in_table, empty_table}
-use Rattle.market.proofs.Locals.{none_at}
+use Rattle.market.specs.Choices.{held_in_table}
 use Rattle.market.proofs.Plain.{whole_fit}
 use Rattle.market.proofs.Replays.{run-none, empty_table-count}
+use Rattle.truncation.proofs.Cutting.{empty_table-none}
 use Rattle.truncation.proofs.tests.touched_first.Goals as goal
-
--- an empty table has nothing anywhere
-empty_table-none : (m : Problem) (t i : ℕ) → held_in_table (empty_table m) t i ≡ None
-unfolding empty_table
-empty_table-none m t i =
-    let row : List (Option ℕ) = replicate (length m.lists) None in
-    ⊎_elim
-    (λ l. ap (λ (xs : List (Option ℕ)). get_or xs i None) (get_or-replicate m.types t row [] l)
-    ∙ none_at (length m.lists) i)
-    (λ past. let n = length-replicate m.types row in
-    ap (λ (xs : List (Option ℕ)). get_or xs i None)
-    (get_or_past (replicate m.types row) t [] (omega arith)))
-    (cases_lt t m.types)
 
 pub cut_lists-touched-requires-clause-table : goal.cut_lists-touched-requires-clause-table
 cut_lists-touched-requires-clause-table c =

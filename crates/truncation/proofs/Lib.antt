@@ -1,0 +1,2 @@
+-- the cuts of the first candidates
+pub mod Cutting
