@@ -10,7 +10,7 @@ use Rattle.place_base.specs.declared.limits.TheConstants.{MOST_CANDIDATES, MOST_
 use Rattle.record_files.specs.Numbers.{is_number, number_of, value}
 use Rattle.command_words.specs.Words.{CommandForm, command_by, command_of, command_with, form_of, number_at, of_names, of_numbers, option_of, types_beside, with_number, workers_of}
 use Rattle.command_words.specs.declared.words.Command.{Command}
-use Rattle.command_words.specs.declared.words.Command.TheVariants.{Place, Base, Reasons, Audit, Fixed, Make}
+use Rattle.command_words.specs.declared.words.Command.TheVariants.{Place, Base, Reasons, Audit, Fixed, Second, Make}
 use Rattle.command_words.specs.declared.words.TheConstants.{MAX_WORKERS, WORKERS}
 use Rattle.command_words.specs.declared.words.WordsFault.{WordsFault}
 use Rattle.command_words.specs.declared.words.WordsFault.TheVariants.{BadNumber, WordCount}
@@ -22,6 +22,7 @@ words_of (Base workers) = 4
 words_of (Reasons workers) = 4
 words_of (Audit workers) = 5
 words_of (Fixed workers) = 4
+words_of (Second workers) = 6
 words_of (Make seed candidates programmes types workers) = 5
 
 -- how many workers a command has
@@ -31,6 +32,7 @@ workers_in (Base workers) = workers
 workers_in (Reasons workers) = workers
 workers_in (Audit workers) = workers
 workers_in (Fixed workers) = workers
+workers_in (Second workers) = workers
 workers_in (Make seed candidates programmes types workers) = workers
 
 -- a market is within the limits of the words, and has a type
@@ -47,6 +49,7 @@ HasSizes (Base workers) = ⊤
 HasSizes (Reasons workers) = ⊤
 HasSizes (Audit workers) = ⊤
 HasSizes (Fixed workers) = ⊤
+HasSizes (Second workers) = ⊤
 HasSizes (Make seed candidates programmes types workers) = AreSizes candidates programmes types
 
 -- so many words are enough for the command, and it has 1 to 64 workers
@@ -179,9 +182,11 @@ lines word =
     (λ _. names-fit (λ n. Audit n) 4 (λ n. refl) (λ n. refl) (λ n. tt))
     (λ _. cond_both (bytes_eq (codes "fixed") word) _ _ AreLines
     (λ _. names-fit (λ n. Fixed n) 3 (λ n. refl) (λ n. refl) (λ n. tt))
+    (λ _. cond_both (bytes_eq (codes "second") word) _ _ AreLines
+    (λ _. names-fit (λ n. Second n) 5 (λ n. refl) (λ n. refl) (λ n. tt))
     (λ _. cond_both (bytes_eq (codes "make") word) _ _ AreLines
     (λ _. numbers-fit)
-    (λ _. tt))))))
+    (λ _. tt)))))))
 
 by-option : (form : CommandForm) (further : List (List ℕ))
     (option : Result (Option (List ℕ)) WordsFault) (command : Command) → IsLine form

@@ -32,6 +32,9 @@ pub enum Command {
     Audit(u32),
     /// What all stable placements share, by this number of workers.
     Fixed(u32),
+    /// The second placement, of the seats that the registered candidates of a fifth file leave, by
+    /// this number of workers. What was placed first is in the fourth file, and is audited before.
+    Second(u32),
     /// The summary of a market that is made from numbers, and of its placement.
     Make {
         /// The seed of the words that are drawn.
@@ -76,10 +79,11 @@ enum Kind {
     Reasons,
     Audit,
     Fixed,
+    Second,
     Make,
 }
 
-const FORMS: [Form; 6] = [
+const FORMS: [Form; 7] = [
     Form {
         word: b"place",
         further: 3,
@@ -104,6 +108,11 @@ const FORMS: [Form; 6] = [
         word: b"fixed",
         further: 3,
         kind: Kind::Fixed,
+    },
+    Form {
+        word: b"second",
+        further: 5,
+        kind: Kind::Second,
     },
     Form {
         word: b"make",
@@ -209,6 +218,7 @@ fn asked(
         Kind::Reasons => Ok(Command::Reasons(workers?)),
         Kind::Audit => Ok(Command::Audit(workers?)),
         Kind::Fixed => Ok(Command::Fixed(workers?)),
+        Kind::Second => Ok(Command::Second(workers?)),
         Kind::Make => read_sizes(further, workers),
     }
 }
