@@ -18,7 +18,8 @@ from collections import Counter
 sys.dont_write_bytecode = True
 ROOT = os.path.dirname(os.path.dirname(os.path.abspath(__file__)))
 sys.path.insert(0, os.path.join(ROOT, "tools"))
-from market_files import CANDIDATES, PROGRAMMES, number, read_candidates, read_placement, read_programmes, read_ranks, rows
+from market_files import (CANDIDATES, PROGRAMMES, number, read_candidates, read_placement, read_programmes, read_ranks,
+                          rows)
 
 CASES = os.path.join(ROOT, "crates", "worked_cases", "stdin")
 WORDS = {"$": 1, "$*": 5}  # how often words are run: as they stand, and with each number of workers

@@ -27,7 +27,7 @@ offers() {
 }
 
 files="$room/ranks of all.csv,$room/ranks.csv"
-offers place,base,reasons,fixed,audit,make place ''
+offers place,base,reasons,fixed,sweep,audit,make place ''
 offers base place b
 offers '' place x
 for command in place base reasons fixed; do
@@ -39,6 +39,11 @@ for command in place base reasons fixed; do
 done
 offers "$files" place audit p.csv c.csv r.csv "$room/ra"
 offers --workers place audit p.csv c.csv r.csv placed.csv -
+offers "$files" place sweep p.csv c.csv "$room/ra"
+offers '' place sweep p.csv c.csv r.csv "$room/ra"
+offers '' place sweep p.csv c.csv r.csv 101 0 "$room/ra"
+offers --workers place sweep p.csv c.csv r.csv 101 0 2 ''
+offers 8 place sweep p.csv c.csv r.csv 101 0 2 --workers 8
 offers '' place make "$room/ra"
 offers --workers place make 7 300 40 5 ''
 offers 1,2,4,8,16,32,64 place make 7 300 40 5 --workers ''

@@ -1,17 +1,18 @@
 -- Words that give a command are as many as it takes, its numbers are within their ranges, and it
 -- has 1 to 64 workers.
 use Rattle.std.proofs.Common.{◌≡◌, ℕ, suc, ◌+◌, ◌-◌, ◌*◌, ◌^◌, ◌<◌, ◌≤◌, List, [], ◌∷◌, drop, length, Option, Some, None, Result, Ok, Err, refl, sym, ◌∙◌, subst, arith, ⊎_elim}
-use Rattle.std.specs.Prelude.{codes, nat_lt, slice_index_or, ⊤}
+use Rattle.std.specs.Prelude.{codes, min, nat_lt, slice_index_or, ⊤}
+use Rattle.std.proofs.Math.Nat.{min-le_left, min-le_right}
 use Rattle.std.specs.Str.{bytes_eq}
 use Rattle.std.proofs.lemmas.Bool.{and_parts, cases_lt, cond-false, cond-true, cond_both, le-ltb, leb-true, lt-ltb}
 use Rattle.place_base.specs.declared.fault.FaultKind.{FaultKind}
 use Rattle.place_base.specs.declared.fault.FaultKind.TheVariants.{OutOfRange}
-use Rattle.place_base.specs.declared.limits.TheConstants.{MOST_CANDIDATES, MOST_PROGRAMMES, MOST_RANKS, MOST_TYPES}
+use Rattle.place_base.specs.declared.limits.TheConstants.{LARGEST_CODE, LARGEST_QUOTA, MOST_CANDIDATES, MOST_PROGRAMMES, MOST_RANKS, MOST_TYPES}
 use Rattle.record_files.specs.Numbers.{is_number, number_of, value}
-use Rattle.command_words.specs.Words.{CommandForm, command_by, command_of, command_with, form_of, number_at, of_names, of_numbers, option_of, types_beside, with_number, workers_of}
+use Rattle.command_words.specs.Words.{CommandForm, command_by, command_of, command_with, form_of, number_at, of_names, of_numbers, of_quotas, option_of, types_beside, with_number, workers_of}
 use Rattle.command_words.specs.declared.words.Command.{Command}
-use Rattle.command_words.specs.declared.words.Command.TheVariants.{Place, Base, Reasons, Audit, Fixed, Second, Make}
-use Rattle.command_words.specs.declared.words.TheConstants.{MAX_WORKERS, WORKERS}
+use Rattle.command_words.specs.declared.words.Command.TheVariants.{Place, Base, Reasons, Audit, Fixed, Sweep, Second, Make}
+use Rattle.command_words.specs.declared.words.TheConstants.{MAX_QUOTAS, MAX_WORKERS, WORKERS}
 use Rattle.command_words.specs.declared.words.WordsFault.{WordsFault}
 use Rattle.command_words.specs.declared.words.WordsFault.TheVariants.{BadNumber, WordCount}
 
@@ -22,6 +23,7 @@ words_of (Base workers) = 4
 words_of (Reasons workers) = 4
 words_of (Audit workers) = 5
 words_of (Fixed workers) = 4
+words_of (Sweep code low high workers) = 7
 words_of (Second workers) = 6
 words_of (Make seed candidates programmes types workers) = 5
 
@@ -32,6 +34,7 @@ workers_in (Base workers) = workers
 workers_in (Reasons workers) = workers
 workers_in (Audit workers) = workers
 workers_in (Fixed workers) = workers
+workers_in (Sweep code low high workers) = workers
 workers_in (Second workers) = workers
 workers_in (Make seed candidates programmes types workers) = workers
 
@@ -42,6 +45,12 @@ pub record AreSizes (candidates programmes types : ℕ) : Type 0 where
   pub types_fit : types ≤ MOST_TYPES
   pub some_type : 1 ≤ types
 
+-- quotas rise from the one to the other, at most so many, and are within their limit
+pub record AreQuotas (low high : ℕ) : Type 0 where
+  pub rising : low ≤ high
+  pub few : high < low + MAX_QUOTAS
+  pub high_fits : high ≤ LARGEST_QUOTA
+
 -- the sizes that a command has are such
 abbrev pub HasSizes : Command → Type 0
 HasSizes (Place workers) = ⊤
@@ -49,6 +58,7 @@ HasSizes (Base workers) = ⊤
 HasSizes (Reasons workers) = ⊤
 HasSizes (Audit workers) = ⊤
 HasSizes (Fixed workers) = ⊤
+HasSizes (Sweep code low high workers) = AreQuotas low high
 HasSizes (Second workers) = ⊤
 HasSizes (Make seed candidates programmes types workers) = AreSizes candidates programmes types
 
@@ -131,6 +141,33 @@ names-fit make wanted counts hands sizes further workers command many within e =
       sizes = sizes read.0;
     })
 
+-- so does that of quotas
+quotas-fit : (further : List (List ℕ)) (workers : Result ℕ WordsFault) (command : Command)
+    → 6 ≤ length further → ((n : ℕ) → workers ≡ Ok n → (1 ≤ n) × (n ≤ MAX_WORKERS))
+    → of_quotas further workers ≡ Ok command → Fits command (length further + 1)
+quotas-fit further workers command many within e =
+    let code = with-read (number_at (number_of (slice_index_or further 3 []) 1 LARGEST_CODE) 5) _
+    command e in
+    let low = with-read (number_at (number_of (slice_index_or further 4 []) 0 LARGEST_QUOTA) 6) _
+    command code.2 in
+    let most = min LARGEST_QUOTA (low.0 + (MAX_QUOTAS - 1)) in
+    let high = with-read (number_at (number_of (slice_index_or further 5 []) low.0 most) 7) _
+    command low.2 in
+    let number = with-read workers (λ n. Ok (Sweep code.0 low.0 high.0 n)) command high.2 in
+    let ranged = number-ranged (slice_index_or further 5 []) low.0 most 7 high.0 high.1 in
+    let limit = min-le_left LARGEST_QUOTA (low.0 + (MAX_QUOTAS - 1)) in
+    let count = min-le_right LARGEST_QUOTA (low.0 + (MAX_QUOTAS - 1)) in
+    let same : Sweep code.0 low.0 high.0 number.0 ≡ command = cc number.2 in
+    subst (λ c. Fits c (length further + 1)) same (record {
+      words = omega (arith, many);
+      workers = within number.0 number.1;
+      sizes = record {
+        rising = ranged.0;
+        few = omega (arith, ranged.1, count);
+        high_fits = omega (arith, ranged.1, limit);
+      };
+    })
+
 -- and so does that of numbers
 numbers-fit : (further : List (List ℕ)) (workers : Result ℕ WordsFault) (command : Command)
     → 4 ≤ length further → ((n : ℕ) → workers ≡ Ok n → (1 ≤ n) × (n ≤ MAX_WORKERS))
@@ -182,11 +219,13 @@ lines word =
     (λ _. names-fit (λ n. Audit n) 4 (λ n. refl) (λ n. refl) (λ n. tt))
     (λ _. cond_both (bytes_eq (codes "fixed") word) _ _ AreLines
     (λ _. names-fit (λ n. Fixed n) 3 (λ n. refl) (λ n. refl) (λ n. tt))
+    (λ _. cond_both (bytes_eq (codes "sweep") word) _ _ AreLines
+    (λ _. quotas-fit)
     (λ _. cond_both (bytes_eq (codes "second") word) _ _ AreLines
     (λ _. names-fit (λ n. Second n) 5 (λ n. refl) (λ n. refl) (λ n. tt))
     (λ _. cond_both (bytes_eq (codes "make") word) _ _ AreLines
     (λ _. numbers-fit)
-    (λ _. tt)))))))
+    (λ _. tt))))))))
 
 by-option : (form : CommandForm) (further : List (List ℕ))
     (option : Result (Option (List ℕ)) WordsFault) (command : Command) → IsLine form

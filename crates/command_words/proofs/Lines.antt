@@ -14,10 +14,10 @@ use Rattle.command_words.specs.declared.words.Form.{Form}
 use Rattle.command_words.specs.declared.words.WordsFault.{WordsFault}
 use Rattle.command_words.specs.declared.words.WordsFault.TheVariants.{WordCount}
 
--- a line takes at most five words
+-- a line takes at most six words
 abbrev TakesFew : Option CommandForm → Type 0
 TakesFew None = ⊤
-TakesFew (Some form) = form.further ≤ 5
+TakesFew (Some form) = form.further ≤ 6
 
 takes_few : (word : List ℕ) → TakesFew (form_of word)
 takes_few word =
@@ -26,9 +26,10 @@ takes_few word =
     (λ _. cond_both (bytes_eq (codes "reasons") word) _ _ TakesFew (λ _. omega arith)
     (λ _. cond_both (bytes_eq (codes "audit") word) _ _ TakesFew (λ _. omega arith)
     (λ _. cond_both (bytes_eq (codes "fixed") word) _ _ TakesFew (λ _. omega arith)
+    (λ _. cond_both (bytes_eq (codes "sweep") word) _ _ TakesFew (λ _. omega arith)
     (λ _. cond_both (bytes_eq (codes "second") word) _ _ TakesFew (λ _. omega arith)
     (λ _. cond_both (bytes_eq (codes "make") word) _ _ TakesFew (λ _. omega arith)
-    (λ _. tt)))))))
+    (λ _. tt))))))))
 
 -- the places of the option and of its word, behind so many words, are small numbers
 pub record AreSmallPlaces (further : ℕ) : Type 0 where

@@ -1,7 +1,7 @@
 -- The code's table of commands, as lines of the grammar, and words that it hands on, as bytes.
 use Rattle.std.specs.Prelude.{ℕ, List, Option, Result, Ok, Err, option_copied}
 use Rattle.std.specs.Borrow.{Bor}
-use Rattle.command_words.specs.Words.{CommandForm, of_names, of_numbers}
+use Rattle.command_words.specs.Words.{CommandForm, of_names, of_numbers, of_quotas}
 use Rattle.command_words.specs.declared.words.Command.{Command}
 use Rattle.command_words.specs.declared.words.Command.TheVariants.{Place, Base, Reasons, Audit, Fixed, Second}
 use Rattle.command_words.specs.declared.words.Form.{Form}
@@ -16,6 +16,7 @@ asked kind.Base = of_names (λ workers. Base workers)
 asked kind.Reasons = of_names (λ workers. Reasons workers)
 asked kind.Audit = of_names (λ workers. Audit workers)
 asked kind.Fixed = of_names (λ workers. Fixed workers)
+asked kind.Sweep = of_quotas
 asked kind.Second = of_names (λ workers. Second workers)
 asked kind.Make = of_numbers
 

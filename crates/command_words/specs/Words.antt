@@ -1,15 +1,15 @@
 -- The grammar of the command line.
-use Rattle.std.specs.Prelude.{ℕ, ◌+◌, ◌-◌, ◌*◌, ◌^◌, List, [], ◌∷◌, map, drop, find, length, codes, nat_lt, slice_index_or, if◌then◌else◌, Option, Some, None, Result, Ok, Err, String, string_bytes}
+use Rattle.std.specs.Prelude.{ℕ, ◌+◌, ◌-◌, ◌*◌, ◌^◌, min, List, [], ◌∷◌, map, drop, find, length, codes, nat_lt, slice_index_or, if◌then◌else◌, Option, Some, None, Result, Ok, Err, String, string_bytes}
 use Rattle.std.specs.Global.{Global}
 use Rattle.std.specs.Str.{bytes_eq}
 use Rattle.place_base.specs.declared.fault.FaultKind.{FaultKind}
-use Rattle.place_base.specs.declared.limits.TheConstants.{MOST_CANDIDATES, MOST_PROGRAMMES, MOST_RANKS, MOST_TYPES}
+use Rattle.place_base.specs.declared.limits.TheConstants.{LARGEST_CODE, LARGEST_QUOTA, MOST_CANDIDATES, MOST_PROGRAMMES, MOST_RANKS, MOST_TYPES}
 use Rattle.record_files.specs.Numbers.{number_of}
 use Rattle.command_words.specs.declared.words.Command.{Command}
-use Rattle.command_words.specs.declared.words.Command.TheVariants.{Place, Base, Reasons, Audit, Fixed, Second, Make}
+use Rattle.command_words.specs.declared.words.Command.TheVariants.{Place, Base, Reasons, Audit, Fixed, Sweep, Second, Make}
 use Rattle.command_words.specs.declared.words.WordsFault.{WordsFault}
 use Rattle.command_words.specs.declared.words.WordsFault.TheVariants.{NoCommand, UnknownCommand, WordCount, BadNumber}
-use Rattle.command_words.specs.declared.words.TheConstants.{WORKERS, MAX_WORKERS}
+use Rattle.command_words.specs.declared.words.TheConstants.{WORKERS, MAX_WORKERS, MAX_QUOTAS}
 
 -- ---- numbers: each is read where the counts of words are right
 
@@ -35,6 +35,17 @@ workers_of (Some word) place = number_at (number_of word 1 MAX_WORKERS) place
 abbrev pub of_names : (ℕ → Command) → List (List ℕ) → Result ℕ WordsFault
     → Result Command WordsFault
 of_names command further workers = with_number workers (λ number. Ok (command number))
+
+-- Behind the names of three files they mean a code of a programme, and two quotas of it, of which the
+-- second is at least the first and makes at most so many quotas from the one to the other. The first
+-- number that is bad is refused, and the number of workers comes last.
+abbrev pub of_quotas : List (List ℕ) → Result ℕ WordsFault → Result Command WordsFault
+of_quotas further workers =
+    with_number (number_at (number_of (slice_index_or further 3 []) 1 LARGEST_CODE) 5) (λ code.
+    with_number (number_at (number_of (slice_index_or further 4 []) 0 LARGEST_QUOTA) 6) (λ low.
+    with_number (number_at (number_of (slice_index_or further 5 []) low
+    (min LARGEST_QUOTA (low + (MAX_QUOTAS - 1)))) 7) (λ high.
+    with_number workers (λ number. Ok (Sweep code low high number)))))
 
 -- how many types there are, beside so many candidates: with too many ranks this number is bad
 abbrev pub types_beside : ℕ → ℕ → Result ℕ WordsFault
@@ -65,9 +76,9 @@ pub record CommandForm : Type 0 where
   -- what they ask for, by these words and the number of workers
   pub command : List (List ℕ) → Result ℕ WordsFault → Result Command WordsFault
 
--- the grammar: four commands take the names of three files, the audit takes that of a placement
--- file behind them, the second placement that of a registrations file behind that, and the maker of
--- markets takes four numbers
+-- the grammar: most commands take the names of three files, the audit takes that of a placement
+-- file behind them, the second placement that of a registrations file behind that and the sweep
+-- three numbers, and the maker of markets takes four numbers
 abbrev pub grammar : List CommandForm
 grammar =
     record { word = codes "place"; further = 3; command = of_names (λ workers. Place workers) }
@@ -79,6 +90,7 @@ grammar =
     }
     ∷ record { word = codes "audit"; further = 4; command = of_names (λ workers. Audit workers) }
     ∷ record { word = codes "fixed"; further = 3; command = of_names (λ workers. Fixed workers) }
+    ∷ record { word = codes "sweep"; further = 6; command = of_quotas }
     ∷ record { word = codes "second"; further = 5; command = of_names (λ workers. Second workers) }
     ∷ record { word = codes "make"; further = 4; command = of_numbers } ∷ []
 

@@ -6,4 +6,4 @@
 mod tests;
 mod words;
 
-pub use words::{Command, MAX_WORKERS, WORKERS, WordsFault, read_words};
+pub use words::{Command, MAX_QUOTAS, MAX_WORKERS, WORKERS, WordsFault, read_words};

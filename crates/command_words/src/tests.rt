@@ -256,6 +256,128 @@ const REFUSED: [(&[&str], Result<Command, WordsFault>); 27] = [
     ),
 ];
 
+// The words of a sweep: code, least and largest quota, workers.
+const SWEPT: [(&[&str], (u32, u32, u32, u32)); 6] = [
+    (&["sweep", "P", "C", "R", "101", "0", "2"], (101, 0, 2, 4)),
+    (
+        &["sweep", "P", "C", "R", "1", "0", "0", "--workers", "64"],
+        (1, 0, 0, 64),
+    ),
+    (
+        &["sweep", "P", "C", "R", "999999999", "0", "999"],
+        (999_999_999, 0, 999, 4),
+    ),
+    (
+        &["sweep", "P", "C", "R", "7", "99001", "100000"],
+        (7, 99_001, 100_000, 4),
+    ),
+    (
+        &["sweep", "P", "C", "R", "7", "100000", "100000"],
+        (7, 100_000, 100_000, 4),
+    ),
+    (
+        &[
+            "sweep",
+            "",
+            "--workers",
+            "-",
+            "0000000000101",
+            "000",
+            "0002",
+        ],
+        (101, 0, 2, 4),
+    ),
+];
+
+const UNSWEPT: [(&[&str], Result<Command, WordsFault>); 21] = [
+    // Behind the end of each range.
+    (
+        &["sweep", "P", "C", "R", "0", "0", "2"],
+        Err(WordsFault::BadNumber(5)),
+    ),
+    (
+        &["sweep", "P", "C", "R", "1000000000", "0", "2"],
+        Err(WordsFault::BadNumber(5)),
+    ),
+    (
+        &["sweep", "P", "C", "R", "4294967397", "0", "2"],
+        Err(WordsFault::BadNumber(5)),
+    ),
+    (
+        &["sweep", "P", "C", "R", "101", "100001", "100001"],
+        Err(WordsFault::BadNumber(6)),
+    ),
+    (
+        &["sweep", "P", "C", "R", "101", "99001", "100001"],
+        Err(WordsFault::BadNumber(7)),
+    ),
+    // Before the least quota, and more than 999 behind it.
+    (
+        &["sweep", "P", "C", "R", "101", "2", "1"],
+        Err(WordsFault::BadNumber(7)),
+    ),
+    (
+        &["sweep", "P", "C", "R", "101", "0", "1000"],
+        Err(WordsFault::BadNumber(7)),
+    ),
+    (
+        &["sweep", "P", "C", "R", "101", "5", "1005"],
+        Err(WordsFault::BadNumber(7)),
+    ),
+    // The first bad number is told, and that of the workers is the last.
+    (
+        &["sweep", "P", "C", "R", "x", "y", "z"],
+        Err(WordsFault::BadNumber(5)),
+    ),
+    (
+        &["sweep", "P", "C", "R", "101", "100001", "0"],
+        Err(WordsFault::BadNumber(6)),
+    ),
+    (
+        &["sweep", "P", "C", "R", "101", "", "1"],
+        Err(WordsFault::BadNumber(6)),
+    ),
+    (
+        &["sweep", "P", "C", "R", "101", "0", "+1"],
+        Err(WordsFault::BadNumber(7)),
+    ),
+    (
+        &["sweep", "P", "C", "R", "101", "0", "x", "--workers", "0"],
+        Err(WordsFault::BadNumber(7)),
+    ),
+    (
+        &["sweep", "P", "C", "R", "101", "0", "1", "--workers", "0"],
+        Err(WordsFault::BadNumber(9)),
+    ),
+    // A word that is missing or too many comes before any number.
+    (&["sweep"], Err(WordsFault::WordCount(2))),
+    (
+        &["sweep", "P", "C", "R", "x"],
+        Err(WordsFault::WordCount(6)),
+    ),
+    (
+        &["sweep", "P", "C", "R", "101", "0"],
+        Err(WordsFault::WordCount(7)),
+    ),
+    (
+        &["sweep", "P", "C", "R", "0", "0", "1", "2"],
+        Err(WordsFault::WordCount(8)),
+    ),
+    (
+        &["sweep", "P", "C", "R", "0", "0", "1", "--workers"],
+        Err(WordsFault::WordCount(9)),
+    ),
+    // The option's word is no number where a number stands.
+    (
+        &["sweep", "P", "C", "R", "101", "--workers", "2"],
+        Err(WordsFault::BadNumber(6)),
+    ),
+    (
+        &["sweeps", "P", "C", "R", "101", "0", "1"],
+        Err(WordsFault::UnknownCommand(1)),
+    ),
+];
+
 // Compares what each list of words means.
 fn each_means(
     rt: &impl Abort,
@@ -293,4 +415,19 @@ fn a_market_is_made_from_numbers_in_their_ranges(rt: HostRuntime) -> Result<(), 
 #[test]
 fn a_bad_number_is_told_where_the_words_are_as_many_as_wanted(rt: HostRuntime) -> Result<(), Fail> {
     each_means(&rt, rt.alloc(), &REFUSED)
+}
+
+#[test]
+fn a_sweep_is_asked_for_by_a_code_and_two_quotas(rt: HostRuntime) -> Result<(), Fail> {
+    for (texts, (code, low, high, workers)) in SWEPT {
+        let read = read_words(&words(rt.alloc(), texts)?);
+        let sweep = Command::Sweep {
+            code,
+            low,
+            high,
+            workers,
+        };
+        assert_eq!(rt; read, Ok(sweep), "{texts:?}");
+    }
+    each_means(&rt, rt.alloc(), &UNSWEPT)
 }

@@ -3,10 +3,12 @@
 ghost use Rattle.std.specs.Prelude.{◌≡◌, ◌+◌, ◌≤◌, [], slice_index_or, option_copied, IfOk};
 ghost use Rattle.std.specs.Option.{option_map};
 ghost use Rattle.command_words.specs.Forms.{asked as command_asked, bytes_in, grammar_line};
-ghost use Rattle.command_words.specs.Words.{command_of, form_of, number_at, of_numbers, option_of, texts, word_behind, workers_of};
+ghost use Rattle.command_words.specs.Words.{command_of, form_of, number_at, of_numbers, of_quotas, option_of, texts, word_behind, workers_of};
 ghost use Rattle.record_files.specs.Numbers.{number_of};
 
-use place_base::limits::{MOST_CANDIDATES, MOST_PROGRAMMES, MOST_RANKS, MOST_TYPES};
+use place_base::limits::{
+    LARGEST_CODE, LARGEST_QUOTA, MOST_CANDIDATES, MOST_PROGRAMMES, MOST_RANKS, MOST_TYPES,
+};
 use record_files::number;
 
 /// The number of workers where the words give none.
@@ -14,6 +16,9 @@ pub const WORKERS: u32 = 4;
 
 /// The most workers that the words may ask for.
 pub const MAX_WORKERS: u32 = 64;
+
+/// The most quotas that a sweep may ask for.
+pub const MAX_QUOTAS: u32 = 1_000;
 
 /// What the words of a command line ask for.
 ///
@@ -32,6 +37,18 @@ pub enum Command {
     Audit(u32),
     /// What all stable placements share, by this number of workers.
     Fixed(u32),
+    /// What each quota of one programme gives, from one quota to another.
+    Sweep {
+        /// The programme's code, 1 to 999,999,999.
+        code: u32,
+        /// The least quota, at most 100,000.
+        low: u32,
+        /// The largest quota, from the least one to the lesser of 100,000 and 999 more than the
+        /// least one.
+        high: u32,
+        /// The number of workers, 1 to 64.
+        workers: u32,
+    },
     /// The second placement, of the seats that the registered candidates of a fifth file leave, by
     /// this number of workers. What was placed first is in the fourth file, and is audited before.
     Second(u32),
@@ -79,11 +96,12 @@ enum Kind {
     Reasons,
     Audit,
     Fixed,
+    Sweep,
     Second,
     Make,
 }
 
-const FORMS: [Form; 7] = [
+const FORMS: [Form; 8] = [
     Form {
         word: b"place",
         further: 3,
@@ -108,6 +126,11 @@ const FORMS: [Form; 7] = [
         word: b"fixed",
         further: 3,
         kind: Kind::Fixed,
+    },
+    Form {
+        word: b"sweep",
+        further: 6,
+        kind: Kind::Sweep,
     },
     Form {
         word: b"second",
@@ -218,9 +241,27 @@ fn asked(
         Kind::Reasons => Ok(Command::Reasons(workers?)),
         Kind::Audit => Ok(Command::Audit(workers?)),
         Kind::Fixed => Ok(Command::Fixed(workers?)),
+        Kind::Sweep => read_quotas(further, workers),
         Kind::Second => Ok(Command::Second(workers?)),
         Kind::Make => read_sizes(further, workers),
     }
+}
+
+// The programme and the quotas that the words behind three names ask for, of which the first stands
+// at place 5, or the first number that is bad. That of the workers is behind them.
+fn read_quotas(words: &[String], workers: Result<u32, WordsFault>) -> Result<Command, WordsFault>
+    ensures { result ≡ of_quotas (texts words.now) workers }
+{
+    let code = read_number(word_at(words, 3), 5, 1, LARGEST_CODE)? as u32;
+    let low = read_number(word_at(words, 4), 6, 0, LARGEST_QUOTA)?;
+    let most = LARGEST_QUOTA.min(low + u64::from(MAX_QUOTAS - 1));
+    let high = read_number(word_at(words, 5), 7, low, most)?;
+    Ok(Command::Sweep {
+        code,
+        low: low as u32,
+        high: high as u32,
+        workers: workers?,
+    })
 }
 
 // The market that four words ask for, of which the first stands at place 2, or the first number

@@ -9,7 +9,7 @@ use Rattle.place_edges.specs.Shelf.{Files}
 use Rattle.run_frame.specs.Files.{Moment, Reads}
 use Rattle.run_frame.specs.Plans.{AreRead, answered}
 use Rattle.run_frame.specs.declared.stop.Stop.{Stop}
-use Rattle.run_frame.specs.declared.stop.Stop.TheVariants.{Words}
+use Rattle.run_frame.specs.declared.stop.Stop.TheVariants.{Refused}
 use Rattle.run_frame.proofs.Parts.{at-error}
 use Rattle.run_frame.proofs.Readings.{answer-made, before_kind, plan-ends, plan-goes-on}
 use Rattle.place_run.specs.Answers.{Answer, done}
@@ -17,11 +17,13 @@ use Rattle.place_run.specs.Runs.{IsAnswering}
 use Rattle.place_run.specs.Says.{audited_plan, held_plan, named, plan, tables_plan}
 use Rattle.place_run.specs.Tables.{Tables}
 use Rattle.place_run.specs.commands.Audit.{Audited}
+use Rattle.place_run.specs.declared.status.Refusal.{Refusal}
+use Rattle.place_run.specs.declared.status.Refusal.TheVariants.{Words}
 
 -- an answer that is an error
 pub answer-error : {told : Option Files} {words : List (List ℕ)}
-    {command : Result Command WordsFault} {answer : Result Answer (Stop WordsFault)}
-    {stop : Stop WordsFault} {before now : Moment} → IsErrAnd answer (λ found. found ≡ stop)
+    {command : Result Command WordsFault} {answer : Result Answer (Stop Refusal)}
+    {stop : Stop Refusal} {before now : Moment} → IsErrAnd answer (λ found. found ≡ stop)
     → AreRead told (named words) (plan command) (Err stop) before now
     → IsAnswering told words command answer before now
 answer-error {told = told} {words = words} {command = command} {answer = answer} {stop = stop}
@@ -32,9 +34,9 @@ answer-error {told = told} {words = words} {command = command} {answer = answer}
 -- words that are no command are answered with their refusal, before a file is read
 pub words-refused : (told : Option Files) (words : List (List ℕ))
     (command : Result Command WordsFault) (refused : WordsFault) (now : Moment)
-    → command ≡ Err refused → IsAnswering told words command (Err (Words refused)) now now
+    → command ≡ Err refused → IsAnswering told words command (Err (Refused (Words refused))) now now
 words-refused told words command refused now none =
-    subst (λ v. IsAnswering told words v (Err (Words refused)) now now) (sym none) (record {
+    subst (λ v. IsAnswering told words v (Err (Refused (Words refused))) now now) (sym none) (record {
       reading = plan-ends _ _ now (inr refl) tt;
       promise = tt;
     })
@@ -54,7 +56,7 @@ tables-answered {answer = answer} make Keeps text reading is made kept =
 
 -- what a placement file comes to behind three files is what all four come to
 pub behind-tables : {told : Option Files} {names : FileKind → List ℕ} {tables : Tables}
-    {result : Result Audited (Stop WordsFault)} {first before now : Moment}
+    {result : Result Audited (Stop Refusal)} {first before now : Moment}
     → AreRead told names tables_plan (Ok tables) first before
     → AreRead told names (held_plan tables) result before now
     → AreRead told names audited_plan result first now

@@ -62,13 +62,13 @@ same-tables p q c d r t e f g =
     ap (λ v. tables_with v c r) e ∙ ap (λ v. tables_with q v r) f ∙ ap (λ v. tables_with q d v) g
 
 -- three files whose tables were read have no fault, and have these tables
-record AreTablesRead (reads : Reads) (tables : Tables) : Type 0 where
-  three : ThreeFiles
-  read : AreThree reads three
-  faultless : HasNoFault three
-  tables_are : tables ≡ tables_in three
+pub record AreTablesRead (reads : Reads) (tables : Tables) : Type 0 where
+  pub three : ThreeFiles
+  pub read : AreThree reads three
+  pub faultless : HasNoFault three
+  pub tables_are : tables ≡ tables_in three
 
-are-read : (reads : Reads) (tables : Tables) → said tables_plan reads ≡ Some (Ok tables)
+pub are-read : (reads : Reads) (tables : Tables) → said tables_plan reads ≡ Some (Ok tables)
     → AreTablesRead reads tables
 unfolding tables_in codes_in numbers_in
 are-read reads tables e =

@@ -16,5 +16,7 @@ pub mod RowTexts
 pub mod WrittenTexts
 -- texts that pass through a buffer
 pub mod QueuedTexts
+-- one programme's quota varied
+pub mod Sweeps
 -- what a run leaves of a sink
 pub mod Finishing

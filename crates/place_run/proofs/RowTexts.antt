@@ -46,13 +46,13 @@ texts-all text count n all =
     (take_all n (range_with_len 0 count) (omega (arith, length-range_with_len 0 count)))
 
 -- one element of a list more
-pub list-more : (row : ℕ → List ℕ) (front xs : List ℕ) (n : ℕ) (old new : List ℕ) → n < length xs
-    → old ≡ front ++ flat_map row (take n xs) → new ≡ old ++ row (get_or xs n 0)
-    → new ≡ front ++ flat_map row (take (n + 1) xs)
-list-more row front xs n old new within before after =
-    after ∙ ap (λ v. v ++ row (get_or xs n 0)) before
-    ∙ flat_map_more row front (take n xs) (get_or xs n 0)
-    ∙ ap (λ v. front ++ flat_map row v) (sym (take_more xs n 0 within))
+pub list-more : {X : Type 0} (row : X → List ℕ) (front : List ℕ) (xs : List X) (n : ℕ) (d : X)
+    (old new : List ℕ) → n < length xs → old ≡ front ++ flat_map row (take n xs)
+    → new ≡ old ++ row (get_or xs n d) → new ≡ front ++ flat_map row (take (n + 1) xs)
+list-more row front xs n d old new within before after =
+    after ∙ ap (λ v. v ++ row (get_or xs n d)) before
+    ∙ flat_map_more row front (take n xs) (get_or xs n d)
+    ∙ ap (λ v. front ++ flat_map row v) (sym (take_more xs n d within))
 
 -- the number that a table gives at an index
 pub number-at : (numbers : List ℕ) (index number : ℕ) → index < length numbers

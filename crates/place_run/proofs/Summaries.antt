@@ -22,6 +22,7 @@ use Rattle.place_run.specs.Placings.{IsOutcomeOf}
 use Rattle.place_run.specs.Runs.{IsAnswering}
 use Rattle.run_frame.specs.Stops.{is_free_stop}
 use Rattle.place_run.specs.commands.Make.{IsSummaryOf, outcome_of, summary_of}
+use Rattle.place_run.specs.declared.status.Refusal.{Refusal}
 use Rattle.run_frame.specs.declared.stop.Stop.{Stop}
 use Rattle.run_frame.specs.declared.stop.Stop.TheVariants.{File}
 
@@ -65,21 +66,21 @@ is-summary seed candidates programmes types m outcome text answer made valid siz
     )
 
 -- where memory was refused there is none
-pub no-summary : (seed candidates programmes types : ℕ) (answer : Result Answer (Stop WordsFault))
+pub no-summary : (seed candidates programmes types : ℕ) (answer : Result Answer (Stop Refusal))
     → IsErrAnd answer (λ stop. stop ≡ File Memory)
     → IsSummarised seed candidates programmes types answer
 no-summary seed candidates programmes types answer is =
     at-error (IsSummarised seed candidates programmes types) answer (File Memory) is refl
 
 -- no file is read for it
-needs-no-cause : (seed candidates programmes types : ℕ) (answer : Result Answer (Stop WordsFault))
+needs-no-cause : (seed candidates programmes types : ℕ) (answer : Result Answer (Stop Refusal))
     → IsSummarised seed candidates programmes types answer → NeedsNoCause answer
 needs-no-cause seed candidates programmes types (Ok ready) is = tt
 needs-no-cause seed candidates programmes types (Err stop) same =
     subst (λ v. NeedsNoCause {A = Answer} (Err v)) (sym same) tt
 
 -- it is what is said, or memory was refused
-meets-summary : (seed candidates programmes types : ℕ) (answer : Result Answer (Stop WordsFault))
+meets-summary : (seed candidates programmes types : ℕ) (answer : Result Answer (Stop Refusal))
     → IsSummarised seed candidates programmes types answer
     → Meets is_free_stop (Some (Ok (done (summary_of seed candidates programmes types)))) answer
 meets-summary seed candidates programmes types (Ok ready) (same, kept) =
@@ -87,7 +88,7 @@ meets-summary seed candidates programmes types (Ok ready) (same, kept) =
 meets-summary seed candidates programmes types (Err stop) same =
     inl (subst (λ v. IsTrue (is_free_stop v)) (sym same) refl)
 
-keeps-summary : (seed candidates programmes types : ℕ) (answer : Result Answer (Stop WordsFault))
+keeps-summary : (seed candidates programmes types : ℕ) (answer : Result Answer (Stop Refusal))
     → IsSummarised seed candidates programmes types answer
     → IfOk answer (λ ready. IsSummaryOf seed candidates programmes types ready.text)
 keeps-summary seed candidates programmes types (Ok ready) (same, kept) = kept
@@ -95,7 +96,7 @@ keeps-summary seed candidates programmes types (Err stop) same = tt
 
 -- so a summary answers `make`, and nothing is read for it
 pub summarised : (told : Option Files) (words : List (List ℕ)) (command : Result Command WordsFault)
-    (seed candidates programmes types workers : ℕ) (answer : Result Answer (Stop WordsFault))
+    (seed candidates programmes types workers : ℕ) (answer : Result Answer (Stop Refusal))
     (now : Moment) → command ≡ Ok (Make seed candidates programmes types workers)
     → IsSummarised seed candidates programmes types answer
     → IsAnswering told words command answer now now

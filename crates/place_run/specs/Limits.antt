@@ -1,8 +1,9 @@
 -- The limits in numbers, as docs/FORMATS.md has them.
 use Rattle.std.specs.Prelude.{◌≡◌, ◌^◌, [], ◌∷◌}
-use Rattle.command_words.specs.declared.words.TheConstants.{WORKERS, MAX_WORKERS}
+use Rattle.command_words.specs.declared.words.TheConstants.{WORKERS, MAX_WORKERS, MAX_QUOTAS}
 use Rattle.place_base.specs.declared.limits.TheConstants.{MOST_PROGRAMMES, MOST_CANDIDATES, MOST_REQUESTS, MOST_RANKS, MOST_TYPES, MOST_ENTRIES, LARGEST_NUMBER, LARGEST_CODE, LARGEST_QUOTA, LARGEST_RANK, LONGEST_NAME, LONGEST_LINE, MOST_PIECES, LF, CR, COMMA, SEMICOLON, BYTE_ORDER_MARK}
 use Rattle.place_edges.specs.Shelf.{file_limit}
+use Rattle.quota_sweep.specs.declared.row.TheConstants.{MAX_ROWS}
 use Rattle.market.specs.declared.limits.TheConstants.{MAX_TYPES, MAX_PROGRAMMES, MAX_CANDIDATES, MAX_ENTRIES, MAX_QUOTA, MAX_RANK}
 
 -- those of the files
@@ -34,6 +35,11 @@ pub record HasFileBytes : Type 0 where
   pub comma : COMMA ≡ 44
   pub semicolon : SEMICOLON ≡ 59
   pub mark : BYTE_ORDER_MARK ≡ 239 ∷ 187 ∷ 191 ∷ []
+
+-- the most quotas of a sweep: what its words may ask for, and what it takes
+pub record HasSweepLimits : Type 0 where
+  pub asked : MAX_QUOTAS ≡ 1000
+  pub taken : MAX_ROWS ≡ 1000
 
 -- those of a market
 pub record HasMarketLimits : Type 0 where

@@ -7,6 +7,8 @@ use Rattle.market.specs.Reruns.{placement_turns}
 use Rattle.market.specs.declared.placement.Outcome.{Outcome}
 use Rattle.programme_table.specs.Table.{codes_of}
 use Rattle.candidate_table.specs.Table.{numbers_of}
+use Rattle.quota_sweep.specs.Sweeps.{AreWorstStable, HurtsNobody, sweep_rows}
+use Rattle.quota_sweep.specs.declared.row.SweepRow.{SweepRow}
 use Rattle.reports.specs.BaseTables.{BaseTable, HoldsProgrammes, IsBaseTable}
 use Rattle.place_run.specs.Problems.{IsProblemOf}
 use Rattle.place_run.specs.Tables.{Tables}
@@ -30,6 +32,13 @@ pub record IsPlacedOf (tables : Tables) (placed : Placed) : Type 0 where
   pub problem : IsProblemOf tables placed.problem
   pub placement : placed.placement ≡ mechanism_placement placed.problem.market
   pub worst : IsWorstStable placed.problem.market placed.placement
+
+-- the rows of a programme's quotas in a market: with each quota what they tell of is the worst of
+-- the stable placements, and a larger quota takes nothing from anybody
+pub record IsSweepOf (m : Market) (p low high : ℕ) (rows : List SweepRow) : Type 0 where
+  pub all : rows ≡ sweep_rows m p low high
+  pub worst : AreWorstStable m p low high
+  pub hurts_nobody : HurtsNobody m p low high
 
 -- a placement gives each candidate a programme of the market or none, and all have names
 pub record IsNamedPlacement (problem : Problem) (held : List (Option ℕ)) : Type 0 where

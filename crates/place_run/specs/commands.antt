@@ -7,6 +7,8 @@ pub mod Base
 pub mod Reasons
 -- what all stable placements share
 pub mod Fixed
+-- one programme's quota varied
+pub mod Sweep
 -- the audit of a placement file beside three files
 pub mod Audit
 -- the summary of a market that is made from numbers

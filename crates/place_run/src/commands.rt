@@ -5,9 +5,10 @@ ghost use Rattle.command_words.specs.Words.{command_of, texts};
 ghost use Rattle.run_frame.specs.Files.{moment};
 ghost use Rattle.run_frame.specs.Plans.{MayOpen};
 ghost use Rattle.run_frame.specs.Stops.{IsWordsStop};
-ghost use Rattle.run_frame.specs.declared.stop.Stop.TheVariants.{Words};
+ghost use Rattle.run_frame.specs.declared.stop.Stop.TheVariants.{Refused};
 ghost use Rattle.place_run.specs.Runs.{IsAnswering, ReadsNothing};
 ghost use Rattle.place_run.specs.Says.{named, plan};
+ghost use Rattle.place_run.specs.declared.status.Refusal.TheVariants.{Words};
 
 // The audit of a placement file beside three files.
 mod audit;
@@ -21,6 +22,8 @@ mod make;
 mod place;
 // The reasons in the placement of three files.
 mod reasons;
+// One programme's quota varied.
+mod sweep;
 
 use self::audit::audit;
 use self::base::base;
@@ -28,8 +31,9 @@ use self::fixed::fixed;
 use self::make::make;
 use self::place::place;
 use self::reasons::reasons;
+use self::sweep::sweep;
 use crate::answer::Answer;
-use crate::status::Stop;
+use crate::status::{Refusal, Stop};
 use command_words::{Command, read_words};
 use gate_workers::Gate;
 use place_edges::Shelf;
@@ -50,8 +54,8 @@ pub(crate) fn answer_words<R: Threads + Sync, H: Shelf, G: Gate>(
         (command_of (texts words.now)) result
         (moment H.faults H.tally shelf.old) (moment H.faults H.tally shelf.new) }
     ensures refused { (refused : WordsFault) → command_of (texts words.now) ≡ Err refused
-        → IsErrOf result (Words refused) }
-    ensures unopened { IsWordsStop result → shelf.new ≡ shelf.old }
+        → IsErrOf result (Refused (Words refused)) }
+    ensures unopened { IsWordsStop Words result → shelf.new ≡ shelf.old }
     ensures unread { ReadsNothing (command_of (texts words.now)) result shelf.old shelf.new }
     ensures files { H.files shelf.new ≡ H.files shelf.old }
     ensures grants { H.grants shelf.new ≡ H.grants shelf.old }
@@ -63,6 +67,14 @@ pub(crate) fn answer_words<R: Threads + Sync, H: Shelf, G: Gate>(
         Ok(Command::Audit(workers)) => audit(rt, alloc, words, shelf, workers),
         Ok(Command::Fixed(workers)) => fixed(rt, alloc, words, shelf, workers, gate),
         Ok(
+            Command::Sweep {
+                code,
+                low,
+                high,
+                workers,
+            },
+        ) => sweep(rt, alloc, words, shelf, code, low, high, workers),
+        Ok(
             Command::Make {
                 seed,
                 candidates,
@@ -73,6 +85,6 @@ pub(crate) fn answer_words<R: Threads + Sync, H: Shelf, G: Gate>(
         ) => make(
             rt, alloc, seed, candidates, programmes, types, workers, gate,
         ),
-        Err(refused) => Err(Stop::Words(refused)),
+        Err(refused) => Err(Stop::Refused(Refusal::Words(refused))),
     }
 }

@@ -13,11 +13,12 @@ ghost use Rattle.run_frame.specs.Files.{IsJudged, moment};
 ghost use Rattle.run_frame.specs.Plans.{AreRead, MayOpen};
 ghost use Rattle.place_run.specs.Says.{named, tables_plan, word_at};
 ghost use Rattle.place_run.specs.Tables.{programmes_said, candidates_said, placement_said, ranks_said};
+ghost use Rattle.place_run.specs.commands.Sweep.{programme_with};
 
 use crate::status::Stop;
 use candidate_table::CandidateTable;
 use market::Placement;
-use place_base::FileKind;
+use place_base::{FileKind, Finder};
 use place_edges::Shelf;
 use placement_file::read_placement;
 use programme_table::ProgrammeTable;
@@ -115,6 +116,13 @@ impl Inputs {
     {
         let bytes = read_file(alloc, shelf, name, FileKind::Placement)?;
         table_or_stop(read_held(alloc, &bytes, &self.programmes, &self.candidates))
+    }
+
+    // The index of the programme with this code, or `None` where no programme has it.
+    pub(crate) fn find_programme(&self, code: u32) -> Option<u32>
+        ensures { result ≡ programme_with code (codes_of self.now.programmes.rows) }
+    {
+        self.programmes.find(u64::from(code))
     }
 
     // The tables, which are not copied.

@@ -1,9 +1,9 @@
 // The limits in numbers.
 
-ghost use Rattle.place_run.specs.Limits.{HasFileBytes, HasFileLimits, HasMarketLimits, HasWorkerLimits};
+ghost use Rattle.place_run.specs.Limits.{HasFileBytes, HasFileLimits, HasMarketLimits, HasSweepLimits, HasWorkerLimits};
 
-/// The limits of the files, the bytes that cut them, the numbers of workers and the limits of a
-/// market are the numbers that users are told. The other clauses speak of them by name, but that
+/// The limits of the files, the bytes that cut them, the numbers of workers, the limits of a market
+/// and those of a sweep are the numbers that users are told. The other clauses speak of them by name, but that
 /// the definition of a made market has its own numbers, and that the line ends of printed texts
 /// stand as a number.
 ///
@@ -13,4 +13,5 @@ pub fn limits_in_numbers()
     ensures bytes { HasFileBytes }
     ensures workers { HasWorkerLimits }
     ensures market { HasMarketLimits }
+    ensures sweep { HasSweepLimits }
 {}

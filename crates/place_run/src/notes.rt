@@ -3,12 +3,13 @@ ghost use Rattle.std.specs.Prelude.{◌≡◌};
 ghost use Rattle.place_edges.specs.Sink.{IsWritten};
 ghost use Rattle.run_frame.specs.Lines.{IsNoted};
 ghost use Rattle.place_run.specs.Runs.{HasNoLine};
-ghost use Rattle.place_run.specs.Statuses.{status_line, refusal_name as name_of, refusal_place as place_of};
+ghost use Rattle.place_run.specs.Statuses.{no_programme_line, status_line, refusal_name as name_of, refusal_place as place_of};
 
 use crate::Status;
 use command_words::WordsFault;
 use place_edges::{Failed, Sink, write_whole};
-use run_frame::{FileStop, write_fault, write_stop, write_words};
+use record_files::Field;
+use run_frame::{FileStop, write_fault, write_parts, write_stop, write_words};
 
 // Writes the line of a status, as far as the sink takes it.
 pub(crate) fn note<N: Sink>(notes: &mut N, status: Status)
@@ -34,7 +35,23 @@ fn write_line<N: Sink>(notes: &mut N, status: Status) -> Result<(), Failed>
         Status::ReadFault => write_stop(notes, FileStop::ReadFault),
         Status::WriteFault => write_whole(notes, b"write fault\n"),
         Status::Memory => write_stop(notes, FileStop::Memory),
+        Status::NoProgramme(code) => write_no_programme(notes, code),
     }
+}
+
+// Writes that no programme has this code.
+fn write_no_programme<N: Sink>(notes: &mut N, code: u32) -> Result<(), Failed>
+    ensures { IsWritten (no_programme_line code) result
+        (N.written notes.old) (N.written notes.new) (N.faults notes.old) (N.faults notes.new) }
+{
+    write_parts(
+        notes,
+        &[
+            Field::Text(b"no programme "),
+            Field::Number(u64::from(code)),
+            Field::Text(b"\n"),
+        ],
+    )
 }
 
 // The name of a refusal in its line.

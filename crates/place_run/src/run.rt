@@ -6,7 +6,7 @@ ghost use Rattle.run_frame.specs.Files.{moment};
 ghost use Rattle.run_frame.specs.Lines.{IsNoted};
 ghost use Rattle.run_frame.specs.Plans.{MayOpen};
 ghost use Rattle.run_frame.specs.Runs.{IsConstant, IsFinished, IsQuiet};
-ghost use Rattle.place_run.specs.Runs.{HasStatusCause, IsComplete, IsAnsweredRun, IsWordsRefusal, LeavesSink, HasNoLine, PrintsReports, PrintsSummary, PrintsVerdict, PrintsWorstStable, RunsWithoutFile, endings};
+ghost use Rattle.place_run.specs.Runs.{HasStatusCause, IsComplete, IsAnsweredRun, IsWordsRefusal, LeavesSink, HasNoLine, PrintsReports, PrintsSummary, PrintsSweep, PrintsVerdict, PrintsWorstStable, RunsWithoutFile, endings};
 ghost use Rattle.place_run.specs.Says.{named, plan};
 ghost use Rattle.place_run.specs.Statuses.{status_line};
 
@@ -51,12 +51,16 @@ pub fn run_words<R: Threads + Sync, H: Shelf, K: Sink, N: Sink, G: Gate>(
     // What each command prints is the mechanism's placement in the market of the files that were
     // read, or is told of it: it is stable there, and in every stable placement there each
     // candidate holds the printed programme or one listed higher. A verdict is the first one on the
-    // placement that is audited, and the status is Done exactly where that one is stable.
+    // placement that is audited, and the status is Done exactly where that one is stable. The rows of
+    // a sweep are those of the programme with the code, and from each row to a later one no candidate
+    // holds less; there is no programme exactly where none has the code in files without a fault.
     ensures worst { PrintsWorstStable (H.files shelf.old) (texts words.now) result
         (K.written out.old) (K.written out.new) (H.tally shelf.old) (H.tally shelf.new) }
     ensures reports { PrintsReports (H.files shelf.old) (texts words.now) result
         (K.written out.old) (K.written out.new) (H.tally shelf.old) (H.tally shelf.new) }
     ensures verdict { PrintsVerdict (H.files shelf.old) (texts words.now) result
+        (K.written out.old) (K.written out.new) (H.tally shelf.old) (H.tally shelf.new) }
+    ensures sweep { PrintsSweep (H.files shelf.old) (texts words.now) result
         (K.written out.old) (K.written out.new) (H.tally shelf.old) (H.tally shelf.new) }
     ensures summary { PrintsSummary (texts words.now) result
         (K.written out.old) (K.written out.new) }

@@ -23,6 +23,8 @@ pub enum Status {
     Memory,
     /// The placement that was audited is not stable. The verdict was written whole.
     AuditNo,
+    /// The files were read, and no programme has this code. Nothing was written.
+    NoProgramme(u32),
 }
 
 impl Status {
@@ -38,6 +40,7 @@ impl Status {
             Status::WriteFault => 5,
             Status::Memory => 6,
             Status::AuditNo => 7,
+            Status::NoProgramme(_) => 8,
         }
     }
 
@@ -46,7 +49,8 @@ impl Status {
         ensures { result ≡ status_of stop }
     {
         match stop {
-            Stop::Words(refused) => Status::Words(refused),
+            Stop::Refused(Refusal::Words(refused)) => Status::Words(refused),
+            Stop::Refused(Refusal::NoProgramme(code)) => Status::NoProgramme(code),
             Stop::File(FileStop::Fault(fault)) => Status::FileFault(fault),
             Stop::File(FileStop::ReadFault) => Status::ReadFault,
             Stop::File(FileStop::Memory) => Status::Memory,
@@ -73,5 +77,14 @@ impl Ending {
     }
 }
 
+// What is refused.
+#[derive(Clone, Copy)]
+pub(crate) enum Refusal {
+    // The words are no command.
+    Words(WordsFault),
+    // The files were read, and no programme has this code.
+    NoProgramme(u32),
+}
+
 // Why there is no text.
-pub(crate) type Stop = run_frame::Stop<WordsFault>;
+pub(crate) type Stop = run_frame::Stop<Refusal>;

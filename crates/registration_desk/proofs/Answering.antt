@@ -7,7 +7,7 @@ use Rattle.run_frame.proofs.Readings.{answer-made, plan-ends}
 use Rattle.registration_desk.specs.Reports.{DeskReport}
 use Rattle.registration_desk.specs.Runs.{IsAnswering}
 use Rattle.registration_desk.specs.Says.{DeskFiles, both_plan, named, reported}
-use Rattle.run_frame.specs.declared.stop.Stop.TheVariants.{Words}
+use Rattle.run_frame.specs.declared.stop.Stop.TheVariants.{Refused}
 use Rattle.registration_desk.specs.declared.words.DeskWords.{DeskWords}
 
 -- the report on what was read
@@ -21,7 +21,7 @@ desk-answers told words files report clerks before now reading is =
 -- words that are refused open no file
 pub words-refused : (told : Option Files) (words : List (List ℕ)) (clerks : Result ℕ DeskWords)
     (refused : DeskWords) (now : Moment) → clerks ≡ Err refused
-    → IsAnswering told words clerks (Err (Words refused)) now now
+    → IsAnswering told words clerks (Err (Refused refused)) now now
 words-refused told words clerks refused now none =
-    subst (λ v. IsAnswering told words v (Err (Words refused)) now now) (sym none)
+    subst (λ v. IsAnswering told words v (Err (Refused refused)) now now) (sym none)
     (plan-ends _ _ now (inr refl) tt)

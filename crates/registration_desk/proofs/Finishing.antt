@@ -24,21 +24,21 @@ use Rattle.registration_desk.specs.Words.{clerks_of}
 use Rattle.registration_desk.specs.declared.status.DeskStatus.{DeskStatus}
 use Rattle.registration_desk.specs.declared.status.DeskStatus.TheVariants as ends
 use Rattle.run_frame.specs.declared.stop.Stop.{Stop}
-use Rattle.run_frame.specs.declared.stop.Stop.TheVariants.{File, Words}
+use Rattle.run_frame.specs.declared.stop.Stop.TheVariants.{File, Refused}
 use Rattle.registration_desk.specs.declared.words.DeskWords.{DeskWords}
 use Rattle.registration_desk.proofs.BothFiles.{are-served, two-said}
 
 -- the stop of a status, if it is that of one
 abbrev stop_in : DeskStatus → Option (Stop DeskWords)
 stop_in ends.Done = None
-stop_in (ends.Words refused) = Some (Words refused)
+stop_in (ends.Words refused) = Some (Refused refused)
 stop_in (ends.FileFault found) = Some (File (Fault found))
 stop_in ends.ReadFault = Some (File ReadFault)
 stop_in ends.WriteFault = None
 stop_in ends.Memory = Some (File Memory)
 
 stop-in : (stop : Stop DeskWords) → stop_in (status_of stop) ≡ Some stop
-stop-in (Words refused) = refl
+stop-in (Refused refused) = refl
 stop-in (File (Fault found)) = refl
 stop-in (File ReadFault) = refl
 stop-in (File Memory) = refl
@@ -55,10 +55,10 @@ are-apart = record {
 
 -- words are said to be refused only where they are
 says-refused : (clerks : Result ℕ DeskWords) (reads : Reads) (refused : DeskWords)
-    → said (plan clerks) reads ≡ Some (Err (Words refused)) → clerks ≡ Err refused
+    → said (plan clerks) reads ≡ Some (Err (Refused refused)) → clerks ≡ Err refused
 says-refused (Err other) reads refused e = ap (λ v. Err v) (cc e)
 says-refused (Ok clerks) reads refused e = absurd
-    (ends-so (λ result. result ≡ Err (Words refused) → ⊥) (plan (Ok clerks)) reads _
+    (ends-so (λ result. result ≡ Err (Refused refused) → ⊥) (plan (Ok clerks)) reads _
     (λ stop e. cc e) (λ s r e. cc e) e refl)
 
 -- a report that is said is that of two files
@@ -150,11 +150,12 @@ module _ {K N : Type 0} {written : K → Option (List ℕ)} {faults : K → ℕ}
 
   -- each refusal has its cause, where words that give no number of clerks are refused
   pub causes-run : ((refused : DeskWords) → clerks_of words ≡ Err refused
-      → run.answer ≡ Err (Words refused))
-      → HasStatusCause endings (clerks_of words) status before now (faults old) (faults new)
+      → run.answer ≡ Err (Refused refused))
+      → HasStatusCause (λ refused. refused) endings (clerks_of words) status before now (faults old)
+      (faults new)
   causes-run exact =
-      frame.causes-run are-apart written faults (clerks_of words) status old new run.answers
-      run.finished (says-refused (clerks_of words) run.answers.reads) exact
+      frame.causes-run are-apart written faults (λ refused. refused) (clerks_of words) status old
+      new run.answers run.finished (says-refused (clerks_of words) run.answers.reads) exact
 
   -- what was written before stays in front, and after a refusal the sink is as it was
   pub leaves-sink : faults old ≤ faults new → LeavesSink status_of written faults status old new

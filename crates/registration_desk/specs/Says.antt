@@ -11,7 +11,7 @@ use Rattle.registration_desk.specs.Reports.{DeskReport, no_numbers, report_on}
 use Rattle.registration_desk.specs.Words.{word_at}
 use Rattle.registration_desk.specs.declared.report.DeskNumbers.{DeskNumbers}
 use Rattle.run_frame.specs.declared.stop.Stop.{Stop}
-use Rattle.run_frame.specs.declared.stop.Stop.TheVariants.{Words}
+use Rattle.run_frame.specs.declared.stop.Stop.TheVariants.{Refused}
 use Rattle.registration_desk.specs.declared.words.DeskWords.{DeskWords}
 
 -- the placement and the requests
@@ -48,7 +48,7 @@ reported files = report_on files.placement files.requests
 
 -- what the words come to: the two files, and the report; it does not depend on the number of clerks
 abbrev pub plan : Result ℕ DeskWords → Plan DeskReport DeskWords
-plan (Err refused) = ends (Err (Words refused))
+plan (Err refused) = ends (Err (Refused refused))
 plan (Ok clerks) = answered reported both_plan
 
 -- the numbers of a report, none where there is none

@@ -21,7 +21,7 @@ status_code Memory = 6
 
 -- the status where there is no report
 abbrev pub status_of : Stop DeskWords → DeskStatus
-status_of (stop.Words refused) = Words refused
+status_of (stop.Refused refused) = Words refused
 status_of (stop.File (unread.Fault found)) = FileFault found
 status_of (stop.File unread.ReadFault) = ReadFault
 status_of (stop.File unread.Memory) = Memory

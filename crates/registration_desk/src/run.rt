@@ -6,7 +6,7 @@ ghost use Rattle.run_frame.specs.Files.{moment};
 ghost use Rattle.run_frame.specs.Plans.{MayOpen};
 ghost use Rattle.run_frame.specs.Runs.{HasStatusCause, IsConstant, IsFinished, IsQuiet, LeavesSink};
 ghost use Rattle.run_frame.specs.Stops.{IsWordsStop};
-ghost use Rattle.run_frame.specs.declared.stop.Stop.TheVariants.{Words};
+ghost use Rattle.run_frame.specs.declared.stop.Stop.TheVariants.{Refused};
 ghost use Rattle.registration_desk.specs.Runs.{IsAnswering, IsComplete, IsDeskRun, IsWordsRefusal, PrintsRegistered, endings};
 ghost use Rattle.registration_desk.specs.Statuses.{status_of};
 ghost use Rattle.registration_desk.specs.Says.{both_plan, named, numbers_said, plan};
@@ -69,7 +69,8 @@ pub fn run_desk<R: Threads + Wait + Sync, H: Shelf, K: Sink, N: Sink, G: DeskGat
 
     // Each refusal has its cause, and where the run ends with its text no failed read or write was
     // passed over, whether or not the shelf and the sinks tell their bytes.
-    ensures causes { HasStatusCause endings (clerks_of (texts words.now)) result
+    ensures causes { HasStatusCause (λ (refused : DeskWords). refused) endings
+        (clerks_of (texts words.now)) result
         (moment H.faults H.tally shelf.old) (moment H.faults H.tally shelf.new)
         (K.faults out.old) (K.faults out.new) }
     ensures quiet { IsQuiet endings result
@@ -113,14 +114,15 @@ fn answer_words<R: Threads + Wait + Sync, H: Shelf, G: DeskGate>(
         (clerks_of (texts words.now)) result
         (moment H.faults H.tally shelf.old) (moment H.faults H.tally shelf.new) }
     ensures refused { (refused : DeskWords) → clerks_of (texts words.now) ≡ Err refused
-        → IsErrOf result (Words refused) }
-    ensures unopened { IsWordsStop result → shelf.new ≡ shelf.old }
+        → IsErrOf result (Refused refused) }
+    ensures unopened { IsWordsStop (λ (refused : DeskWords). refused) result
+        → shelf.new ≡ shelf.old }
     ensures files { H.files shelf.new ≡ H.files shelf.old }
     ensures grants { H.grants shelf.new ≡ H.grants shelf.old }
 {
     match read_words(words) {
         Ok(clerks) => serve_files(rt, alloc, words, shelf, clerks, gate),
-        Err(refused) => Err(Stop::Words(refused)),
+        Err(refused) => Err(Stop::Refused(refused)),
     }
 }
 

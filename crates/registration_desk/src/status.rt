@@ -44,7 +44,7 @@ impl DeskStatus {
         ensures { result ≡ status_of stop }
     {
         match stop {
-            Stop::Words(refused) => DeskStatus::Words(refused),
+            Stop::Refused(refused) => DeskStatus::Words(refused),
             Stop::File(FileStop::Fault(fault)) => DeskStatus::FileFault(fault),
             Stop::File(FileStop::ReadFault) => DeskStatus::ReadFault,
             Stop::File(FileStop::Memory) => DeskStatus::Memory,

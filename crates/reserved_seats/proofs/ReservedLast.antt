@@ -1,13 +1,13 @@
 -- In a stable placement of the expanded market, who holds a reserved seat could get no general one:
 -- the general seats of the programme stand before it in the list, so a free one, or one held by a
 -- worse rank, would block.
-use Rattle.std.proofs.Common.{◌≡◌, ◌≢◌, ℕ, ◌+◌, ◌<◌, ◌≤◌, ◌⊎◌, List, length, true, Option, Some, refl, sym, ap, ◌∙◌, subst, arith, ⊎_elim, inl, inr}
+use Rattle.std.proofs.Common.{◌≡◌, ℕ, ◌+◌, ◌<◌, ◌≤◌, ◌⊎◌, List, length, true, Option, Some, sym, ap, ◌∙◌, subst, arith, ⊎_elim, inl, inr}
 use Rattle.std.specs.Prelude.{IsTrue}
 use Rattle.std.proofs.lemmas.Bool.{cases_lt, cases_order}
 use Rattle.std.proofs.lemmas.Option.{same_Some}
 use Rattle.market.specs.Counting.{count_of}
 use Rattle.market.specs.Problems.{Problem, IsAcceptable, IsValid, admits, kind_of, list_of, order_of, place_of, quota_of, rank_of, turn_of}
-use Rattle.market.specs.Stability.{HasWorseHolder, IsBetter, IsBlocking, IsStable, Prefers, held_by}
+use Rattle.market.specs.Stability.{HasWorseHolder, IsBetter, IsStable, Prefers, held_by}
 use Rattle.market.proofs.Firsts.{place_same}
 use Rattle.market.proofs.Valid.{admitted-turn, candidate_lt, turn-better}
 use Rattle.reserved_seats.specs.Reservations.{Reservation, is_marked}

@@ -3,7 +3,8 @@ use Rattle.std.specs.Prelude.{◌≡◌, ℕ, ◌<◌, ◌≤◌, Bool, List, []
 use Rattle.std.specs.List.{flat_map, range_with_len}
 use Rattle.place_base.specs.declared.limits.TheConstants.{MOST_PROGRAMMES, MOST_ENTRIES}
 use Rattle.market.specs.declared.programme.Prog.{Prog}
-use Rattle.market.specs.Problems.{Problem, list_of, no_programme}
+use Rattle.market.specs.declared.parts.MarketParts.{MarketParts}
+use Rattle.market.specs.Problems.{Problem, list_of, no_programme, problem}
 use Rattle.reserved_seats.specs.Offers.{index_of, offers_of}
 use Rattle.reserved_seats.specs.Reservations.{Reservation, is_marked}
 
@@ -38,6 +39,11 @@ expanded m r =
       programmes = both_kinds m.programmes r.seats;
       lists = offered_lists (length m.programmes) r.marked m.lists;
     }
+
+-- the market that is made of these parts
+abbrev pub problem_of : MarketParts → Problem
+problem_of parts =
+    problem parts.types parts.programmes.items parts.lists.items parts.orders.items parts.ranks.items
 
 -- at most as many entries as a list of a file has, each of them a row
 pub record IsListOf (rows : ℕ) (list : List ℕ) : Type 0 where

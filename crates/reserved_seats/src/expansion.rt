@@ -2,19 +2,17 @@
 
 ghost use Rattle.std.specs.Prelude.{◌≡◌, ◌<◌, ◌≤◌, ℕ, true, [], length, slice_index_or, IfOk, OnOk};
 ghost use Rattle.place_base.specs.declared.limits.TheConstants.{MOST_PROGRAMMES};
-ghost use Rattle.market.specs.Problems.{IsValid, problem};
-ghost use Rattle.reserved_seats.specs.Expansion.{both_kinds, offered_list, offered_lists, expanded, FitsMarket, IsListOf};
+ghost use Rattle.market.specs.Problems.{IsValid};
+ghost use Rattle.reserved_seats.specs.Expansion.{both_kinds, offered_list, offered_lists, expanded, problem_of, FitsMarket, IsListOf};
 
 use crate::{Offer, Reserved};
 use market::{List, Market, MarketParts, Prog};
 use std::alloc::{AllocError, Global};
-use std::thread::Threads;
 
 /// The expanded market: behind all programmes each stands once more, of the same type and with the
 /// same bar, with its reserved seats as its quota; and in the list of each marked candidate the
-/// reserved seats of a programme stand just after its general ones. Orders and ranks are moved, and
-/// so are the lists of all others. The market is spent, also where memory is refused, and nothing
-/// else is refused.
+/// reserved seats of a programme stand just after its general ones. The market is spent, also where
+/// memory is refused, and nothing else is refused.
 pub fn expand(alloc: Global, market: Market, reserved: &Reserved) -> Result<Market, AllocError>
     requires { FitsMarket market reserved.now }
 
@@ -22,7 +20,7 @@ pub fn expand(alloc: Global, market: Market, reserved: &Reserved) -> Result<Mark
     ensures expanded { IfOk result (λ m. m ≡ expanded market reserved.now) }
     ensures valid { IsValid (expanded market reserved.now) }
 {
-    let parts = expanded_parts(alloc, market, reserved)?;
+    let parts = expand_parts(alloc, market.into_parts(), reserved)?;
     let MarketParts {
         types,
         programmes,
@@ -33,41 +31,18 @@ pub fn expand(alloc: Global, market: Market, reserved: &Reserved) -> Result<Mark
     Market::build(alloc, types, programmes, lists, orders, ranks)
 }
 
-/// The same market, its lists by type made by so many threads; `expand` makes them by itself.
-pub fn expand_by<R: Threads + Sync>(
-    rt: &R,
+/// What the expanded market is made of, from what a market is made of: who has no market yet need
+/// build but one. Orders and ranks are moved, and so are the lists of those who are not marked.
+pub fn expand_parts(
     alloc: Global,
-    threads: u32,
-    market: Market,
-    reserved: &Reserved,
-) -> Result<Market, AllocError>
-    requires threads { 0 < threads }
-    requires fit { FitsMarket market reserved.now }
-    ensures expanded { IfOk result (λ m. m ≡ expanded market reserved.now) }
-    ensures valid { IsValid (expanded market reserved.now) }
-{
-    let parts = expanded_parts(alloc, market, reserved)?;
-    let MarketParts {
-        types,
-        programmes,
-        lists,
-        orders,
-        ranks,
-    } = parts;
-    Market::build_by(rt, alloc, threads, types, programmes, lists, orders, ranks)
-}
-
-// What the expanded market is made of.
-fn expanded_parts(
-    alloc: Global,
-    market: Market,
+    parts: MarketParts,
     reserved: &Reserved,
 ) -> Result<MarketParts, AllocError>
-    requires { FitsMarket market reserved.now }
-    ensures parts { IfOk result (λ parts.
-        problem parts.types parts.programmes.items parts.lists.items parts.orders.items
-        parts.ranks.items ≡ expanded market reserved.now) }
-    ensures valid { IsValid (expanded market reserved.now) }
+    requires valid { IsValid (problem_of parts) }
+    requires fit { FitsMarket (problem_of parts) reserved.now }
+    ensures expanded { IfOk result (λ wide.
+        problem_of wide ≡ expanded (problem_of parts) reserved.now) }
+    ensures valid { IsValid (expanded (problem_of parts) reserved.now) }
 {
     let MarketParts {
         types,
@@ -75,7 +50,7 @@ fn expanded_parts(
         mut lists,
         orders,
         ranks,
-    } = market.into_parts();
+    } = parts;
     let rows = programmes.len() as u32;
     let programmes = with_reserved(alloc, &programmes, reserved.seats())?;
     offer_reserved(alloc, rows, &mut lists, reserved.marked())?;

@@ -18,7 +18,7 @@ pub mod examples;
 #[cfg(test)]
 mod tests;
 
-pub use expansion::{expand, expand_by};
+pub use expansion::{expand, expand_parts};
 pub use laws::{acceptable_offers, reserved_seats_last};
 pub use offers::{Offer, Seat};
 pub use seats::Reserved;

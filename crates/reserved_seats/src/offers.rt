@@ -1,7 +1,7 @@
 // The two kinds of seats, and offers: what stands between a row of the programmes file and an index
 // of a market.
 
-ghost use Rattle.std.specs.Prelude.{◌≡◌, ◌<◌, ◌≤◌, length, Option};
+ghost use Rattle.std.specs.Prelude.{◌≡◌, ◌+◌, ◌<◌, ◌≤◌, length, Option};
 ghost use Rattle.place_base.specs.declared.limits.TheConstants.{MOST_PROGRAMMES};
 ghost use Rattle.reserved_seats.specs.Offers.{general, reserved, index_of, offer_at};
 ghost use Rattle.reserved_seats.specs.Fields.{code_of, letter_of, seat_of};
@@ -76,6 +76,7 @@ impl Offer {
     pub fn at(rows: u32, index: u32) -> Offer
         ensures offer { result ≡ offer_at rows index }
         ensures back { index_of rows result ≡ index }
+        ensures row { index < rows + rows → result.row < rows }
     {
         if index < rows {
             Offer::general(index)

@@ -4,7 +4,7 @@
 ghost use Rattle.std.specs.Prelude.{IfOk};
 ghost use Rattle.reserved_seats.specs.Expansion.{FitsMarket};
 
-use crate::{Offer, Reserved, Seat, acceptable_offers, expand, expand_by};
+use crate::{Offer, Reserved, Seat, acceptable_offers, expand, expand_parts};
 use market::examples::rank_bars;
 use market::{Market, Prog};
 use std::alloc::{AllocError, Global};
@@ -76,11 +76,15 @@ fn each_programme_stands_twice(rt: HostRuntime) -> Result<(), Fail> {
 }
 
 #[test]
-fn is_the_same_made_by_two_threads(rt: HostRuntime) -> Result<(), Fail> {
+fn parts_are_expanded_before_a_market_is_made(rt: HostRuntime) -> Result<(), Fail> {
     let alloc = rt.alloc();
     let (market, reserved) = first_candidate_marked(alloc)?;
-    let market = expand_by(&rt, alloc, 2, market, &reserved)?;
-    check_lists(&rt, &market, &[&[1, 3, 0, 2], &[0, 1]]);
+    let parts = expand_parts(alloc, market.into_parts(), &reserved)?;
+    assert_eq!(rt; parts.types, 2);
+    let quotas = parts.programmes.iter().map(|programme| programme.quota);
+    assert!(rt; quotas.eq([2, 2, 3, 0]));
+    let lengths = parts.lists.iter().map(|list| list.items().len());
+    assert!(rt; lengths.eq([4, 2]));
     Ok(())
 }
 

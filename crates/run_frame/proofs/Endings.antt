@@ -12,7 +12,7 @@ use Rattle.run_frame.specs.Runs.{Endings, HasStatusCause, IsConstant, IsDone, Is
 use Rattle.run_frame.specs.Stops.{is_free_stop, too_long}
 use Rattle.run_frame.specs.declared.stop.FileStop.TheVariants.{Fault, Memory, ReadFault}
 use Rattle.run_frame.specs.declared.stop.Stop.{Stop}
-use Rattle.run_frame.specs.declared.stop.Stop.TheVariants.{File, Words}
+use Rattle.run_frame.specs.declared.stop.Stop.TheVariants.{File, Refused}
 use Rattle.run_frame.proofs.Parts.{appended-nothing}
 
 -- The status of a stop tells the stop, and neither that of an answer nor that of a write fault is a
@@ -113,35 +113,45 @@ module _ {A W E K : Type 0} {ends : Endings A W E} (apart : AreApart ends)
     later = later;
   }
 
-  -- words that are refused exactly where they give no command have their cause in the status
-  words-cause : {C : Type 0} (command : Result C W) (said : Option (Result A (Stop W)))
-      (answer : Result A (Stop W)) (status : E) (old new : K) → Meets is_free_stop said answer
+  -- a refusal that the status tells is said
+  pub refused-said : (said : Option (Result A (Stop W))) (answer : Result A (Stop W)) (status : E)
+      (old new : K) (refused : W) → Meets is_free_stop said answer
       → IsFinished ends written faults answer status old new
-      → ((refused : W) → said ≡ Some (Err (Words refused)) → command ≡ Err refused)
-      → ((refused : W) → command ≡ Err refused → answer ≡ Err (Words refused))
-      → WordsCause (λ refused. ends.stopped (Words refused)) command status
-  words-cause command said answer status old new meets finished only exact = record {
-    only = λ refused same. only refused (decided-said is_free_stop said (Words refused) refl
-        (subst (λ v. Meets is_free_stop said v)
-        (stopped answer status old new (Words refused) finished same).0 meets));
-    always = λ refused none.
-        (subst (λ v. IsFinished ends written faults v status old new) (exact refused none)
+      → status ≡ ends.stopped (Refused refused) → said ≡ Some (Err (Refused refused))
+  refused-said said answer status old new refused meets finished same =
+      decided-said is_free_stop said (Refused refused) refl
+      (subst (λ v. Meets is_free_stop said v)
+      (stopped answer status old new (Refused refused) finished same).0 meets)
+
+  -- words that are refused exactly where they give no command have their cause in the status
+  words-cause : {C F : Type 0} (refusal : F → W) (command : Result C F)
+      (said : Option (Result A (Stop W))) (answer : Result A (Stop W)) (status : E) (old new : K)
+      → Meets is_free_stop said answer → IsFinished ends written faults answer status old new
+      → ((fault : F) → said ≡ Some (Err (Refused (refusal fault))) → command ≡ Err fault)
+      → ((fault : F) → command ≡ Err fault → answer ≡ Err (Refused (refusal fault)))
+      → WordsCause (λ fault. ends.stopped (Refused (refusal fault))) command status
+  words-cause refusal command said answer status old new meets finished only exact = record {
+    only = λ fault same. only fault
+        (refused-said said answer status old new (refusal fault) meets finished same);
+    always = λ fault none.
+        (subst (λ v. IsFinished ends written faults v status old new) (exact fault none)
         finished).0;
   }
 
   -- each refusal of a run has its cause
-  pub causes-run : {C : Type 0} {told : Option Files} {names : FileKind → List ℕ}
-      {plan : Plan A W} {answer : Result A (Stop W)} {before now : Moment}
-      (command : Result C W) (status : E) (old new : K)
+  pub causes-run : {C F : Type 0} {told : Option Files} {names : FileKind → List ℕ}
+      {plan : Plan A W} {answer : Result A (Stop W)} {before now : Moment} (refusal : F → W)
+      (command : Result C F) (status : E) (old new : K)
       → (reading : AreRead told names plan answer before now)
       → IsFinished ends written faults answer status old new
-      → ((refused : W) → said plan reading.reads ≡ Some (Err (Words refused))
-      → command ≡ Err refused)
-      → ((refused : W) → command ≡ Err refused → answer ≡ Err (Words refused))
-      → HasStatusCause ends command status before now (faults old) (faults new)
-  causes-run {plan = plan} {answer = answer} command status old new reading finished only exact =
+      → ((fault : F) → said plan reading.reads ≡ Some (Err (Refused (refusal fault)))
+      → command ≡ Err fault)
+      → ((fault : F) → command ≡ Err fault → answer ≡ Err (Refused (refusal fault)))
+      → HasStatusCause refusal ends command status before now (faults old) (faults new)
+  causes-run {plan = plan} {answer = answer} refusal command status old new reading finished only
+      exact =
       record {
-        words = words-cause command (said plan reading.reads) answer status old new
+        words = words-cause refusal command (said plan reading.reads) answer status old new
             reading.meets finished only exact;
         read = λ same. reading.causes.read
             (stopped answer status old new (File ReadFault) finished same).0;
@@ -182,8 +192,8 @@ module _ {A W E K : Type 0} {ends : Endings A W E} (apart : AreApart ends)
   done-finished said (Err (File Memory)) status old new meets (is, same) read write = inl is
   done-finished said (Err (File (Fault found))) status old new meets (is, same) read write =
       stop-done said (File (Fault found)) status old new refl meets is same
-  done-finished said (Err (Words refused)) status old new meets (is, same) read write =
-      stop-done said (Words refused) status old new refl meets is same
+  done-finished said (Err (Refused refused)) status old new meets (is, same) read write =
+      stop-done said (Refused refused) status old new refl meets is same
 
   -- the same of files that were read, each once where the answer is no free stop
   pub whole-run : {told : Option Files} {names : FileKind → List ℕ} {plan : Plan A W}

@@ -1,7 +1,7 @@
 -- Laws of plans: what goes on behind a plan's answer is said and read behind it; a plan does not
 -- depend on files that it does not open; what holds of each end holds of what is said; and a name
 -- that a plan reaches is granted.
-use Rattle.std.proofs.Common.{◌≡◌, ◌∙◌, ℕ, List, [], ◌∷◌, ◌++◌, Option, Some, None, Result, Ok, Err, refl, subst}
+use Rattle.std.proofs.Common.{◌≡◌, ◌⊎◌, ◌∙◌, ℕ, List, [], ◌∷◌, ◌++◌, Option, Some, None, Result, Ok, Err, refl, ap, subst, inl, inr}
 use Rattle.std.specs.Prelude.{Bool}
 use Rattle.place_base.specs.declared.fault.FileKind.{FileKind}
 use Rattle.place_edges.specs.Shelf.{Files}
@@ -159,6 +159,17 @@ pub answer-behind : {A B W : Type 0} (said : Option (Result A (Stop W)))
 answer-behind None next end e = cc e
 answer-behind (Some (Err stop)) next end e = cc e
 answer-behind (Some (Ok answer)) next end e = (answer, refl, e)
+
+-- and a stop behind a plan is the plan's, or it is said behind the plan's answer
+pub stop-behind : {A B W : Type 0} (said : Option (Result A (Stop W)))
+    (next : A → Option (Result B (Stop W))) (stop : Stop W)
+    → said_behind said next ≡ Some (Err stop)
+    → (said ≡ Some (Err stop))
+    ⊎ ((answer : A) × (said ≡ Some (Ok answer)) × (next answer ≡ Some (Err stop)))
+stop-behind None next stop e = cc e
+stop-behind (Some (Err other)) next stop e =
+    let same : other ≡ stop = cc e in inl (ap (λ v. Some (Err v)) same)
+stop-behind (Some (Ok answer)) next stop e = inr (answer, refl, e)
 
 -- the bytes of one kind of file are held under its name
 pub held-at : (told : Option Files) (names : FileKind → List ℕ) (kind : FileKind) (reads : Reads)

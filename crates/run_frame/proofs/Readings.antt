@@ -15,7 +15,7 @@ use Rattle.run_frame.specs.Stops.{is_free, is_free_stop, too_long}
 use Rattle.run_frame.specs.declared.stop.FileStop.{FileStop}
 use Rattle.run_frame.specs.declared.stop.FileStop.TheVariants.{Fault, ReadFault, Memory}
 use Rattle.run_frame.specs.declared.stop.Stop.{Stop}
-use Rattle.run_frame.specs.declared.stop.Stop.TheVariants.{File, Words}
+use Rattle.run_frame.specs.declared.stop.Stop.TheVariants.{File, Refused}
 use Rattle.run_frame.proofs.Endings.{decided-said}
 use Rattle.run_frame.proofs.Parts.{at-error, every-ok}
 use Rattle.run_frame.proofs.Plans.{AreSame, OpensBy, files_behind, may-behind, read-then, said-then, said_behind, same-files, same-said}
@@ -182,10 +182,10 @@ causes-later result first before now same tally causes =
       long = λ kind e. more-later first.tally before.tally now.tally tally (causes.long kind e);
     }
 
--- The result is no stop of a file: it is an answer, a refusal of words, or memory was refused.
+-- The result is no stop of a file: it is an answer, a refusal, or memory was refused.
 abbrev pub NeedsNoCause : {A W : Type 0} → Result A (Stop W) → Type 0
 NeedsNoCause (Ok answer) = Unit {0}
-NeedsNoCause (Err (Words refused)) = Unit {0}
+NeedsNoCause (Err (Refused refused)) = Unit {0}
 NeedsNoCause (Err (File Memory)) = Unit {0}
 NeedsNoCause (Err (File ReadFault)) = ⊥
 NeedsNoCause (Err (File (Fault found))) = ⊥

@@ -9,7 +9,7 @@ use Rattle.run_frame.specs.Plans.{Plan, files_read, said}
 use Rattle.run_frame.specs.Stops.{too_long}
 use Rattle.run_frame.specs.declared.stop.FileStop.TheVariants.{Fault, ReadFault, Memory}
 use Rattle.run_frame.specs.declared.stop.Stop.{Stop}
-use Rattle.run_frame.specs.declared.stop.Stop.TheVariants.{Words, File}
+use Rattle.run_frame.specs.declared.stop.Stop.TheVariants.{Refused, File}
 
 -- The text of a program's answer, and the status of each end: where the text was written whole,
 -- where there is a stop in place of an answer, and where a write failed.
@@ -48,17 +48,18 @@ IsWhole {A} {W} ends told names plan status old new before now =
     ⊎ (AreTaken (files_read plan reads) before.tally now.tally
     × (all : Result A (Stop W)) × (said plan reads ≡ Some all) × IsDone ends all status old new))
 
--- words are refused exactly where they give no command, and with that refusal
-pub record WordsCause {C W E : Type 0} (refusal : W → E) (command : Result C W) (status : E)
+-- words are refused exactly where they give no command, and for that fault of theirs
+pub record WordsCause {C F E : Type 0} (refusal : F → E) (command : Result C F) (status : E)
     : Type 0 where
-  pub only : (refused : W) → status ≡ refusal refused → command ≡ Err refused
-  pub always : (refused : W) → command ≡ Err refused → status ≡ refusal refused
+  pub only : (fault : F) → status ≡ refusal fault → command ≡ Err fault
+  pub always : (fault : F) → command ≡ Err fault → status ≡ refusal fault
 
 -- Each refusal has its cause: words by their rules, a read fault and a write fault by the counts, a
--- file that is too long by the tally.
-pub record HasStatusCause {A C W E : Type 0} (ends : Endings A W E) (command : Result C W)
-    (status : E) (before now : Moment) (out_before out_now : ℕ) : Type 0 where
-  pub words : WordsCause (λ refused. ends.stopped (Words refused)) command status
+-- file that is too long by the tally. The first value says how words with a fault are refused.
+pub record HasStatusCause {A C F W E : Type 0} (refusal : F → W) (ends : Endings A W E)
+    (command : Result C F) (status : E) (before now : Moment) (out_before out_now : ℕ)
+    : Type 0 where
+  pub words : WordsCause (λ fault. ends.stopped (Refused (refusal fault))) command status
   pub read : status ≡ ends.stopped (File ReadFault) → Rose before.faults now.faults
   pub long : (kind : FileKind) → status ≡ ends.stopped (File (Fault (too_long kind)))
       → GaveMore before.tally now.tally file_limit

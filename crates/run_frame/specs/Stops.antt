@@ -9,7 +9,7 @@ use Rattle.record_files.specs.declared.table_stop.TableStop.TheVariants as table
 use Rattle.run_frame.specs.declared.stop.FileStop.{FileStop}
 use Rattle.run_frame.specs.declared.stop.FileStop.TheVariants.{Fault, ReadFault, Memory}
 use Rattle.run_frame.specs.declared.stop.Stop.{Stop}
-use Rattle.run_frame.specs.declared.stop.Stop.TheVariants.{Words, File}
+use Rattle.run_frame.specs.declared.stop.Stop.TheVariants.{Refused, File}
 
 -- a read fault and want of memory are free: no bytes say them
 abbrev pub is_free : FileStop → Bool
@@ -17,14 +17,14 @@ is_free (Fault found) = false
 is_free ReadFault = true
 is_free Memory = true
 
--- and so they are as stops of a run, of which a refusal of words is said
+-- and so they are as stops of a run, of which a refusal is said
 abbrev pub is_free_stop : {W : Type 0} → Stop W → Bool
-is_free_stop (Words refused) = false
+is_free_stop (Refused refused) = false
 is_free_stop (File stop) = is_free stop
 
--- the words were refused
-abbrev pub IsWordsStop : {T W : Type 0} → Result T (Stop W) → Type 0
-IsWordsStop {W = W} result = (refused : W) × IsErrOf result (Words refused)
+-- the words were refused, for a fault of theirs
+abbrev pub IsWordsStop : {T F W : Type 0} → (F → W) → Result T (Stop W) → Type 0
+IsWordsStop {F = F} refusal result = (fault : F) × IsErrOf result (Refused (refusal fault))
 
 -- the fault of a file of more than 2^30 bytes
 abbrev pub too_long : FileKind → FileFault

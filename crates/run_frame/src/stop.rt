@@ -31,8 +31,8 @@ impl From<AllocError> for FileStop {
 /// Why a run has no answer.
 #[derive(Clone, Copy)]
 pub enum Stop<W> {
-    /// The words are refused.
-    Words(W),
+    /// What is asked for is refused: the words, or what they ask of files that were read.
+    Refused(W),
     /// A file has no table, or memory was refused.
     File(FileStop),
 }

@@ -2,7 +2,7 @@ use Rattle.std.proofs.Common.{◌≡◌, Ok, sym, arith}
 use Rattle.std.specs.Prelude.{string_bytes}
 use Rattle.std.proofs.lemmas.List.{length-map}
 use Rattle.command_words.specs.Words.{command_of, texts}
-use Rattle.command_words.specs.declared.words.Command.TheVariants.{Place, Base, Reasons, Audit, Fixed, Make}
+use Rattle.command_words.specs.declared.words.Command.TheVariants.{Place, Base, Reasons, Audit, Fixed, Sweep, Make}
 use Rattle.command_words.proofs.Fitting.{fits}
 use Rattle.place_run.proofs.Answering.{words-refused}
 use Rattle.place_run.proofs.Summaries.{summarised}
@@ -52,6 +52,52 @@ fixed-requires-clause-workers g c κs within =
     let given : command_of (texts words) ≡ Ok (Fixed c.in-Ok-Fixed.workers) = cc
     (c.read_words.ensures, c.in-Ok-Fixed.is, c.in-Ok-Fixed.field-0-is, c.in-Ok-Fixed.workers-is) in
     (fits (texts words) (Fixed c.in-Ok-Fixed.workers) given).workers
+
+pub sweep-requires-clause-words : goal.sweep-requires-clause-words
+sweep-requires-clause-words g c κs within =
+    let words = texts c.args.words.now in
+    let asked = c.in-Ok-Sweep in
+    let command = Sweep asked.code asked.low asked.high asked.workers in
+    let given : command_of words ≡ Ok command = cc
+    (c.read_words.ensures, asked.is, asked.field-0-is) in
+    let enough = (fits words command given).words in
+    omega (arith, enough, length-map c.args.words.now string_bytes)
+
+pub sweep-requires-clause-rising : goal.sweep-requires-clause-rising
+sweep-requires-clause-rising g c κs within =
+    let words = texts c.args.words.now in
+    let asked = c.in-Ok-Sweep in
+    let command = Sweep asked.code asked.low asked.high asked.workers in
+    let given : command_of words ≡ Ok command = cc
+    (c.read_words.ensures, asked.is, asked.field-0-is) in
+    (fits words command given).sizes.rising
+
+pub sweep-requires-clause-quotas : goal.sweep-requires-clause-quotas
+sweep-requires-clause-quotas g c κs within =
+    let words = texts c.args.words.now in
+    let asked = c.in-Ok-Sweep in
+    let command = Sweep asked.code asked.low asked.high asked.workers in
+    let given : command_of words ≡ Ok command = cc
+    (c.read_words.ensures, asked.is, asked.field-0-is) in
+    let few = (fits words command given).sizes.high_fits in omega (arith, few)
+
+pub sweep-requires-clause-rows : goal.sweep-requires-clause-rows
+sweep-requires-clause-rows g c κs within =
+    let words = texts c.args.words.now in
+    let asked = c.in-Ok-Sweep in
+    let command = Sweep asked.code asked.low asked.high asked.workers in
+    let given : command_of words ≡ Ok command = cc
+    (c.read_words.ensures, asked.is, asked.field-0-is) in
+    let few = (fits words command given).sizes.few in omega (arith, few)
+
+pub sweep-requires-clause-workers : goal.sweep-requires-clause-workers
+sweep-requires-clause-workers g c κs within =
+    let words = texts c.args.words.now in
+    let asked = c.in-Ok-Sweep in
+    let command = Sweep asked.code asked.low asked.high asked.workers in
+    let given : command_of words ≡ Ok command = cc
+    (c.read_words.ensures, asked.is, asked.field-0-is) in
+    (fits words command given).workers
 
 pub reasons-requires-clause-words : goal.reasons-requires-clause-words
 reasons-requires-clause-words g c κs within =

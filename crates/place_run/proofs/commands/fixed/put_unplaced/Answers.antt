@@ -11,7 +11,7 @@ loop-candidate-preserved c =
     let n = c.loop-candidate.candidate-index in
     let within = c.loop-candidate-test.true in
     let known = All-get_or (λ i. i < length numbers) c.args.unplaced.now n 0 within c.requires in
-    list-more (unplaced_row numbers) c.args.bytes.now.items c.args.unplaced.now n
+    list-more (unplaced_row numbers) c.args.bytes.now.items c.args.unplaced.now n 0
     c.loop-candidate.bytes.items _ within c.loop-candidate.invariant
     (c.in_ok-put_row_3.ensures.row
     ∙ ap (λ v. c.loop-candidate.bytes.items ++ v) (unplaced-row numbers

@@ -1,41 +1,37 @@
-use Rattle.std.proofs.Common.{◌<◌, ℕ, Bool, List, [], length, sym, ap, ◌∙◌, subst}
+use Rattle.std.proofs.Common.{◌<◌, ℕ, Bool, List, [], length, refl, sym, ap, ◌∙◌, subst}
 use Rattle.std.specs.Prelude.{slice_index_or}
 use Rattle.std.proofs.lemmas.List.{take_at}
 use Rattle.market.specs.declared.programme.Prog.{Prog}
-use Rattle.market.specs.Problems.{Problem}
-use Rattle.reserved_seats.specs.Expansion.{IsListOf, both_kinds, offered_lists}
+use Rattle.reserved_seats.specs.Expansion.{IsListOf, both_kinds, offered_lists, problem_of}
 use Rattle.reserved_seats.proofs.Making.{expanded-made, lists-short}
 use Rattle.reserved_seats.proofs.Validity.{expanded-valid}
-use Rattle.reserved_seats.proofs.expansion.expanded_parts.Goals as goal
+use Rattle.reserved_seats.proofs.expansion.expand_parts.Goals as goal
 
 pub returns-in_err-programmes-clause-valid : goal.returns-in_err-programmes-clause-valid
 returns-in_err-programmes-clause-valid c =
-    expanded-valid c.args.market c.args.reserved.now c.into_parts-types.ensures.valid c.requires
+    expanded-valid (problem_of c.args.parts) c.args.reserved.now c.requires.valid c.requires.fit
     c.seats.ensures.limit
 
 pub offer_reserved-requires-clause-lists : goal.offer_reserved-requires-clause-lists
 offer_reserved-requires-clause-lists c = λ i lt.
-    let m = c.args.market in
-    let parts = c.into_parts-types.result in
-    let is_m = c.into_parts-types.ensures.parts in
-    let lists = c.deref_mut.ensures.value ∙ ap (λ (x : Problem). x.lists) is_m in
-    let rows = c.len-rows.ensures ∙ parts.programmes.ok.0
-    ∙ ap (λ (x : Problem). length x.programmes) is_m in
+    let parts = c.args.parts in
+    let lists = c.deref_mut.ensures.value in
+    let rows = c.len-rows.ensures ∙ parts.programmes.ok.0 in
     subst (λ (n : ℕ). IsListOf n (slice_index_or c.deref_mut.result.now i [])) (sym rows)
-    (subst (λ (xs : List (List ℕ)). IsListOf (length m.programmes) (slice_index_or xs i []))
-    (sym lists)
-    (lists-short m c.args.reserved.now c.into_parts-types.ensures.valid c.requires i
+    (subst (λ (xs : List (List ℕ)). IsListOf (length parts.programmes.items)
+    (slice_index_or xs i [])) (sym lists)
+    (lists-short (problem_of parts) c.args.reserved.now c.requires.valid c.requires.fit i
     (subst (λ (xs : List (List ℕ)). i < length xs) lists lt)))
 
 pub returns-in_err-offer_reserved-clause-valid : goal.returns-in_err-offer_reserved-clause-valid
 returns-in_err-offer_reserved-clause-valid c =
-    expanded-valid c.args.market c.args.reserved.now c.into_parts-types.ensures.valid c.requires
+    expanded-valid (problem_of c.args.parts) c.args.reserved.now c.requires.valid c.requires.fit
     c.seats.ensures.limit
 
-pub returns-clause-parts : goal.returns-clause-parts
-returns-clause-parts c =
+pub returns-clause-expanded : goal.returns-clause-expanded
+returns-clause-expanded c =
     let r = c.args.reserved.now in
-    let parts = c.into_parts-types.result in
+    let parts = c.args.parts in
     let rows = c.len-rows.ensures ∙ parts.programmes.ok.0 in
     let both = c.in_ok-programmes.ensures
     ∙ ap (λ (ps : List Prog). both_kinds ps c.seats.result.now) c.deref.ensures.value
@@ -47,10 +43,10 @@ returns-clause-parts c =
     ∙ ap (λ (bs : List Bool). offered_lists (length parts.programmes.items) bs
     c.deref_mut.result.now) c.marked.ensures
     ∙ ap (offered_lists (length parts.programmes.items) r.marked) c.deref_mut.ensures.value in
-    expanded-made c.args.market r parts.types parts.programmes.items _ parts.lists.items _
-    parts.orders.items parts.ranks.items c.into_parts-types.ensures.parts both offered
+    expanded-made (problem_of parts) r parts.types parts.programmes.items _ parts.lists.items _
+    parts.orders.items parts.ranks.items refl both offered
 
 pub returns-clause-valid : goal.returns-clause-valid
 returns-clause-valid c =
-    expanded-valid c.args.market c.args.reserved.now c.into_parts-types.ensures.valid c.requires
+    expanded-valid (problem_of c.args.parts) c.args.reserved.now c.requires.valid c.requires.fit
     c.seats.ensures.limit
