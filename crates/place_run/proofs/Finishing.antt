@@ -1,6 +1,6 @@
 -- What a run leaves of a sink, and what follows where no read and no write failed.
 use Rattle.std.specs.Prelude.{IsErrOf}
-use Rattle.std.proofs.Common.{◌≡◌, ◌∙◌, ◌≤◌, ℕ, List, refl, sym, ap, subst, inl, inr, Option, Some, None, Result, Ok, Err, IfOk, ⊎_elim}
+use Rattle.std.proofs.Common.{◌≡◌, ◌∙◌, ◌≤◌, ℕ, List, refl, sym, ap, subst, inl, inr, Option, Some, None, Result, Ok, Err, IfOk, ⊎_elim, ◌⊎◌}
 use Rattle.place_base.specs.declared.fault.FileKind.TheVariants as file
 use Rattle.command_words.specs.Words.{command_of}
 use Rattle.command_words.specs.declared.words.Command.{Command}

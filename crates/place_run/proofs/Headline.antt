@@ -229,7 +229,7 @@ stable-ends (OverQuota p) e = cc e
 stable-ends (NotAcceptable i) e = cc e
 stable-ends (Blocking i p) e = cc e
 
-ends-well : (verdict : Verdict) (answer : Answer) → answer.ending ≡ verdict_ending verdict
+pub ends-well : (verdict : Verdict) (answer : Answer) → answer.ending ≡ verdict_ending verdict
     → (P : Type 0) → (verdict ≡ Stable) ↔ P → (answer.ending ≡ Done) ↔ P
 ends-well verdict answer is P both = (
   λ well. both.0 (stable-ends verdict (sym is ∙ well)),

@@ -5,7 +5,7 @@ use Rattle.std.specs.Prelude.{◌↔◌}
 use Rattle.place_base.specs.declared.fault.FileKind.TheVariants as file
 use Rattle.market.specs.Mechanism.{mechanism_placement}
 use Rattle.market.specs.Problems.{IsValid, Problem}
-use Rattle.market.specs.Stability.{IsPlacement, IsStable, held_by}
+use Rattle.market.specs.Stability.{IsStable, held_by}
 use Rattle.place_edges.specs.Shelf.{file_limit}
 use Rattle.programme_table.specs.Table.{Programmes, codes_of}
 use Rattle.candidate_table.specs.Table.{numbers_of}
@@ -109,28 +109,35 @@ second-refused tables named held registered v answer is first both told never au
           (audit_of given.audited) (λ e. never (same ∙ e));
     }
 
+-- the market of the seats left is one
+left-valid : (first second : Named) (held : List (Option ℕ)) (registered : List Bool)
+    → HasSeatsLeft first held registered second → IsValid first.market → IsValid second.market
+left-valid first second held registered left valid =
+    subst IsValid (sym left.market) (second-valid first.market held registered valid)
+
 -- the candidates and the programmes of the second placement have names
 pub second-candidates : (first second : Named) (held : List (Option ℕ)) (registered : List Bool)
-    → IsNamed first → HasSeatsLeft first held registered second → IsValid second.market
+    → IsNamed first → HasSeatsLeft first held registered second → IsValid first.market
     → length (mechanism_placement second.market) ≡ length (numbers_of second.numbers)
 second-candidates first second held registered named left valid =
-    (stable second.market valid).placement.candidates
+    (stable second.market (left-valid first second held registered left valid)).placement.candidates
     ∙ ap (λ (m : Problem). length m.lists) left.market
     ∙ candidates-same first.market held registered ∙ sym named.candidates
     ∙ ap (λ n. length (numbers_of n)) (sym left.numbers)
 
 pub second-programmes : (first second : Named) (held : List (Option ℕ)) (registered : List Bool)
-    → IsNamed first → HasSeatsLeft first held registered second → IsValid second.market
+    → IsNamed first → HasSeatsLeft first held registered second → IsValid first.market
     → (i p : ℕ) → held_by (mechanism_placement second.market) i ≡ Some p
     → p < length (codes_of second.programmes.rows)
 second-programmes first second held registered named left valid i p holds =
+    let good = left-valid first second held registered left valid in
     let counted : length second.market.programmes ≡ length (codes_of second.programmes.rows) =
     ap (λ (m : Problem). length m.programmes) left.market
     ∙ programmes-same first.market held registered ∙ sym named.programmes
     ∙ ap (λ (v : Programmes). length (codes_of v.rows)) (sym left.programmes) in
     subst (λ n. p < n) counted
-    (held-within second.market (mechanism_placement second.market) valid
-    (stable second.market valid).placement i p holds)
+    (held-within second.market (mechanism_placement second.market) good
+    (stable second.market good).placement i p holds)
 
 -- ---- of five files that were read
 

@@ -6,6 +6,7 @@ ghost use Rattle.command_words.specs.declared.words.Command.TheVariants as comma
 ghost use Rattle.command_words.specs.declared.words.TheConstants.{MAX_WORKERS};
 ghost use Rattle.candidate_table.specs.Table.{numbers_of};
 ghost use Rattle.market.specs.Mechanism.{mechanism_placement};
+ghost use Rattle.market.specs.Problems.{IsValid};
 ghost use Rattle.market.specs.Stability.{IsPlacement, held_by};
 ghost use Rattle.placement_file.specs.Texts.{placement_text as text_of_placement};
 ghost use Rattle.programme_table.specs.Table.{codes_of};
@@ -56,15 +57,7 @@ pub(crate) fn second<R: Threads + Sync, H: Shelf, G: Gate>(
     let inputs = Inputs::read(rt, alloc, words, shelf, workers)?;
     let placement = inputs.read_placement(alloc, shelf, word(words, 4))?;
     let registrations = inputs.read_registrations(alloc, shelf, word(words, 5))?;
-    let answer = audited_and_placed(
-        rt,
-        alloc,
-        inputs,
-        &placement,
-        &registrations,
-        workers,
-        gate,
-    )?;
+    let answer = audited_and_placed(rt, alloc, inputs, &placement, &registrations, workers, gate)?;
     Ok(answer)
 }
 
@@ -110,6 +103,7 @@ fn second_text<R: Threads + Sync, G: Gate>(
     gate: &G,
 ) -> Result<Vec<u8>, AllocError>
     requires workers { (1 ≤ workers) × (workers ≤ MAX_WORKERS) }
+    requires valid { IsValid problem.market }
     requires named { IsNamed problem }
     requires placement { IsPlacement problem.market placement.now }
     requires registered { length registered.now ≡ length problem.market.lists }

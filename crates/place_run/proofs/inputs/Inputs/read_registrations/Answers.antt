@@ -1,4 +1,4 @@
-use Rattle.std.proofs.Common.{◌≡◌, ◌<◌, ℕ, List, Option, Some, IfOk, length, subst}
+use Rattle.std.proofs.Common.{subst}
 use Rattle.candidate_table.specs.Table.{numbers_of}
 use Rattle.run_frame.specs.Files.{IsJudged, moment}
 use Rattle.run_frame.proofs.JudgedTables.{judged-lent, judged-stop}
