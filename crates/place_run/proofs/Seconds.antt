@@ -1,5 +1,5 @@
--- What a second placement in the market of three tables comes to: where the first one is stable, the
--- mechanism's placement in the market of the seats left, which is a market; and else the audit.
+-- What a second placement in the market of three tables comes to: where the first one is stable,
+-- the mechanism's placement in the market of the seats left, which is a market; else the audit.
 use Rattle.std.proofs.Common.{◌≡◌, ◌<◌, ℕ, ◌≤◌, Bool, List, length, Option, Some, None, Ok, refl, sym, subst, ap, ◌∙◌}
 use Rattle.std.specs.Prelude.{◌↔◌}
 use Rattle.place_base.specs.declared.fault.FileKind.TheVariants as file
@@ -180,8 +180,8 @@ second-beside : {reads : Reads} {audited : Audited} {answer : Answer} (registrat
     → length registrations ≤ file_limit
     → registrations_fault (numbers_in files.three) registrations ≡ None
     → IsSecondOf (registered_with (audited_with (tables_in files.three)
-    (placement_beside files.three files.bytes)) (registered_beside files.three registrations)) answer
-    → IsSecond reads answer
+    (placement_beside files.three files.bytes)) (registered_beside files.three registrations))
+    answer → IsSecond reads answer
 unfolding audit-beside printed_second tables_in codes_in numbers_in
 second-beside {answer = answer} registrations files read few none is =
     let held = placement_beside files.three files.bytes in

@@ -93,8 +93,8 @@ pub record PrintsReports (told : Option Files) (words : List (List ℕ)) (status
   pub reasons : PrintsText Reasons IsReasonsText told words status old new before now
   pub fixed : PrintsText Fixed IsFixedText told words status old new before now
 
--- where the words ask for this, by any number of workers, and the run ends with a text, this is that
--- of such an answer to the files that were read, and nothing else was appended
+-- where the words ask for this, by any number of workers, and the run ends with a text, this is
+-- that of such an answer to the files that were read, and nothing else was appended
 abbrev pub PrintsAnswer : (ℕ → Command) → (Reads → Answer → Type 0) → Option Files
     → List (List ℕ) → Status → Option (List ℕ) → Option (List ℕ) → ℕ → ℕ → Type 0
 PrintsAnswer asked IsAnswer told words status old new before now =

@@ -61,7 +61,8 @@ placement_said codes numbers bytes =
 -- what a registrations file says beside the candidates' numbers
 unfoldable pub registrations_said : List ℕ → List ℕ → Result (List Bool) FileStop
 registrations_said numbers bytes =
-    judged file.Registrations (registrations_fault numbers bytes) (registered_in numbers bytes) bytes
+    judged file.Registrations (registrations_fault numbers bytes) (registered_in numbers bytes)
+    bytes
 
 -- the bytes of three files
 pub record ThreeFiles : Type 0 where
