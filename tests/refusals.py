@@ -178,6 +178,12 @@ def files_in(folder, *names):
     return [os.path.join(ROOT, folder, name + ".csv") for name in names]
 
 
+def first_code(programmes):
+    """The code of the first programme of a file."""
+    with open(programmes, encoding="ascii") as rows:
+        return rows.read().split("\n")[1].split(",")[0]
+
+
 def made_market(room):
     """A folder with a market of 3,000 candidates, 60 programmes and 4 types, its placement, and requests of all."""
     folder = os.path.join(room, "made")
@@ -206,7 +212,8 @@ def commands(workers, folders, numbers, desk):
     for folder in folders:
         files = files_in(folder, "programmes", "candidates", "ranks")
         placement = files_in(folder, "placement")
-        for words in (["place", *files], ["base", *files], ["reasons", *files], ["audit", *files, *placement]):
+        for words in (["place", *files], ["base", *files], ["reasons", *files], ["audit", *files, *placement],
+                      ["sweep", *files, first_code(files[0]), "0", "2"]):
             found.append((words[0] + " " + os.path.basename(folder), PLACE, words + ["--workers"]))
     found.append(("make", PLACE, ["make", *numbers, "--workers"]))
     found.append(("desk " + os.path.basename(desk), DESK, files_in(desk, "placement", "registrations") + ["--clerks"]))

@@ -24,9 +24,10 @@ use std::thread::Threads;
 ///
 /// The words are refused first, before a file is opened. Then the files are opened, read whole and
 /// judged one after the other: a read fault of a file comes first, then that it has more than 2^30
-/// bytes, then its first fault. All memory is taken before the first byte is written to `out`. So
-/// after each refusal `out` is as it was; only a write fault leaves a part of the text there. A
-/// fault of `notes` changes neither the status nor `out`, which is tested.
+/// bytes, then its first fault. Behind them comes that no programme has the code of a sweep. All
+/// memory is taken before the first byte is written to `out`. So after each refusal `out` is as it
+/// was; only a write fault leaves a part of the text there. A fault of `notes` changes neither the
+/// status nor `out`, which is tested.
 ///
 /// The rounds are written to run on as many workers as the words say, who pass the gate; what is
 /// written does not depend on them.

@@ -43,7 +43,8 @@ expanded m r =
 -- the market that is made of these parts
 abbrev pub problem_of : MarketParts → Problem
 problem_of parts =
-    problem parts.types parts.programmes.items parts.lists.items parts.orders.items parts.ranks.items
+    problem parts.types parts.programmes.items parts.lists.items parts.orders.items
+    parts.ranks.items
 
 -- at most as many entries as a list of a file has, each of them a row
 pub record IsListOf (rows : ℕ) (list : List ℕ) : Type 0 where
