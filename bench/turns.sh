@@ -7,19 +7,16 @@ command -v rustc >/dev/null || { echo "bench: skipped, there is no rustc"; exit 
 repository=$(mktemp -d)
 trap 'rm -rf "$repository"' EXIT
 crates='market case_maker interleaving_core word_rule full_flags claim_words commit_book gate_workers truncation round_rerun'
-mkdir -p "$here/out" "$repository/crates/turns/src" "$repository/crates/turns/proofs/main" "$repository/crates/turns/proofs/make_parts" "$repository/crates/turns/specs"
+mkdir -p "$here/out" "$repository/crates/turns/src" "$repository/crates/turns/proofs/main" "$repository/crates/turns/specs"
 (cd "$repository" && git init -q .)
 cp "$here/../HANDLES" "$repository/"
 for crate in $crates; do
     cp -r "$here/../crates/$crate" "$repository/crates/"
     grep "^$crate:" "$here/../crates.txt" >>"$repository/crates.txt"
 done
-# what case_maker draws is timed apart from the tables of the market, so its parts are public in the copy
-sed -i 's/pub(crate)/pub/; s/^fn \(turn_orders\|all_ranks\)/pub fn \1/; s/^mod \([a-su-z]\)/pub mod \1/' "$repository"/crates/case_maker/src/*.rt
-echo 'turns: market case_maker gate_workers round_rerun rand_pcg' >>"$repository/crates.txt"
+echo 'turns: market case_maker gate_workers round_rerun' >>"$repository/crates.txt"
 cp "$here/turns/main.txt" "$repository/crates/turns/src/main.rt"
 cp "$here/turns/Invariants.antt.txt" "$repository/crates/turns/proofs/main/Invariants.antt"
-cp "$here/turns/Answers.antt.txt" "$repository/crates/turns/proofs/make_parts/Answers.antt"
 : >"$repository/crates/turns/specs/Lib.antt"
 : >"$repository/crates/turns/proofs/Lib.antt"
 (cd "$repository/crates/turns" && rt run -- 1 0 0 1 1) >&2
@@ -29,9 +26,9 @@ for time in 1 2 3; do
     for workers in 1 4; do
         ours=$("$here/out/turns" "$@" "$workers")
         plain=$("$here/out/team" "$@" "$workers")
-        [ "${ours#* * * }" = "${plain#* * * }" ] || { echo "bench: another placement: $ours, $plain"; exit 1; }
+        [ "${ours#* * }" = "${plain#* * * }" ] || { echo "bench: another placement: $ours, $plain"; exit 1; }
         echo "$ours $plain" | awk -v workers="$workers" '{
-            printf "%d workers: drawn %d ms, plain %d; tables %d ms, plain %d, both %.2f; ", workers, $1, $10, $2, $11, ($1 + $2) / ($10 + $11 + 0.001)
-            printf "a turn %.1f ns, plain %.1f, ratio %.2f\n", $3 * 1e6 / ($9 + 0.001), $12 * 1e6 / ($9 + 0.001), $3 / ($12 + 0.001) }'
+            printf "%d workers: made %d ms, plain %d, ratio %.2f; ", workers, $1, $9 + $10, $1 / ($9 + $10 + 0.001)
+            printf "a turn %.1f ns, plain %.1f, ratio %.2f\n", $2 * 1e6 / ($8 + 0.001), $11 * 1e6 / ($8 + 0.001), $2 / ($11 + 0.001) }'
     done
 done

@@ -27,7 +27,7 @@ offers() {
 }
 
 files="$room/ranks of all.csv,$room/ranks.csv"
-offers place,base,reasons,fixed,sweep,audit,make place ''
+offers place,base,reasons,fixed,sweep,audit,second,make place ''
 offers base place b
 offers '' place x
 for command in place base reasons fixed; do
@@ -39,6 +39,8 @@ for command in place base reasons fixed; do
 done
 offers "$files" place audit p.csv c.csv r.csv "$room/ra"
 offers --workers place audit p.csv c.csv r.csv placed.csv -
+offers "$files" place second p.csv c.csv r.csv placed.csv "$room/ra"
+offers --workers place second p.csv c.csv r.csv placed.csv came.csv -
 offers "$files" place sweep p.csv c.csv "$room/ra"
 offers '' place sweep p.csv c.csv r.csv "$room/ra"
 offers '' place sweep p.csv c.csv r.csv 101 0 "$room/ra"

@@ -11,7 +11,7 @@ use Rattle.place_base.specs.declared.limits.TheConstants.{LARGEST_CODE, LARGEST_
 use Rattle.record_files.specs.Numbers.{is_number, number_of, value}
 use Rattle.command_words.specs.Words.{CommandForm, command_by, command_of, command_with, form_of, number_at, of_names, of_numbers, of_quotas, option_of, types_beside, with_number, workers_of}
 use Rattle.command_words.specs.declared.words.Command.{Command}
-use Rattle.command_words.specs.declared.words.Command.TheVariants.{Place, Base, Reasons, Audit, Fixed, Sweep, Make}
+use Rattle.command_words.specs.declared.words.Command.TheVariants.{Place, Base, Reasons, Audit, Fixed, Sweep, Second, Make}
 use Rattle.command_words.specs.declared.words.TheConstants.{MAX_QUOTAS, MAX_WORKERS, WORKERS}
 use Rattle.command_words.specs.declared.words.WordsFault.{WordsFault}
 use Rattle.command_words.specs.declared.words.WordsFault.TheVariants.{BadNumber, WordCount}
@@ -24,6 +24,7 @@ words_of (Reasons workers) = 4
 words_of (Audit workers) = 5
 words_of (Fixed workers) = 4
 words_of (Sweep code low high workers) = 7
+words_of (Second workers) = 6
 words_of (Make seed candidates programmes types workers) = 5
 
 -- how many workers a command has
@@ -34,6 +35,7 @@ workers_in (Reasons workers) = workers
 workers_in (Audit workers) = workers
 workers_in (Fixed workers) = workers
 workers_in (Sweep code low high workers) = workers
+workers_in (Second workers) = workers
 workers_in (Make seed candidates programmes types workers) = workers
 
 -- a market is within the limits of the words, and has a type
@@ -57,6 +59,7 @@ HasSizes (Reasons workers) = ⊤
 HasSizes (Audit workers) = ⊤
 HasSizes (Fixed workers) = ⊤
 HasSizes (Sweep code low high workers) = AreQuotas low high
+HasSizes (Second workers) = ⊤
 HasSizes (Make seed candidates programmes types workers) = AreSizes candidates programmes types
 
 -- so many words are enough for the command, and it has 1 to 64 workers
@@ -218,9 +221,11 @@ lines word =
     (λ _. names-fit (λ n. Fixed n) 3 (λ n. refl) (λ n. refl) (λ n. tt))
     (λ _. cond_both (bytes_eq (codes "sweep") word) _ _ AreLines
     (λ _. quotas-fit)
+    (λ _. cond_both (bytes_eq (codes "second") word) _ _ AreLines
+    (λ _. names-fit (λ n. Second n) 5 (λ n. refl) (λ n. refl) (λ n. tt))
     (λ _. cond_both (bytes_eq (codes "make") word) _ _ AreLines
     (λ _. numbers-fit)
-    (λ _. tt)))))))
+    (λ _. tt))))))))
 
 by-option : (form : CommandForm) (further : List (List ℕ))
     (option : Result (Option (List ℕ)) WordsFault) (command : Command) → IsLine form

@@ -27,8 +27,9 @@ takes_few word =
     (λ _. cond_both (bytes_eq (codes "audit") word) _ _ TakesFew (λ _. omega arith)
     (λ _. cond_both (bytes_eq (codes "fixed") word) _ _ TakesFew (λ _. omega arith)
     (λ _. cond_both (bytes_eq (codes "sweep") word) _ _ TakesFew (λ _. omega arith)
+    (λ _. cond_both (bytes_eq (codes "second") word) _ _ TakesFew (λ _. omega arith)
     (λ _. cond_both (bytes_eq (codes "make") word) _ _ TakesFew (λ _. omega arith)
-    (λ _. tt)))))))
+    (λ _. tt))))))))
 
 -- the places of the option and of its word, behind so many words, are small numbers
 pub record AreSmallPlaces (further : ℕ) : Type 0 where

@@ -3,7 +3,7 @@ use Rattle.std.specs.Prelude.{ℕ, List, Option, Result, Ok, Err, option_copied}
 use Rattle.std.specs.Borrow.{Bor}
 use Rattle.command_words.specs.Words.{CommandForm, of_names, of_numbers, of_quotas}
 use Rattle.command_words.specs.declared.words.Command.{Command}
-use Rattle.command_words.specs.declared.words.Command.TheVariants.{Place, Base, Reasons, Audit, Fixed}
+use Rattle.command_words.specs.declared.words.Command.TheVariants.{Place, Base, Reasons, Audit, Fixed, Second}
 use Rattle.command_words.specs.declared.words.Form.{Form}
 use Rattle.command_words.specs.declared.words.Kind.{Kind}
 use Rattle.command_words.specs.declared.words.Kind.TheVariants as kind
@@ -17,6 +17,7 @@ asked kind.Reasons = of_names (λ workers. Reasons workers)
 asked kind.Audit = of_names (λ workers. Audit workers)
 asked kind.Fixed = of_names (λ workers. Fixed workers)
 asked kind.Sweep = of_quotas
+asked kind.Second = of_names (λ workers. Second workers)
 asked kind.Make = of_numbers
 
 -- the line of the grammar that a line of the table stands for

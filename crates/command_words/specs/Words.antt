@@ -6,7 +6,7 @@ use Rattle.place_base.specs.declared.fault.FaultKind.{FaultKind}
 use Rattle.place_base.specs.declared.limits.TheConstants.{LARGEST_CODE, LARGEST_QUOTA, MOST_CANDIDATES, MOST_PROGRAMMES, MOST_RANKS, MOST_TYPES}
 use Rattle.record_files.specs.Numbers.{number_of}
 use Rattle.command_words.specs.declared.words.Command.{Command}
-use Rattle.command_words.specs.declared.words.Command.TheVariants.{Place, Base, Reasons, Audit, Fixed, Sweep, Make}
+use Rattle.command_words.specs.declared.words.Command.TheVariants.{Place, Base, Reasons, Audit, Fixed, Sweep, Second, Make}
 use Rattle.command_words.specs.declared.words.WordsFault.{WordsFault}
 use Rattle.command_words.specs.declared.words.WordsFault.TheVariants.{NoCommand, UnknownCommand, WordCount, BadNumber}
 use Rattle.command_words.specs.declared.words.TheConstants.{WORKERS, MAX_WORKERS, MAX_QUOTAS}
@@ -77,7 +77,8 @@ pub record CommandForm : Type 0 where
   pub command : List (List ℕ) → Result ℕ WordsFault → Result Command WordsFault
 
 -- the grammar: most commands take the names of three files, the audit takes that of a placement
--- file behind them and the sweep three numbers, and the maker of markets takes four numbers
+-- file behind them, the second placement that of a registrations file behind that and the sweep
+-- three numbers, and the maker of markets takes four numbers
 abbrev pub grammar : List CommandForm
 grammar =
     record { word = codes "place"; further = 3; command = of_names (λ workers. Place workers) }
@@ -90,6 +91,7 @@ grammar =
     ∷ record { word = codes "audit"; further = 4; command = of_names (λ workers. Audit workers) }
     ∷ record { word = codes "fixed"; further = 3; command = of_names (λ workers. Fixed workers) }
     ∷ record { word = codes "sweep"; further = 6; command = of_quotas }
+    ∷ record { word = codes "second"; further = 5; command = of_names (λ workers. Second workers) }
     ∷ record { word = codes "make"; further = 4; command = of_numbers } ∷ []
 
 -- the line of the grammar with this word

@@ -13,7 +13,7 @@ fn words(alloc: Global, texts: &[&str]) -> Result<Vec<String>, AllocError> {
     Ok(words)
 }
 
-const ROWS: [(&[&str], Result<Command, WordsFault>); 34] = [
+const ROWS: [(&[&str], Result<Command, WordsFault>); 38] = [
     (&["place", "P", "C", "R"], Ok(Command::Place(4))),
     // Any word is a name where a name stands.
     (&["place", "-P", "", "--workers"], Ok(Command::Place(4))),
@@ -96,6 +96,23 @@ const ROWS: [(&[&str], Result<Command, WordsFault>); 34] = [
     (
         &["fixed", "P", "C", "R", "S"],
         Err(WordsFault::WordCount(5)),
+    ),
+    // The second placement takes two words more.
+    (
+        &["second", "P", "C", "R", "S", "T", "--workers", "64"],
+        Ok(Command::Second(64)),
+    ),
+    (
+        &["second", "P", "C", "R", "S"],
+        Err(WordsFault::WordCount(6)),
+    ),
+    (
+        &["second", "P", "C", "R", "S", "T", "U"],
+        Err(WordsFault::WordCount(7)),
+    ),
+    (
+        &["second", "P", "C", "R", "S", "T", "--workers", "0"],
+        Err(WordsFault::BadNumber(8)),
     ),
     // The audit takes a word more.
     (&["audit", "P", "C", "R", "S"], Ok(Command::Audit(4))),

@@ -49,6 +49,9 @@ pub enum Command {
         /// The number of workers, 1 to 64.
         workers: u32,
     },
+    /// The second placement, of the seats that the registered candidates of a fifth file leave, by
+    /// this number of workers. What was placed first is in the fourth file, and is audited before.
+    Second(u32),
     /// The summary of a market that is made from numbers, and of its placement.
     Make {
         /// The seed of the words that are drawn.
@@ -94,10 +97,11 @@ enum Kind {
     Audit,
     Fixed,
     Sweep,
+    Second,
     Make,
 }
 
-const FORMS: [Form; 7] = [
+const FORMS: [Form; 8] = [
     Form {
         word: b"place",
         further: 3,
@@ -127,6 +131,11 @@ const FORMS: [Form; 7] = [
         word: b"sweep",
         further: 6,
         kind: Kind::Sweep,
+    },
+    Form {
+        word: b"second",
+        further: 5,
+        kind: Kind::Second,
     },
     Form {
         word: b"make",
@@ -233,6 +242,7 @@ fn asked(
         Kind::Audit => Ok(Command::Audit(workers?)),
         Kind::Fixed => Ok(Command::Fixed(workers?)),
         Kind::Sweep => read_quotas(further, workers),
+        Kind::Second => Ok(Command::Second(workers?)),
         Kind::Make => read_sizes(further, workers),
     }
 }

@@ -22,8 +22,6 @@ fn main(rt: HostRuntime) -> ExitCode {
     let mut out = RealSink::new(rt.stdout());
     let mut notes = RealSink::new(rt.stderr());
     let gate = RestingGate::new(&rt);
-    let status = run_words(
-        &rt, alloc, &words, &mut shelf, &mut out, &mut notes, &gate,
-    );
+    let status = run_words(&rt, alloc, &words, &mut shelf, &mut out, &mut notes, &gate);
     ExitCode::from(status.code())
 }

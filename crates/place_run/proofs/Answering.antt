@@ -7,16 +7,17 @@ use Rattle.place_base.specs.declared.fault.FileKind.{FileKind}
 use Rattle.place_base.specs.declared.fault.FileKind.TheVariants as file
 use Rattle.place_edges.specs.Shelf.{Files}
 use Rattle.run_frame.specs.Files.{Moment, Reads}
-use Rattle.run_frame.specs.Plans.{AreRead, answered}
+use Rattle.run_frame.specs.Plans.{AreRead, Plan, and_then, answered}
 use Rattle.run_frame.specs.declared.stop.Stop.{Stop}
 use Rattle.run_frame.specs.declared.stop.Stop.TheVariants.{Refused}
 use Rattle.run_frame.proofs.Parts.{at-error}
 use Rattle.run_frame.proofs.Readings.{answer-made, before_kind, plan-ends, plan-goes-on}
 use Rattle.place_run.specs.Answers.{Answer, done}
 use Rattle.place_run.specs.Runs.{IsAnswering}
-use Rattle.place_run.specs.Says.{audited_plan, held_plan, named, plan, tables_plan}
+use Rattle.place_run.specs.Says.{audited_plan, held_plan, named, plan, registered_plan, second_plan, tables_plan}
 use Rattle.place_run.specs.Tables.{Tables}
 use Rattle.place_run.specs.commands.Audit.{Audited}
+use Rattle.place_run.specs.commands.Second.{Registered}
 use Rattle.place_run.specs.declared.status.Refusal.{Refusal}
 use Rattle.place_run.specs.declared.status.Refusal.TheVariants.{Words}
 
@@ -63,3 +64,17 @@ pub behind-tables : {told : Option Files} {names : FileKind → List ℕ} {table
 behind-tables front last =
     plan-goes-on (before_kind file.Placement) held_plan (refl, λ t. (refl, λ t. (refl, λ t. tt)))
     (refl, λ t. tt) front last
+
+-- a placement file beside these tables, and a registrations file behind it
+abbrev pub registered_behind : Tables → Plan Registered Refusal
+registered_behind tables = and_then (held_plan tables) registered_plan
+
+-- and what both come to behind three files is what all five come to
+pub both-behind-tables : {told : Option Files} {names : FileKind → List ℕ} {tables : Tables}
+    {result : Result Registered (Stop Refusal)} {first before now : Moment}
+    → AreRead told names tables_plan (Ok tables) first before
+    → AreRead told names (registered_behind tables) result before now
+    → AreRead told names second_plan result first now
+both-behind-tables front last =
+    plan-goes-on (before_kind file.Placement) registered_behind
+    (refl, λ t. (refl, λ t. (refl, λ t. tt))) (refl, λ t. (refl, λ t. tt)) front last

@@ -1,10 +1,10 @@
 -- What a run leaves of a sink, and what follows where no read and no write failed.
 use Rattle.std.specs.Prelude.{IsErrOf}
-use Rattle.std.proofs.Common.{◌≡◌, ◌∙◌, ◌≤◌, ℕ, List, refl, sym, ap, subst, inl, inr, Option, Some, None, Result, Ok, Err, IfOk, ⊎_elim}
+use Rattle.std.proofs.Common.{◌≡◌, ◌∙◌, ◌≤◌, ℕ, List, refl, sym, ap, subst, inl, inr, Option, Some, None, Result, Ok, Err, IfOk, ⊎_elim, ◌⊎◌}
 use Rattle.place_base.specs.declared.fault.FileKind.TheVariants as file
 use Rattle.command_words.specs.Words.{command_of}
 use Rattle.command_words.specs.declared.words.Command.{Command}
-use Rattle.command_words.specs.declared.words.Command.TheVariants.{Place, Base, Reasons, Audit, Fixed, Sweep, Make}
+use Rattle.command_words.specs.declared.words.Command.TheVariants.{Place, Base, Reasons, Audit, Fixed, Sweep, Second, Make}
 use Rattle.command_words.specs.declared.words.WordsFault.{WordsFault}
 use Rattle.place_edges.specs.Causes.{Rose}
 use Rattle.place_edges.specs.Shelf.{Files}
@@ -20,17 +20,19 @@ use Rattle.run_frame.proofs.Endings as frame
 use Rattle.run_frame.proofs.Endings.{AreApart, answered-finished, refused-said, stopped, whole-run}
 use Rattle.run_frame.proofs.JudgedTables.{judged-ok}
 use Rattle.run_frame.proofs.Plans.{EndsSo, ends-so, said-then, said_behind, stop-behind}
-use Rattle.place_run.specs.Runs.{AreFilesRead, HasStatusCause, IsAnsweredRun, IsComplete, LeavesSink, PlacesWhole, PrintsReports, PrintsSummary, PrintsSweep, PrintsText, PrintsVerdict, PrintsWorstStable, ReadsNothing, RunsWithoutFile, SweepsFound, SweepsWhole, endings}
+use Rattle.place_run.specs.Runs.{AreFilesRead, HasStatusCause, IsAnsweredRun, IsComplete, LeavesSink, PlacesWhole, PrintsAnswer, PrintsReports, PrintsSecond, PrintsSummary, PrintsSweep, PrintsText, PrintsVerdict, PrintsWorstStable, ReadsNothing, RunsWithoutFile, SweepsFound, SweepsWhole, endings}
 use Rattle.place_run.specs.Answers.{Answer, done}
 use Rattle.place_run.specs.Says.{KeepsPromise, named, plan, tables_plan}
 use Rattle.place_run.specs.Statuses.{ended, status_of}
 use Rattle.run_frame.specs.Stops.{is_free_stop}
 use Rattle.place_run.specs.Tables.{HasNoFault, Tables, ThreeFiles, candidates_said, codes_in, numbers_in, programmes_said, ranks_said, tables_in}
+use Rattle.place_run.specs.commands.Audit.{IsAudit}
 use Rattle.place_run.specs.commands.Base.{IsBaseText}
 use Rattle.place_run.specs.commands.Fixed.{IsFixedText}
 use Rattle.place_run.specs.commands.Make.{summary_of}
 use Rattle.place_run.specs.commands.Place.{AreThree, IsWorstStableText, printed_placement}
 use Rattle.place_run.specs.commands.Reasons.{IsReasonsText}
+use Rattle.place_run.specs.commands.Second.{IsSecond}
 use Rattle.place_run.specs.commands.Sweep.{IsSweepText, IsWithoutProgramme, programme_with, rows_or_none, sweep_of, swept}
 use Rattle.place_run.specs.declared.status.Ending.{Ending}
 use Rattle.place_run.specs.declared.status.Ending.TheVariants as ending
@@ -142,6 +144,9 @@ says-refused (Ok (Sweep code low high workers)) reads refused e =
 says-refused (Ok (Audit workers)) reads refused e =
     absurd (ends-so (λ result. IsErrOf result (Refused refused) → ⊥) (plan (Ok (Audit workers)))
     reads _ (λ stop e. cc e) (λ p c r h e. cc e) e refl)
+says-refused (Ok (Second workers)) reads refused e =
+    absurd (ends-so (λ result. IsErrOf result (Refused refused) → ⊥) (plan (Ok (Second workers)))
+    reads _ (λ stop e. cc e) (λ p c r h n e. cc e) e refl)
 says-refused (Ok (Make seed candidates programmes types workers)) reads refused e = cc e
 
 -- an answer ends well, if it is one
@@ -154,10 +159,10 @@ rows-end-well : (code low high : ℕ) (tables : Tables) (found : Option ℕ)
 rows-end-well code low high tables None = tt
 rows-end-well code low high tables (Some p) = refl
 
--- only an audit ends otherwise than well
+-- only `audit` and `second` end otherwise than well
 says-unstable : (command : Result Command WordsFault) (reads : Reads) (ready : Answer)
     → said (plan command) reads ≡ Some (Ok ready) → ready.ending ≡ ending.AuditNo
-    → (workers : ℕ) × (command ≡ Ok (Audit workers))
+    → (workers : ℕ) × ((command ≡ Ok (Audit workers)) ⊎ (command ≡ Ok (Second workers)))
 says-unstable (Err refused) reads ready e is = cc e
 says-unstable (Ok (Place workers)) reads ready e is =
     cc (sym (plain (plan (Ok (Place workers))) reads _ (λ p c r. refl) e) ∙ is)
@@ -172,7 +177,8 @@ says-unstable (Ok (Sweep code low high workers)) reads ready e is =
     (λ p c r.
     let tables : Tables = record { programmes = p; candidates = c; ranks = r } in
     rows-end-well code low high tables (programme_with code (codes_of p.rows))) e) ∙ is)
-says-unstable (Ok (Audit workers)) reads ready e is = (workers, refl)
+says-unstable (Ok (Audit workers)) reads ready e is = (workers, inl refl)
+says-unstable (Ok (Second workers)) reads ready e is = (workers, inr refl)
 says-unstable (Ok (Make seed candidates programmes types workers)) reads ready e is =
     let same : done (summary_of seed candidates programmes types) ≡ ready = cc e in
     let never : ending.Done ≡ ending.AuditNo = ap (λ (v : Answer). v.ending) same ∙ is in cc never
@@ -343,18 +349,32 @@ module _ {K : Type 0} {written : K → Option (List ℕ)} {faults : K → ℕ} {
     fixed = text-done Fixed IsFixedText (λ workers reads ready keeps. keeps);
   }
 
-  -- a run of `audit` that ends with a verdict has printed that of the files that were read
-  pub verdict-done : PrintsVerdict told words status (written old) (written new) before.tally
+  -- a run that ends with its text has printed the answer that its command promises
+  answer-done : (asked : ℕ → Command) (IsAnswer : Reads → Answer → Type 0)
+      → ((workers : ℕ) (reads : Reads) (ready : Answer)
+      → KeepsPromise (Ok (asked workers)) reads ready → IsAnswer reads ready)
+      → PrintsAnswer asked IsAnswer told words status (written old) (written new) before.tally
       now.tally
-  verdict-done = λ workers accepted ending same.
+  answer-done asked IsAnswer promised = λ workers accepted ending same.
       let end = ended-so ending same in (
         run.answers.reading.reads,
         read-once end.ready end.is,
         end.ready,
         end.ends_so,
-        kept (Ok (Audit workers)) accepted end.ready end.is,
+        promised workers run.answers.reading.reads end.ready
+            (kept (Ok (asked workers)) accepted end.ready end.is),
         end.wrote,
       )
+
+  -- that of `audit` its verdict
+  pub verdict-done : PrintsVerdict told words status (written old) (written new) before.tally
+      now.tally
+  verdict-done = answer-done Audit IsAudit (λ workers reads ready keeps. keeps)
+
+  -- and that of `second` the second placement, or the verdict
+  pub second-done : PrintsSecond told words status (written old) (written new) before.tally
+      now.tally
+  second-done = answer-done Second IsSecond (λ workers reads ready keeps. keeps)
 
   -- a run of `sweep` has printed the rows of the programme's quotas, or told that there is none
   pub sweep-done : PrintsSweep told words status (written old) (written new) before.tally now.tally
@@ -415,7 +435,7 @@ module _ {K : Type 0} {written : K → Option (List ℕ)} {faults : K → ℕ} {
         sweeps = sweeps-whole told words status (written old) (written new) before now whole;
       }
 
-  -- each refusal has its cause, and only an audit says that a placement is not stable
+  -- each refusal has its cause, and only `audit` and `second` say that a placement is not stable
   pub causes-run : ((refused : WordsFault) → command_of words ≡ Err refused
       → run.answer ≡ Err (Refused (Words refused)))
       → HasStatusCause (command_of words) status before now (faults old) (faults new)

@@ -28,7 +28,7 @@ use Rattle.place_run.specs.Audits.{IsAuditOf}
 use Rattle.place_run.specs.Says.{audited_plan, held_plan, tables_plan}
 use Rattle.place_run.specs.Tables.{HasNoFault, Tables, ThreeFiles, candidates_said, codes_in, numbers_in, placement_said, problem_of, programmes_said, ranks_said, tables_in}
 use Rattle.placement_file.specs.Texts.{placement_text}
-use Rattle.place_run.specs.commands.Audit.{Audited, IsAudit, verdict_ending}
+use Rattle.place_run.specs.commands.Audit.{Audited, IsAudit, placement_beside, placement_fault_beside, verdict_ending}
 use Rattle.place_run.specs.commands.Base.{IsBaseText, base_text, bases_of}
 use Rattle.place_run.specs.commands.Fixed.{IsFixedText, fixed_of, fixed_text}
 use Rattle.place_run.specs.commands.Place.{AreThree, IsOfWorstStable, IsWorstStableText, printed_placement}
@@ -208,16 +208,19 @@ says-placement : (codes numbers bytes : List ℕ) (said : List (Option ℕ))
 unfolding placement_said
 says-placement codes numbers bytes said e = says-table file.Placement _ _ said bytes e
 
-abbrev audited_with : Tables → List (Option ℕ) → Audited
+abbrev pub audited_with : Tables → List (Option ℕ) → Audited
 audited_with tables held = record { tables = tables; held = held }
 
--- the audit of what a placement file holds beside tables
-record HasAudit (tables : Tables) (bytes : List ℕ) (answer : Answer) : Type 0 where
-  few : length bytes ≤ file_limit
-  none : placement_fault (codes_of tables.programmes.rows) (numbers_of tables.candidates.numbers)
-      bytes ≡ None
-  audit : IsAuditOf (audited_with tables (placement_in (codes_of tables.programmes.rows)
-      (numbers_of tables.candidates.numbers) bytes)) answer
+-- four files whose tables and placement were read have no fault, and have these
+pub record IsAuditedRead (reads : Reads) (audited : Audited) : Type 0 where
+  pub three : ThreeFiles
+  pub read : AreThree reads three
+  pub faultless : HasNoFault three
+  pub bytes : List ℕ
+  pub placement_read : reads file.Placement ≡ Some bytes
+  pub few : length bytes ≤ file_limit
+  pub none : placement_fault_beside three bytes ≡ None
+  pub audited_is : audited ≡ audited_with (tables_in three) (placement_beside three bytes)
 
 -- a run ends well with the verdict that the placement is stable alone
 stable-ends : (verdict : Verdict) → verdict_ending verdict ≡ Done → verdict ≡ Stable
@@ -226,7 +229,7 @@ stable-ends (OverQuota p) e = cc e
 stable-ends (NotAcceptable i) e = cc e
 stable-ends (Blocking i p) e = cc e
 
-ends-well : (verdict : Verdict) (answer : Answer) → answer.ending ≡ verdict_ending verdict
+pub ends-well : (verdict : Verdict) (answer : Answer) → answer.ending ≡ verdict_ending verdict
     → (P : Type 0) → (verdict ≡ Stable) ↔ P → (answer.ending ≡ Done) ↔ P
 ends-well verdict answer is P both = (
   λ well. both.0 (stable-ends verdict (sym is ∙ well)),
@@ -242,44 +245,60 @@ behind-tables reads audited says =
     answer-behind (said tables_plan reads) _ audited
     (sym (said-then tables_plan held_plan reads) ∙ says)
 
--- the audit of a placement file beside three files that were read
-audit-beside : {reads : Reads} {tables : Tables} {bytes : List ℕ} {answer : Answer}
-    → (files : AreTablesRead reads tables) → reads file.Placement ≡ Some bytes
-    → HasAudit (tables_in files.three) bytes answer → IsAudit reads answer
+-- what a placement file holds behind tables is what it holds beside their files
+held-beside : (reads : Reads) (audited : Audited) (tables : Tables)
+    → said (held_plan tables) reads ≡ Some (Ok audited) → AreTablesRead reads tables
+    → IsAuditedRead reads audited
 unfolding tables_in codes_in numbers_in
-audit-beside {bytes = bytes} {answer = answer} files read all = record {
+held-beside reads audited tables says files =
+    let codes = codes_of tables.programmes.rows in
+    let numbers = numbers_of tables.candidates.numbers in
+    let last = said-from (reads file.Placement) (placement_said codes numbers) _ audited says in
+    let one = says-placement codes numbers last.0 last.2 last.3 in
+    let made : audited ≡ audited_with tables last.2 = cc last.4 in
+    record {
+      three = files.three;
+      read = files.read;
+      faultless = files.faultless;
+      bytes = last.0;
+      placement_read = last.1;
+      few = one.few;
+      none = subst (λ (v : Tables). placement_fault (codes_of v.programmes.rows)
+          (numbers_of v.candidates.numbers) last.0 ≡ None) files.tables_are one.none;
+      audited_is = made ∙ ap (audited_with tables) one.same
+          ∙ ap (λ (v : Tables). audited_with v (placement_in (codes_of v.programmes.rows)
+          (numbers_of v.candidates.numbers) last.0)) files.tables_are;
+    }
+
+pub audited-read : (reads : Reads) (audited : Audited)
+    → said audited_plan reads ≡ Some (Ok audited) → IsAuditedRead reads audited
+audited-read reads audited says =
+    let behind = behind-tables reads audited says in
+    held-beside reads audited behind.0 behind.2 (are-read reads behind.0 behind.1)
+
+-- the audit of what four files hold is theirs
+unfoldable pub audit-beside : {reads : Reads} {audited : Audited} {answer : Answer}
+    → (files : IsAuditedRead reads audited)
+    → IsAuditOf (audited_with (tables_in files.three) (placement_beside files.three files.bytes))
+    answer → IsAudit reads answer
+unfolding tables_in codes_in numbers_in
+audit-beside {answer = answer} files is = record {
   three = files.three;
   read = files.read;
   no_fault = files.faultless;
-  bytes = bytes;
-  placement_read = read;
-  placement_few = all.few;
-  placement_no_fault = all.none;
-  verdict = all.audit.verdict;
-  first = all.audit.first;
-  stable = ends-well all.audit.verdict answer (ap (λ (v : Answer). v.ending) all.audit.printed) _
-      all.audit.stable;
-  printed = ap (λ (v : Answer). v.text) all.audit.printed;
+  bytes = files.bytes;
+  placement_read = files.placement_read;
+  placement_few = files.few;
+  placement_no_fault = files.none;
+  verdict = is.verdict;
+  first = is.first;
+  stable = ends-well is.verdict answer (ap (λ (v : Answer). v.ending) is.printed) _ is.stable;
+  printed = ap (λ (v : Answer). v.text) is.printed;
 }
 
 -- the audit of four files that were read
 pub audit-answer : (reads : Reads) (audited : Audited) (answer : Answer)
     → said audited_plan reads ≡ Some (Ok audited) → IsAuditOf audited answer → IsAudit reads answer
 audit-answer reads audited answer says is =
-    let behind = behind-tables reads audited says in
-    let tables = behind.0 in
-    let files = are-read reads tables behind.1 in
-    let last = said-from (reads file.Placement)
-    (placement_said (codes_of tables.programmes.rows) (numbers_of tables.candidates.numbers)) _
-    audited behind.2 in
-    let one = says-placement (codes_of tables.programmes.rows)
-    (numbers_of tables.candidates.numbers) last.0 last.2 last.3 in
-    let made : audited ≡ audited_with tables last.2 = cc last.4 in
-    let mine = subst (λ (v : Audited). IsAuditOf v answer) made is in
-    audit-beside files last.1
-    (subst (λ (v : Tables). HasAudit v last.0 answer) files.tables_are (record {
-      few = one.few;
-      none = one.none;
-      audit = subst (λ (v : List (Option ℕ)). IsAuditOf (audited_with tables v) answer) one.same
-          mine;
-    }))
+    let files = audited-read reads audited says in
+    audit-beside files (subst (λ (v : Audited). IsAuditOf v answer) files.audited_is is)

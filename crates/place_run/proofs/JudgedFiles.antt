@@ -12,7 +12,8 @@ use Rattle.rank_lists.specs.Rows.{ranks_fault, ranks_rules}
 use Rattle.rank_lists.specs.Table.{ranks_table}
 use Rattle.placement_file.specs.Rows.{placement_fault, placement_rules, unknown_fault}
 use Rattle.placement_file.specs.Table.{placement_in}
-use Rattle.place_run.specs.Tables.{candidates_said, placement_said, programmes_said, ranks_said}
+use Rattle.second_placement.specs.Registrations.{registered_in, registrations_fault, registrations_rules}
+use Rattle.place_run.specs.Tables.{candidates_said, placement_said, programmes_said, ranks_said, registrations_said}
 
 line-bar : (version : ℕ) (row : Row) → 0 < row.0 → HasLine (bar_fault version row)
 line-bar zero row some = line-none
@@ -71,5 +72,17 @@ placement-judges codes numbers = record {
     reading = λ version row some. search (some, line-first, line-reading);
     meaning = λ version earlier row some.
         search (some, line-first, line-if, line-repeat, line-unknown);
+  });
+}
+
+-- that of a registrations file
+pub registrations-judges : (numbers : List ℕ) → Judges file.Registrations
+    (registrations_said numbers) (registrations_fault numbers) (registered_in numbers)
+unfolding registrations_said
+registrations-judges numbers = record {
+  says = λ bytes. refl;
+  lined = λ bytes. line-file (registrations_rules numbers) bytes (record {
+    reading = λ version row some. search (some, line-reading);
+    meaning = λ version earlier row some. search (some, line-first, line-if, line-repeat);
   });
 }

@@ -18,5 +18,7 @@ pub mod WrittenTexts
 pub mod QueuedTexts
 -- one programme's quota varied
 pub mod Sweeps
+-- the second placement, of the seats that registered candidates leave
+pub mod Seconds
 -- what a run leaves of a sink
 pub mod Finishing

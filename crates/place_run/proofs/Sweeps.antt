@@ -13,9 +13,8 @@ use Rattle.record_files.specs.Texts.{row_text}
 use Rattle.run_frame.specs.Files.{Moment, Reads}
 use Rattle.run_frame.specs.Plans.{AreRead, Plan, and_then, ends, said}
 use Rattle.run_frame.specs.declared.stop.FileStop.TheVariants.{Memory}
-use Rattle.run_frame.specs.declared.stop.Stop.{Stop}
 use Rattle.run_frame.specs.declared.stop.Stop.TheVariants.{File, Refused}
-use Rattle.run_frame.proofs.Readings.{plan-ends-so, plan-stops}
+use Rattle.run_frame.proofs.Readings.{plan-ends-so}
 use Rattle.place_run.specs.Answers.{Answer, done}
 use Rattle.place_run.specs.Placings.{IsSweepOf}
 use Rattle.place_run.specs.Problems.{IsProblemOf}

@@ -54,7 +54,7 @@ names-verdict m held valid programmes sizes (Blocking i p) h =
           (valid.list_entries i place known listed),
     )
 
-abbrev answer_with : Ending → List ℕ → Answer
+abbrev pub answer_with : Ending → List ℕ → Answer
 answer_with end text = record { ending = end; text = text }
 
 -- the answer with the first verdict is that of the audit

@@ -2,7 +2,7 @@
 use Rattle.std.specs.Prelude.{◌≡◌, ◌⊎◌, ℕ, List, IfOk, IfSome, IsErrOf, Option, None, Some, Result, Ok}
 use Rattle.command_words.specs.Words.{command_of}
 use Rattle.command_words.specs.declared.words.Command.{Command}
-use Rattle.command_words.specs.declared.words.Command.TheVariants.{Place, Base, Reasons, Audit, Fixed, Sweep, Make}
+use Rattle.command_words.specs.declared.words.Command.TheVariants.{Place, Base, Reasons, Audit, Fixed, Sweep, Second, Make}
 use Rattle.command_words.specs.declared.words.WordsFault.{WordsFault}
 use Rattle.market.specs.Mechanism.{mechanism_placement}
 use Rattle.quota_sweep.specs.Sweeps.{sweep_rows}
@@ -24,6 +24,7 @@ use Rattle.place_run.specs.commands.Fixed.{IsFixedText}
 use Rattle.place_run.specs.commands.Make.{IsSummaryOf}
 use Rattle.place_run.specs.commands.Place.{AreThree, IsWorstStableText}
 use Rattle.place_run.specs.commands.Reasons.{IsReasonsText}
+use Rattle.place_run.specs.commands.Second.{IsSecond}
 use Rattle.place_run.specs.commands.Sweep.{IsSweepText, IsWithoutProgramme, programme_with, sweep_text}
 use Rattle.place_run.specs.declared.status.Ending.{Ending}
 use Rattle.place_run.specs.declared.status.Refusal.{Refusal}
@@ -92,16 +93,26 @@ pub record PrintsReports (told : Option Files) (words : List (List ℕ)) (status
   pub reasons : PrintsText Reasons IsReasonsText told words status old new before now
   pub fixed : PrintsText Fixed IsFixedText told words status old new before now
 
--- where the words are `audit` and the run ends with the verdict, this is that of the audit of the
--- files that were read, and nothing else was appended
-abbrev pub PrintsVerdict : Option Files → List (List ℕ) → Status → Option (List ℕ)
-    → Option (List ℕ) → ℕ → ℕ → Type 0
-PrintsVerdict told words status old new before now =
-    (workers : ℕ) → command_of words ≡ Ok (Audit workers)
+-- where the words ask for this, by any number of workers, and the run ends with a text, this is
+-- that of such an answer to the files that were read, and nothing else was appended
+abbrev pub PrintsAnswer : (ℕ → Command) → (Reads → Answer → Type 0) → Option Files
+    → List (List ℕ) → Status → Option (List ℕ) → Option (List ℕ) → ℕ → ℕ → Type 0
+PrintsAnswer asked IsAnswer told words status old new before now =
+    (workers : ℕ) → command_of words ≡ Ok (asked workers)
     → (ending : Ending) → status ≡ ended ending
     → (reads : Reads) × AreFilesRead told words reads before now
-    × (answer : Answer) × (answer.ending ≡ ending) × IsAudit reads answer
+    × (answer : Answer) × (answer.ending ≡ ending) × IsAnswer reads answer
     × Appended old new answer.text
+
+-- `audit` prints its verdict
+abbrev pub PrintsVerdict : Option Files → List (List ℕ) → Status → Option (List ℕ)
+    → Option (List ℕ) → ℕ → ℕ → Type 0
+PrintsVerdict = PrintsAnswer Audit IsAudit
+
+-- `second` prints the second placement, or the verdict where the first one is not stable
+abbrev pub PrintsSecond : Option Files → List (List ℕ) → Status → Option (List ℕ)
+    → Option (List ℕ) → ℕ → ℕ → Type 0
+PrintsSecond = PrintsAnswer Second IsSecond
 
 -- Where the words are `sweep` and the run is done, the rows of the quotas of the programme with this
 -- code were appended, and nothing else. Only a sweep says that no programme has a code, and only
@@ -175,12 +186,13 @@ abbrev pub RunsWithoutFile : {H : Type 0} → Result Command WordsFault → Stat
 RunsWithoutFile command status old new =
     first_file (plan command) ≡ None → (new ≡ old) × (status ≡ ends.ReadFault → ⊥)
 
--- Each refusal has its cause: words by the grammar, and the others by the counts. Only an audit
--- says that a placement is not stable.
+-- Each refusal has its cause: words by the grammar, and the others by the counts. Only `audit` and
+-- `second` say that a placement is not stable.
 pub record HasStatusCause (command : Result Command WordsFault) (status : Status)
     (before now : Moment) (out_before out_now : ℕ) : Type 0 where
   pub refusal : frame.HasStatusCause Words endings command status before now out_before out_now
-  pub unstable : status ≡ ends.AuditNo → (workers : ℕ) × (command ≡ Ok (Audit workers))
+  pub unstable : status ≡ ends.AuditNo
+      → (workers : ℕ) × ((command ≡ Ok (Audit workers)) ⊎ (command ≡ Ok (Second workers)))
 
 -- after a refusal the sink is as it was
 abbrev pub LeavesSink : {K : Type 0} → (K → Option (List ℕ)) → (K → ℕ) → Status → K → K → Type 0

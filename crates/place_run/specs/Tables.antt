@@ -1,5 +1,5 @@
 -- The three tables of a market, and what each file says, a placement file beside them too.
-use Rattle.std.specs.Prelude.{◌≡◌, ℕ, ◌≤◌, List, All, map, length, Option, None, Result}
+use Rattle.std.specs.Prelude.{◌≡◌, ℕ, ◌≤◌, Bool, List, All, map, length, Option, None, Result}
 use Rattle.place_base.specs.declared.fault.FileKind.TheVariants as file
 use Rattle.market.specs.Problems.{Problem, problem}
 use Rattle.place_edges.specs.Shelf.{file_limit}
@@ -11,6 +11,7 @@ use Rattle.candidate_table.specs.Rows.{candidates_fault}
 use Rattle.candidate_table.specs.Table.{Candidates, IsPreferenceList, candidates_table, numbers_of}
 use Rattle.rank_lists.specs.Rows.{ranks_fault}
 use Rattle.rank_lists.specs.Table.{RankTable, ranks_table}
+use Rattle.second_placement.specs.Registrations.{registered_in, registrations_fault}
 use Rattle.run_frame.specs.Says.{judged}
 use Rattle.run_frame.specs.declared.stop.FileStop.{FileStop}
 
@@ -55,6 +56,12 @@ ranks_said names numbers bytes =
 unfoldable pub placement_said : List ℕ → List ℕ → List ℕ → Result (List (Option ℕ)) FileStop
 placement_said codes numbers bytes =
     judged file.Placement (placement_fault codes numbers bytes) (placement_in codes numbers bytes)
+    bytes
+
+-- what a registrations file says beside the candidates' numbers
+unfoldable pub registrations_said : List ℕ → List ℕ → Result (List Bool) FileStop
+registrations_said numbers bytes =
+    judged file.Registrations (registrations_fault numbers bytes) (registered_in numbers bytes)
     bytes
 
 -- the bytes of three files

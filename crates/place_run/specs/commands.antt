@@ -9,6 +9,8 @@ pub mod Reasons
 pub mod Fixed
 -- one programme's quota varied
 pub mod Sweep
+-- the second placement, of the seats that registered candidates leave
+pub mod Second
 -- the audit of a placement file beside three files
 pub mod Audit
 -- the summary of a market that is made from numbers

@@ -22,6 +22,8 @@ mod make;
 mod place;
 // The reasons in the placement of three files.
 mod reasons;
+// The second placement, of the seats that registered candidates leave.
+mod second;
 // One programme's quota varied.
 mod sweep;
 
@@ -31,6 +33,7 @@ use self::fixed::fixed;
 use self::make::make;
 use self::place::place;
 use self::reasons::reasons;
+use self::second::second;
 use self::sweep::sweep;
 use crate::answer::Answer;
 use crate::status::{Refusal, Stop};
@@ -74,6 +77,7 @@ pub(crate) fn answer_words<R: Threads + Sync, H: Shelf, G: Gate>(
                 workers,
             },
         ) => sweep(rt, alloc, words, shelf, code, low, high, workers),
+        Ok(Command::Second(workers)) => second(rt, alloc, words, shelf, workers, gate),
         Ok(
             Command::Make {
                 seed,

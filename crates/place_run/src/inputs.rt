@@ -12,9 +12,10 @@ ghost use Rattle.record_files.specs.ReadTo.{IsTableRead};
 ghost use Rattle.run_frame.specs.Files.{IsJudged, moment};
 ghost use Rattle.run_frame.specs.Plans.{AreRead, MayOpen};
 ghost use Rattle.place_run.specs.Says.{named, tables_plan, word_at};
-ghost use Rattle.place_run.specs.Tables.{programmes_said, candidates_said, placement_said, ranks_said};
+ghost use Rattle.place_run.specs.Tables.{programmes_said, candidates_said, placement_said, ranks_said, registrations_said};
 ghost use Rattle.place_run.specs.commands.Sweep.{programme_with};
 
+use crate::registrations::Registrations;
 use crate::status::Stop;
 use candidate_table::CandidateTable;
 use market::Placement;
@@ -116,6 +117,26 @@ impl Inputs {
     {
         let bytes = read_file(alloc, shelf, name, FileKind::Placement)?;
         table_or_stop(read_held(alloc, &bytes, &self.programmes, &self.candidates))
+    }
+
+    // Reads the named registrations file, beside the tables.
+    pub(crate) fn read_registrations<H: Shelf>(
+        &self,
+        alloc: Global,
+        shelf: &mut H,
+        name: &str,
+    ) -> Result<Registrations, FileStop>
+        requires { IsTrue (H.grants shelf.old name.now) }
+        ensures judged { IsJudged (H.files shelf.old) name.now
+            (registrations_said (numbers_of self.now.candidates.numbers)) result
+            (moment H.faults H.tally shelf.old) (moment H.faults H.tally shelf.new) }
+        ensures candidates { IfOk result (λ registered.
+            length registered ≡ length self.now.candidates.numbers) }
+        ensures files { H.files shelf.new ≡ H.files shelf.old }
+        ensures grants { H.grants shelf.new ≡ H.grants shelf.old }
+    {
+        let bytes = read_file(alloc, shelf, name, FileKind::Registrations)?;
+        table_or_stop(Registrations::read(alloc, &bytes, &self.candidates))
     }
 
     // The index of the programme with this code, or `None` where no programme has it.

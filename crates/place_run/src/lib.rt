@@ -15,6 +15,8 @@ mod notes;
 mod placing;
 // The market of three tables.
 mod problem;
+// Who has registered, read from a file.
+mod registrations;
 // A base rank in a row.
 mod rank_fields;
 // The reasons of a placement, as a text that is made while it is written.

@@ -5,14 +5,17 @@ ghost use Rattle.place_base.specs.declared.limits.TheConstants.{MOST_CANDIDATES}
 ghost use Rattle.programme_table.specs.Table.{codes_of};
 ghost use Rattle.candidate_table.specs.Table.{IsPreferenceList};
 ghost use Rattle.place_run.specs.Problems.{IsProblemOf};
+ghost use Rattle.market.specs.Stability.{IsPlacement};
+ghost use Rattle.place_run.specs.Seconds.{HasSeatsLeft};
 ghost use Rattle.place_run.specs.Tables.{problem_with};
 
 use crate::inputs::Inputs;
 use candidate_table::CandidateNumbers;
-use market::{List, Market};
+use market::{List, Market, Placement};
 use place_base::TypeFinder;
 use programme_table::ProgrammeTable;
 use rank_lists::{RankLists, RankParts};
+use second_placement::second_market;
 use std::alloc::{AllocError, Global};
 use std::thread::Threads;
 
@@ -48,6 +51,31 @@ impl Problem {
         let (programmes, candidates, ranks) = inputs.into_parts();
         let (numbers, lists) = candidates.into_parts();
         let market = build_market(rt, alloc, threads, &programmes, lists, ranks)?;
+        Ok(Problem {
+            market,
+            programmes,
+            numbers,
+        })
+    }
+
+    // The same with the market of the seats that the registered candidates leave, where this was
+    // their placement. The market is spent.
+    pub(crate) fn seats_left(
+        self,
+        alloc: Global,
+        placement: &Placement,
+        registered: &[bool],
+    ) -> Result<Problem, AllocError>
+        requires placement { IsPlacement self.market placement.now }
+        requires registered { length registered.now ≡ length self.market.lists }
+        ensures { IfOk result (HasSeatsLeft self placement.now registered.now) }
+    {
+        let Self {
+            market,
+            programmes,
+            numbers,
+        } = self;
+        let market = second_market(alloc, market, placement, registered)?;
         Ok(Problem {
             market,
             programmes,

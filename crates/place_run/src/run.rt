@@ -6,7 +6,7 @@ ghost use Rattle.run_frame.specs.Files.{moment};
 ghost use Rattle.run_frame.specs.Lines.{IsNoted};
 ghost use Rattle.run_frame.specs.Plans.{MayOpen};
 ghost use Rattle.run_frame.specs.Runs.{IsConstant, IsFinished, IsQuiet};
-ghost use Rattle.place_run.specs.Runs.{HasStatusCause, IsComplete, IsAnsweredRun, IsWordsRefusal, LeavesSink, HasNoLine, PrintsReports, PrintsSummary, PrintsSweep, PrintsVerdict, PrintsWorstStable, RunsWithoutFile, endings};
+ghost use Rattle.place_run.specs.Runs.{HasStatusCause, IsComplete, IsAnsweredRun, IsWordsRefusal, LeavesSink, HasNoLine, PrintsReports, PrintsSecond, PrintsSummary, PrintsSweep, PrintsVerdict, PrintsWorstStable, RunsWithoutFile, endings};
 ghost use Rattle.place_run.specs.Says.{named, plan};
 ghost use Rattle.place_run.specs.Statuses.{status_line};
 
@@ -54,7 +54,9 @@ pub fn run_words<R: Threads + Sync, H: Shelf, K: Sink, N: Sink, G: Gate>(
     // candidate holds the printed programme or one listed higher. A verdict is the first one on the
     // placement that is audited, and the status is Done exactly where that one is stable. The rows of
     // a sweep are those of the programme with the code, and from each row to a later one no candidate
-    // holds less; there is no programme exactly where none has the code in files without a fault.
+    // holds less; there is no programme exactly where none has the code in files without a fault. A
+    // second placement is so printed behind a stable first one, in the market of the seats left:
+    // beside the seats that are kept no quota is exceeded, and nobody gets a second programme.
     ensures worst { PrintsWorstStable (H.files shelf.old) (texts words.now) result
         (K.written out.old) (K.written out.new) (H.tally shelf.old) (H.tally shelf.new) }
     ensures reports { PrintsReports (H.files shelf.old) (texts words.now) result
@@ -62,6 +64,8 @@ pub fn run_words<R: Threads + Sync, H: Shelf, K: Sink, N: Sink, G: Gate>(
     ensures verdict { PrintsVerdict (H.files shelf.old) (texts words.now) result
         (K.written out.old) (K.written out.new) (H.tally shelf.old) (H.tally shelf.new) }
     ensures sweep { PrintsSweep (H.files shelf.old) (texts words.now) result
+        (K.written out.old) (K.written out.new) (H.tally shelf.old) (H.tally shelf.new) }
+    ensures second { PrintsSecond (H.files shelf.old) (texts words.now) result
         (K.written out.old) (K.written out.new) (H.tally shelf.old) (H.tally shelf.new) }
     ensures summary { PrintsSummary (texts words.now) result
         (K.written out.old) (K.written out.new) }

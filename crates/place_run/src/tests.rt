@@ -262,10 +262,15 @@ fn files_without_a_fault_are_placed_by_any_number_of_workers(rt: HostRuntime) ->
     Ok(())
 }
 
-// A shelf with the files of a market and a placement file beside them.
+// A shelf with the files of a market, a placement file beside them, and a registrations file in
+// which candidate 1 alone has registered.
 fn files_with(alloc: Global, market: &Worked, placement: &[u8]) -> Result<MemShelf, AllocError> {
     let mut shelf = files_of(alloc, market)?;
     shelf.add(String::from_str(alloc, "h")?, placement.to_vec(alloc)?)?;
+    shelf.add(
+        String::from_str(alloc, "s")?,
+        b"candidate\n1\n".to_vec(alloc)?,
+    )?;
     Ok(shelf)
 }
 

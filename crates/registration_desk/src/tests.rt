@@ -9,8 +9,7 @@ mod refused_in_turn;
 
 use self::gates::{Come, Meeting, OneWay};
 use crate::{
-    Clerk, Desk, DeskGate, DeskPoint, DeskState, DeskStatus, OpenDesk, Reply, run_desk,
-    serve_next,
+    Clerk, Desk, DeskGate, DeskPoint, DeskState, DeskStatus, OpenDesk, Reply, run_desk, serve_next,
 };
 use place_edges::{MemShelf, MemSink, SureShelf, SureSink};
 use placement_file::{read_alone, read_requests};

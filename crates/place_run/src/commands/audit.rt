@@ -71,7 +71,11 @@ fn audited<R: Threads + Sync>(
 }
 
 // The row of a verdict.
-fn verdict_text(alloc: Global, problem: &Problem, verdict: Verdict) -> Result<Vec<u8>, AllocError>
+pub(super) fn verdict_text(
+    alloc: Global,
+    problem: &Problem,
+    verdict: Verdict,
+) -> Result<Vec<u8>, AllocError>
     requires named { IsNamed problem.now }
     requires verdict { NamesVerdict problem.now.market verdict }
     ensures { IfOk result (λ text. text.items ≡ verdict_row (codes_of problem.now.programmes.rows)
@@ -101,7 +105,7 @@ fn verdict_text(alloc: Global, problem: &Problem, verdict: Verdict) -> Result<Ve
 }
 
 // How the run ends with a verdict.
-fn ending_of(verdict: Verdict) -> Ending
+pub(super) fn ending_of(verdict: Verdict) -> Ending
     ensures { result ≡ verdict_ending verdict }
 {
     match verdict {

@@ -9,7 +9,7 @@ use std::test::Fail;
 use std::thread::Threads;
 
 // The words of each command, how often it calls the shelf, and what it prints of the freed seat.
-const COMMANDS: [(&[&str], u64, &[u8]); 4] = [
+const COMMANDS: [(&[&str], u64, &[u8]); 5] = [
     (
         &["place", "p", "c", "r"],
         9,
@@ -26,6 +26,11 @@ const COMMANDS: [(&[&str], u64, &[u8]); 4] = [
         b"candidate,programme,reason,base\n1,101,PLACED,-\n1,201,BELOW,-\n2,201,PLACED,-\n",
     ),
     (&["audit", "p", "c", "r", "h"], 12, b"STABLE\n"),
+    (
+        &["second", "p", "c", "r", "h", "s"],
+        15,
+        b"candidate,programme\n1,-\n2,-\n",
+    ),
 ];
 
 // A run over this shelf ends with this number, so many faults and calls of the shelf, this text and

@@ -48,7 +48,7 @@ pub(super) fn run_failing(
 
 // The words of each command over the files of the freed seat, or of a market that is made, and the
 // text that it writes.
-const TEXTS: [(&[&str], &[u8]); 5] = [
+const TEXTS: [(&[&str], &[u8]); 6] = [
     (
         &["place", "p", "c", "r"],
         b"candidate,programme\n1,101\n2,201\n",
@@ -62,6 +62,10 @@ const TEXTS: [(&[&str], &[u8]); 5] = [
         b"candidate,programme,reason,base\n1,101,PLACED,-\n1,201,BELOW,-\n2,201,PLACED,-\n",
     ),
     (&["audit", "p", "c", "r", "h"], b"STABLE\n"),
+    (
+        &["second", "p", "c", "r", "h", "s"],
+        b"candidate,programme\n1,-\n2,-\n",
+    ),
     (
         &["make", "1", "0", "0", "1"],
         b"candidates 0\nprogrammes 0\ntypes 1\nentries 0\nrounds 1\ncuts 0\nturns 0\n\

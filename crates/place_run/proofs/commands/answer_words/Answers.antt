@@ -2,7 +2,7 @@ use Rattle.std.proofs.Common.{◌≡◌, Ok, sym, arith}
 use Rattle.std.specs.Prelude.{string_bytes}
 use Rattle.std.proofs.lemmas.List.{length-map}
 use Rattle.command_words.specs.Words.{command_of, texts}
-use Rattle.command_words.specs.declared.words.Command.TheVariants.{Place, Base, Reasons, Audit, Fixed, Sweep, Make}
+use Rattle.command_words.specs.declared.words.Command.TheVariants.{Place, Base, Reasons, Audit, Fixed, Sweep, Second, Make}
 use Rattle.command_words.proofs.Fitting.{fits}
 use Rattle.place_run.proofs.Answering.{words-refused}
 use Rattle.place_run.proofs.Summaries.{summarised}
@@ -98,6 +98,29 @@ sweep-requires-clause-workers g c κs within =
     let given : command_of words ≡ Ok command = cc
     (c.read_words.ensures, asked.is, asked.field-0-is) in
     (fits words command given).workers
+
+pub second-requires-clause-words : goal.second-requires-clause-words
+second-requires-clause-words g c κs within =
+    let words = c.args.words.now in
+    let given : command_of (texts words) ≡ Ok (Second c.in-Ok-Second.workers) = cc (
+      c.read_words.ensures,
+      c.in-Ok-Second.is,
+      c.in-Ok-Second.field-0-is,
+      c.in-Ok-Second.workers-is,
+    ) in
+    let enough = (fits (texts words) (Second c.in-Ok-Second.workers) given).words in
+    omega (arith, enough, length-map words string_bytes)
+
+pub second-requires-clause-workers : goal.second-requires-clause-workers
+second-requires-clause-workers g c κs within =
+    let words = c.args.words.now in
+    let given : command_of (texts words) ≡ Ok (Second c.in-Ok-Second.workers) = cc (
+      c.read_words.ensures,
+      c.in-Ok-Second.is,
+      c.in-Ok-Second.field-0-is,
+      c.in-Ok-Second.workers-is,
+    ) in
+    (fits (texts words) (Second c.in-Ok-Second.workers) given).workers
 
 pub reasons-requires-clause-words : goal.reasons-requires-clause-words
 reasons-requires-clause-words g c κs within =

@@ -1,5 +1,5 @@
 use Rattle.run_frame.proofs.Endings.{constant-count}
-use Rattle.place_run.proofs.Finishing.{causes-run, complete-run, leaves-sink, quiet-run, reports-done, summary-done, sweep-done, unread-run, verdict-done, worst-done}
+use Rattle.place_run.proofs.Finishing.{causes-run, complete-run, leaves-sink, quiet-run, reports-done, second-done, summary-done, sweep-done, unread-run, verdict-done, worst-done}
 use Rattle.place_run.proofs.run.run_words.Goals as goal
 
 pub returns-clause-run : goal.returns-clause-run
@@ -20,6 +20,9 @@ returns-clause-verdict g c = verdict-done (returns-clause-run g c)
 
 pub returns-clause-sweep : goal.returns-clause-sweep
 returns-clause-sweep g c = sweep-done (returns-clause-run g c)
+
+pub returns-clause-second : goal.returns-clause-second
+returns-clause-second g c = second-done (returns-clause-run g c)
 
 pub returns-clause-summary : goal.returns-clause-summary
 returns-clause-summary g c = summary-done (returns-clause-run g c)

@@ -3,7 +3,7 @@ use Rattle.run_frame.specs.Plans.{ends}
 use Rattle.run_frame.proofs.Readings.{plan-stops}
 use Rattle.place_run.specs.commands.Sweep.{swept}
 use Rattle.place_run.proofs.Answering.{answer-error}
-use Rattle.place_run.proofs.Sweeps.{sweep-answered, sweep-made, sweep-programme, sweep-refused, sweep-unknown}
+use Rattle.place_run.proofs.Sweeps.{sweep-answered, sweep-made, sweep-programme, sweep-refused}
 use Rattle.place_run.proofs.commands.sweep.sweep.Goals as goal
 
 pub swept-requires-clause-programme : goal.swept-requires-clause-programme
