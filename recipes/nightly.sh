@@ -10,7 +10,9 @@ said() { echo "$(date -Is) place: $*"; }
 exec 9>.lock || exit
 flock -n 9 || { said "another run is at work"; exit 75; }
 if [ -e results ] && [ ! -L results ]; then said "results is no link"; exit 73; fi
-run=runs/$(date +%Y%m%d-%H%M%S) began=$(date +%s)
+# A run that follows within a second waits for a name of its own.
+while run=runs/$(date +%Y%m%d-%H%M%S); [ -e "$run" ]; do sleep 1; done
+began=$(date +%s)
 refused=$("$here/4_run.sh" "$run" 2>&1 9>&-)
 status=$?
 if [ $status -ne 0 ]; then
